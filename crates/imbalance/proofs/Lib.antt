@@ -1,0 +1,8 @@
+-- The laws of loads and ceilings.
+pub mod Limits
+pub mod PartLoads
+pub mod Largest
+pub mod Choices
+pub mod Bound
+pub mod Rows
+pub mod Unique

@@ -1,0 +1,35 @@
+-- `imbalance::ceiling_of` meets its contract: each return rewrites with the tests that led there. Assumes nothing.
+use borrow.Author.Tests.{eq-eqb, ne-eqb}
+use borrow.Author.Needs.{needs}
+use Rattle.imbalance.specs.Ceiling.{ceiling}
+use Rattle.imbalance.proofs.Choices.{fit-legal}
+use Rattle.imbalance.proofs.ceiling_of.Statement.{statement}
+use Rattle.imbalance.proofs.ceiling_of.Tie as tie
+
+largest-load-requires : tie.Need-largest-load-requires
+largest-load-requires c κs = search needs
+
+returns : tie.Need-returns
+unfolding ceiling
+returns c = simp (eq-eqb _ _ (c .before .if1 .taken)) (c .largest-load .ensures)
+
+wide-requires : tie.Need-wide-requires
+wide-requires c κs = search needs
+
+returns-2 : tie.Need-returns-2
+unfolding ceiling
+returns-2 c = simp (ne-eqb _ _ (c .before .before .if1 .left), eq-eqb _ _ (c .before .if2 .taken)) (c .wide .ensures)
+
+ceiling-by-requires : tie.Need-ceiling-by-requires
+ceiling-by-requires c κs =
+    let p = c .before .before .pre in
+    (p .0, p .1, p .2, fit-legal _ _ (p .3) (c .before .if1 .left) (c .if2 .left))
+
+returns-3 : tie.Need-returns-3
+unfolding ceiling
+returns-3 c = simp (ne-eqb _ _ (c .before .before .if1 .left), ne-eqb _ _ (c .before .if2 .left)) (c .ceiling-by .ensures)
+
+pub ceiling-of-spec : {M : Type 1} → statement M
+ceiling-of-spec =
+    tie.close
+    (tie.spec largest-load-requires returns wide-requires returns-2 ceiling-by-requires returns-3)

@@ -1,0 +1,202 @@
+// Loads of the parts and the ceiling on them: coupe's imbalance.rs. Document 01, "The graph and its numbers".
+ghost use mathlib.Core.Path.{_≡_};
+ghost use mathlib.Core.Bool.{false};
+ghost use Prim.Native.Nat.{_<_, _≤_};
+ghost use lib.Dec.{T};
+ghost use lib.ListN.{getD};
+ghost use Rattle.lists.specs.Sum.{total};
+ghost use Rattle.imbalance.specs.Limit.{mostWeight, heavy, labelAbove};
+ghost use Rattle.imbalance.specs.Load.{loadsOf, Loadable};
+ghost use Rattle.imbalance.specs.Ceiling.{legalE, ceilingOf, largest, unfitChoice, ceiling, ceilings};
+ghost use Rattle.imbalance.specs.Number.{loadsNumber, loadsAnswer};
+
+// The load of each of the sixteen parts.
+#[repr(C)]
+pub struct Loads {
+    pub at: [u64; 16],
+}
+
+// What the stand-alone loads answer: document 01's number, and the loads where it is 0.
+#[repr(C)]
+pub struct LoadsAnswer {
+    pub number: u32,
+    pub loads: Loads,
+}
+
+// The ceiling of each of the sixteen parts.
+pub struct Ceilings {
+    pub at: [u64; 16],
+}
+
+// Number 5's test: whether the weights sum to more than their limit. It stops at the first weight that passes it, so no sum can wrap.
+pub fn over_limit(weights: &[u32]) -> bool
+    ensures { λ r. ⌜ r ≡ heavy (now (weights .entry)) ⌝ }
+{
+    let mut sum: u64 = 0;
+    let mut i: usize = 0;
+    while i < weights.len() {
+        sum += lists::wide(weights[i]);
+        if 2147483647 < sum {
+            return true;
+        }
+        i += 1;
+    }
+    false
+}
+
+// Number 6's test: whether some label is above `most`.
+pub fn label_above(labels: &[u32], most: u32) -> bool
+    ensures { λ r. ⌜ r ≡ labelAbove most (now (labels .entry)) ⌝ }
+{
+    let mut v: usize = 0;
+    while v < labels.len() {
+        if most < labels[v] {
+            return true;
+        }
+        v += 1;
+    }
+    false
+}
+
+// The sum of weights within their limit.
+pub fn total_weight(weights: &[u32]) -> u64
+    requires { ⌜ total (now weights) ≤ mostWeight ⌝ }
+    ensures { λ r. ⌜ r ≡ total (now (weights .entry)) ⌝ }
+{
+    let mut sum: u64 = 0;
+    let mut i: usize = 0;
+    while i < weights.len() {
+        sum += lists::wide(weights[i]);
+        i += 1;
+    }
+    sum
+}
+
+// The load of each part.
+pub fn parts_load(weights: &[u32], labels: &[u32]) -> Loads
+    requires { ⌜ Loadable (now weights) (now labels) ⌝ }
+    ensures { λ r. ⌜ r ≡ loadsOf (now (weights .entry)) (now (labels .entry)) ⌝ }
+{
+    let mut at = [0u64; 16];
+    let mut v: usize = 0;
+    while v < labels.len() {
+        let t = lists::index(labels[v]);
+        at[t] = at[t] + lists::wide(weights[v]);
+        v += 1;
+    }
+    Loads { at }
+}
+
+// The number of a call of the stand-alone loads.
+fn loads_number(weights: &[u32], labels: &[u32]) -> u32
+    ensures { λ r. ⌜ r ≡ loadsNumber (now (weights .entry)) (now (labels .entry)) ⌝ }
+{
+    if weights.len() != labels.len() {
+        return 1;
+    }
+    if 4096 < labels.len() {
+        return 2;
+    }
+    if over_limit(weights) {
+        return 5;
+    }
+    if label_above(labels, 15) {
+        return 6;
+    }
+    0
+}
+
+// The load of each part, for every input: the stand-alone call.
+pub fn compute_parts_load(weights: &[u32], labels: &[u32]) -> LoadsAnswer
+    ensures { λ r. ⌜ r ≡ loadsAnswer (now (weights .entry)) (now (labels .entry)) ⌝ }
+{
+    let number = loads_number(weights, labels);
+    if number != 0 {
+        let none = Loads { at: [0; 16] };
+        return LoadsAnswer {
+            number,
+            loads: none,
+        };
+    }
+    let loads = parts_load(weights, labels);
+    LoadsAnswer { number: 0, loads }
+}
+
+// Whether e is from 0.0 to 64.0, -0.0 included.
+pub fn legal_e(e: f64) -> bool
+    ensures { λ r. ⌜ r ≡ legalE e ⌝ }
+{
+    e >= 0.0 && e <= 64.0
+}
+
+// Number 7's test of the choice. What the choice does not use is not looked at: e may be a NaN with choice 0 or 1.
+pub fn unfit_choice(choice: u32, e: f64) -> bool
+    ensures { λ r. ⌜ r ≡ unfitChoice choice e ⌝ }
+{
+    if 2 < choice {
+        return true;
+    }
+    if choice != 2 {
+        return false;
+    }
+    if legal_e(e) {
+        return false;
+    }
+    true
+}
+
+// The ceiling from the imbalance: one rounding per operation, then the whole number at or below.
+pub fn ceiling_by(total: u64, parts: u32, e: f64) -> u64
+    requires { ⌜ (total ≤ 2147483647) × (0 < parts) × (parts ≤ 16) × T (legalE e) ⌝ }
+    ensures { λ r. ⌜ r ≡ ceilingOf total parts e ⌝ }
+{
+    let i = (total as f64) / (parts as f64);
+    let c = i + e * i;
+    std::num::truncating_f64_to_u64(c)
+}
+
+// The largest of the sixteen loads.
+fn largest_load(loads: Loads) -> u64
+    ensures { λ r. ⌜ r ≡ largest 16 (λ t. getD (loads .at) t 0) ⌝ }
+{
+    let at = loads.at;
+    let mut most: u64 = 0;
+    let mut t: usize = 0;
+    while t < 16 {
+        if most < at[t] {
+            most = at[t];
+        }
+        t += 1;
+    }
+    most
+}
+
+// The ceiling of the choice: the largest starting load, a whole number, or from the imbalance.
+fn ceiling_of(loads: Loads, total: u64, parts: u32, choice: u32, whole: u32, e: f64) -> u64
+    requires { ⌜ (total ≤ mostWeight) × (0 < parts) × (parts ≤ 16) × (unfitChoice choice e ≡ false) ⌝ }
+    ensures { λ r. ⌜ r ≡ ceiling (loads .at) total parts choice whole e ⌝ }
+{
+    if choice == 0 {
+        return largest_load(loads);
+    }
+    if choice == 1 {
+        return lists::wide(whole);
+    }
+    ceiling_by(total, parts, e)
+}
+
+// The ceilings by part.
+pub fn ceilings_of(
+    loads: Loads,
+    total: u64,
+    parts: u32,
+    choice: u32,
+    whole: u32,
+    e: f64,
+) -> Ceilings
+    requires { ⌜ (total ≤ mostWeight) × (0 < parts) × (parts ≤ 16) × (unfitChoice choice e ≡ false) ⌝ }
+    ensures { λ r. ⌜ r .at ≡ ceilings (loads .at) total parts choice whole e ⌝ }
+{
+    let c = ceiling_of(loads, total, parts, choice, whole, e);
+    Ceilings { at: [c; 16] }
+}

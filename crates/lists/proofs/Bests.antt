@@ -1,0 +1,38 @@
+-- Laws of `best`. Assumes nothing.
+use mathlib.Core.Path.{_≡_, refl, sym, ap, ap₂, _∙_}
+use mathlib.Core.Bool.{Bool, true, false, not, cond}
+use mathlib.Core.Option.{Option, none, some}
+use Prim.Native.Nat.{ℕ, zero, suc, _+_, _≤_, _<_}
+use native.Mathlib.Omega.{arith}
+use Rattle.lists.specs.Best.{best, offer}
+
+module _ (a : ℕ → Bool) (b : ℕ → ℕ → Bool) where
+  -- what is chosen is below n, and allowed
+  pub best-in : (n v : ℕ) → best a b n ≡ some v → (v < n) × (a v ≡ true)
+  unfolding best
+  best-in zero v e = let o : _≡_ {A = ℕ} 0 1 = cc in absurd (omega arith)
+  best-in (suc n) v e = go (a n) refl (best a b n) refl e (best-in n)
+    where
+      pick : (t : Bool) (u : ℕ) → a n ≡ true → (u < n) × (a u ≡ true) → some (cond t n u) ≡ some v → (v < suc n) × (a v ≡ true)
+      pick true u an ih e = let q : n ≡ v = cc in (omega arith, rw (← q) an)
+      pick false u an ih e = let q : u ≡ v = cc in let l = ih .0 in (omega arith, rw (← q) (ih .1))
+
+      go : (t : Bool) → a n ≡ t → (o : Option ℕ) → best a b n ≡ o → offer t b n o ≡ some v → ((w : ℕ) → best a b n ≡ some w → (w < n) × (a w ≡ true)) → (v < suc n) × (a v ≡ true)
+      go false t o q e ih = let r = ih v (q ∙ e) in let l = r .0 in (omega arith, r .1)
+      go true t none q e ih = let r : n ≡ v = cc in (omega arith, rw (← r) t)
+      go true t (some u) q e ih = pick (b n u) u t (ih u q) e
+
+-- two choices by tests that agree
+module _ (a a′ : ℕ → Bool) (b b′ : ℕ → ℕ → Bool) where
+  pub best-ext : (n : ℕ) → ((i : ℕ) → i < n → a i ≡ a′ i) → ((i j : ℕ) → i < n → j < n → a i ≡ true → a j ≡ true → b i j ≡ b′ i j) → best a b n ≡ best a′ b′ n
+  unfolding best
+  best-ext zero ha hb = refl
+  best-ext (suc n) ha hb = go (a n) refl (best a b n) refl (best-ext n (λ i l. ha i (omega arith)) (λ i j l k. hb i j (omega arith) (omega arith)))
+    where
+      go : (t : Bool) → a n ≡ t → (o : Option ℕ) → best a b n ≡ o → o ≡ best a′ b′ n → offer t b n o ≡ offer (a′ n) b′ n (best a′ b′ n)
+      go false t o q ih = rw (← ha n (omega arith), t, ← ih)
+      go true t none q ih = rw (← ha n (omega arith), t, ← ih)
+      go true t (some u) q ih =
+          let r = best-in a b n u q in
+          let l = r .0 in
+          rw (← ha n (omega arith), t, ← ih) (ap (λ (x : Bool). some (cond x n u)) (hb n u (omega arith) (omega arith) t (r .1)))

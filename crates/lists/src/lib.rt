@@ -1,0 +1,56 @@
+// What every crate shares: numbers read out of a lent list and widened, and lent lists cleared. Document 01, "What must change shape": u32 in, wider inside; lent lists.
+ghost use mathlib.Core.Path.{_≡_};
+ghost use Prim.Native.Nat.{_≤_};
+ghost use lib.IntN.{pos};
+ghost use lib.ListN.{length};
+ghost use Rattle.lists.specs.Fill.{filled};
+
+// The number as a sum takes it.
+pub fn wide(x: u32) -> u64
+    ensures { λ r. ⌜ r ≡ x ⌝ }
+{
+    x as u64
+}
+
+// The number as a place in a list.
+pub fn index(x: u32) -> usize
+    ensures { λ r. ⌜ r ≡ x ⌝ }
+{
+    x as usize
+}
+
+// Zeros in the first n places; the others are kept.
+pub fn clear_numbers(xs: &mut [u32], n: usize)
+    requires { ⌜ n ≤ length (now xs) ⌝ }
+    ensures { λ _. ⌜ now (xs .exit) ≡ filled 0 n (now (xs .entry)) ⌝ }
+{
+    let mut i: usize = 0;
+    while i < n {
+        xs[i] = 0;
+        i += 1;
+    }
+}
+
+// The same for gains.
+pub fn clear_gains(xs: &mut [i64], n: usize)
+    requires { ⌜ n ≤ length (now xs) ⌝ }
+    ensures { λ _. ⌜ now (xs .exit) ≡ filled (pos 0) n (now (xs .entry)) ⌝ }
+{
+    let mut i: usize = 0;
+    while i < n {
+        xs[i] = 0;
+        i += 1;
+    }
+}
+
+// The same for bytes.
+pub fn clear_bytes(xs: &mut [u8], n: usize)
+    requires { ⌜ n ≤ length (now xs) ⌝ }
+    ensures { λ _. ⌜ now (xs .exit) ≡ filled 0 n (now (xs .entry)) ⌝ }
+{
+    let mut i: usize = 0;
+    while i < n {
+        xs[i] = 0;
+        i += 1;
+    }
+}

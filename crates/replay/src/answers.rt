@@ -1,0 +1,53 @@
+// One function an algorithm: calls the library, and holds its answer to the rest of the line.
+use crate::text;
+use crate::text::Place;
+
+// A cut: done, and the line's one number.
+fn expect_cut(buffer: &mut [u8; 65536], place: Place, number: u32, cut: u64) -> Place {
+    let done = text::only_if(number == 0, place);
+    text::expect(buffer, done, cut)
+}
+
+pub fn edge_cut(
+    buffer: &mut [u8; 65536],
+    place: Place,
+    starts: &[u32],
+    neighbours: &[u32],
+    arc_weights: &[u32],
+    labels: &[u32],
+) -> Place {
+    let answer = topology::edge_cut(starts, neighbours, arc_weights, labels);
+    expect_cut(buffer, place, answer.number, answer.cut)
+}
+
+pub fn lambda_cut(
+    buffer: &mut [u8; 65536],
+    place: Place,
+    starts: &[u32],
+    neighbours: &[u32],
+    arc_weights: &[u32],
+    weights: &[u32],
+    labels: &[u32],
+) -> Place {
+    let answer = topology::lambda_cut(starts, neighbours, arc_weights, weights, labels);
+    expect_cut(buffer, place, answer.number, answer.cut)
+}
+
+// The loads: done, and the line's sixteen numbers.
+pub fn compute_parts_load(
+    buffer: &mut [u8; 65536],
+    place: Place,
+    weights: &[u32],
+    labels: &[u32],
+) -> Place {
+    let answer = imbalance::compute_parts_load(weights, labels);
+    let loads = answer.loads;
+    let at = loads.at;
+    let mut here = text::only_if(answer.number == 0, place);
+    let mut t: usize = 0;
+    while t < 16 {
+        here = text::expect(buffer, here, at[t]);
+        t += 1;
+    }
+    here
+}

@@ -1,0 +1,195 @@
+// Replays the oracle's answers: reads cases from standard input, calls the library on each, and prints how many agree.
+//
+// One case a line, decimal numbers with one blank between them; a line that begins with '#' is passed over:
+//
+//     CODE n a weights[n] starts[n+1] neighbours[a] arcs[a] labels[n] EXPECTED
+//
+// CODE 1 is the edge cut and 2 the lambda cut, each with one number EXPECTED; 3 is the loads, with sixteen.
+// A refiner's settings stand before what is expected of it: its own function of answers.rt reads both.
+// A line that is not of this form counts as one that differs.
+mod answers;
+mod tally;
+mod text;
+
+use text::Place;
+ghost use Prim.Native.Nat.{_≤_};
+
+// The sign '#'.
+const COMMENT: u32 = 35;
+
+// How a line begins: the algorithm, the vertices and the arcs, and the place past them.
+struct Head {
+    code: usize,
+    n: usize,
+    a: usize,
+    place: Place,
+}
+
+fn read_head(buffer: &mut [u8; 65536], place: Place) -> Head
+    ensures { λ r. ⌜ r .n ≤ 4096 ⌝ }
+{
+    let code = text::read_count(buffer, place, tally::CODES - 1);
+    let n = text::read_count(buffer, code.place, 4096);
+    let a = text::read_count(buffer, n.place, 65535);
+    let place = a.place;
+    Head {
+        code: code.value,
+        n: n.value,
+        a: a.value,
+        place,
+    }
+}
+
+// Reads the graph of a line and its labels into the lists.
+fn read_graph(
+    buffer: &mut [u8; 65536],
+    head: Head,
+    weights: &mut [u32; 4096],
+    starts: &mut [u32; 4097],
+    neighbours: &mut [u32; 65535],
+    arc_weights: &mut [u32; 65535],
+    labels: &mut [u32; 4096],
+) -> Place
+    requires { ⌜ head .n ≤ 4096 ⌝ }
+{
+    let n = head.n;
+    let a = head.a;
+    let after_weights = text::read_list(buffer, head.place, weights, n);
+    let after_starts = text::read_list(buffer, after_weights, starts, n + 1);
+    let after_neighbours = text::read_list(buffer, after_starts, neighbours, a);
+    let after_arcs = text::read_list(buffer, after_neighbours, arc_weights, a);
+    text::read_list(buffer, after_arcs, labels, n)
+}
+
+// The first `count` elements of a list.
+fn first(list: &[u32], count: usize) -> &[u32] {
+    if count <= list.len() {
+        &list[..count]
+    } else {
+        list
+    }
+}
+
+// Calls the algorithm on lists of their exact lengths, and holds its answer to the rest of the line.
+fn replay_case(
+    buffer: &mut [u8; 65536],
+    place: Place,
+    code: usize,
+    weights: &[u32],
+    starts: &[u32],
+    neighbours: &[u32],
+    arc_weights: &[u32],
+    labels: &[u32],
+) -> Place {
+    if code == 1 {
+        answers::edge_cut(buffer, place, starts, neighbours, arc_weights, labels)
+    } else if code == 2 {
+        answers::lambda_cut(
+            buffer,
+            place,
+            starts,
+            neighbours,
+            arc_weights,
+            weights,
+            labels,
+        )
+    } else if code == 3 {
+        answers::compute_parts_load(buffer, place, weights, labels)
+    } else {
+        text::only_if(false, place)
+    }
+}
+
+// Replays the case of one line and counts it.
+fn replay_line(
+    buffer: &mut [u8; 65536],
+    place: Place,
+    line: u64,
+    weights: &mut [u32; 4096],
+    starts: &mut [u32; 4097],
+    neighbours: &mut [u32; 65535],
+    arc_weights: &mut [u32; 65535],
+    labels: &mut [u32; 4096],
+    agreed: &mut [u64; tally::CODES],
+    differed: &mut [u64; tally::CODES],
+) -> Place {
+    let head = read_head(buffer, place);
+    let n = head.n;
+    let a = head.a;
+    let code = head.code;
+    let read = read_graph(
+        buffer,
+        head,
+        weights,
+        starts,
+        neighbours,
+        arc_weights,
+        labels,
+    );
+    let answered = replay_case(
+        buffer,
+        read,
+        code,
+        first(weights, n),
+        first(starts, n + 1),
+        first(neighbours, a),
+        first(arc_weights, a),
+        first(labels, n),
+    );
+    let ended = text::expect_end(buffer, answered);
+    if ended.ok {
+        tally::raise(agreed, code);
+    } else {
+        tally::note_difference(differed, code, line);
+    }
+    ended
+}
+
+fn by_vertex() -> [u32; 4096] {
+    [0; 4096]
+}
+
+fn by_row() -> [u32; 4097] {
+    [0; 4097]
+}
+
+fn by_arc() -> [u32; 65535] {
+    [0; 65535]
+}
+
+fn main() {
+    let mut buffer = io::large_buffer();
+    let mut weights = by_vertex();
+    let mut starts = by_row();
+    let mut neighbours = by_arc();
+    let mut arc_weights = by_arc();
+    let mut labels = by_vertex();
+    let mut agreed = [0u64; tally::CODES];
+    let mut differed = [0u64; tally::CODES];
+    let mut here = text::beginning();
+    let mut line: u64 = 0;
+    while line < 1099511627776 {
+        let next = text::look(&mut buffer, here);
+        here = next.place;
+        if next.byte == text::THE_END {
+            break;
+        }
+        line += 1;
+        if next.byte != COMMENT {
+            here = replay_line(
+                &mut buffer,
+                here,
+                line,
+                &mut weights,
+                &mut starts,
+                &mut neighbours,
+                &mut arc_weights,
+                &mut labels,
+                &mut agreed,
+                &mut differed,
+            );
+        }
+        here = text::next_line(&mut buffer, here);
+    }
+    tally::print_tally(&agreed, &differed);
+}

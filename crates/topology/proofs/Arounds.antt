@@ -1,0 +1,204 @@
+-- The parts around a vertex, as one byte a part counts them, and their sum over the vertices. Assumes nothing.
+use mathlib.Core.Path.{_≡_, refl, sym, _∙_}
+use mathlib.Core.Bool.{Bool, true, false, not, _&&_, _||_}
+use mathlib.Core.List.{List}
+use Prim.Native.Nat.{ℕ, _+_, _*_, _≤_, _<_}
+use native.Mathlib.Omega.{arith}
+use native.Mathlib.Nat.{mul-le-mul}
+use lib.ListN.{length, getD, set, replicate, length-set, getD-replicate}
+use lib.Seq.{getD-set-same, getD-set-other}
+use lib.Dec.{ltb, eqb}
+use borrow.Author.Tests.{eq-eqb, ne-eqb, eqb-true, eqb-false}
+use Rattle.lists.specs.Sum.{sum, weigh}
+use Rattle.lists.specs.All.{someFrom}
+use Rattle.lists.proofs.Bools.{and-false, or-true, or-false}
+use Rattle.lists.proofs.Alls.{some-from-empty, some-from-more}
+use Rattle.lists.proofs.Sums.{sum-none, sum-step}
+use Rattle.lists.proofs.Totals.{sum-ext, sum-change, sum-below, sum-zero}
+use Rattle.imbalance.specs.Load.{part, Loadable}
+use Rattle.imbalance.proofs.Limits.{label-most}
+use Rattle.topology.specs.Graph.{Graph, first, past, neighbour}
+use Rattle.topology.specs.Rule.{Rows}
+use Rattle.topology.specs.Cut.{touches, partsAround, lambda}
+
+-- a label is below 16
+pub label-below : (weights labels : List ℕ) → Loadable weights labels → (v : ℕ) → v < length labels → part labels v < 16
+label-below weights labels ok v l = let a = label-most 15 labels (ok .named) v l in omega arith
+
+-- an arc of row u before e goes into part t
+abbrev meets : Graph → List ℕ → ℕ → ℕ → ℕ → Bool
+meets g p u e t = someFrom (first g u) e (λ a. eqb (part p (neighbour g a)) t)
+
+-- a part's byte once the arcs before e are passed, and what the part counts
+abbrev byte : Graph → List ℕ → ℕ → ℕ → ℕ → ℕ
+byte g p u e t = weigh (eqb t (part p u) || meets g p u e t) 1
+
+abbrev term : Graph → List ℕ → ℕ → ℕ → ℕ → ℕ
+term g p u e t = weigh (not (eqb t (part p u)) && meets g p u e t) 1
+
+-- the arcs before e are passed
+pub record Met (g : Graph) (p : List ℕ) (u end e : ℕ) (met : List ℕ) (count : ℕ) : Type 0 where
+  pub end-is : end ≡ past g u
+  pub from : first g u ≤ e
+  pub upto : e ≤ end
+  pub sized : length met ≡ 16
+  pub bytes : (t : ℕ) → t < 16 → getD met t 0 ≡ byte g p u e t
+  pub count-is : count ≡ sum 16 (term g p u e)
+
+-- an arc changes nothing of a part that it does not go into, nor of one that was met or is the vertex's own
+stays : (own met into : Bool) → (into ≡ true → own || met ≡ true) → (own || (met || into) ≡ own || met) × (not own && (met || into) ≡ not own && met)
+stays true met into h = (refl, refl)
+stays false true into h = (refl, refl)
+stays false false true h = let q = h refl in (sym q, sym q)
+stays false false false h = (refl, refl)
+
+-- a weight of 1 by whether it counts
+weighs-one : (b : Bool) → (weigh b 1 ≡ 0 → ⊥) → b ≡ true
+weighs-one true h = refl
+weighs-one false h = absurd (h refl)
+
+weighs-none : (b : Bool) → weigh b 1 ≡ 0 → b ≡ false
+weighs-none true h = absurd (omega arith)
+weighs-none false h = refl
+
+weighs-little : (b : Bool) → weigh b 1 ≤ 1
+weighs-little true = omega arith
+weighs-little false = omega arith
+
+-- no part is met yet
+abbrev fresh : List ℕ
+fresh = replicate 16 0
+
+module _ (g : Graph) (p : List ℕ) (u : ℕ) where
+  -- at most one for each part
+  at-most : (e : ℕ) → sum 16 (term g p u e) ≤ 16
+  unfolding sum
+  at-most e = sum-below 16 (term g p u e) (λ t. 1) (λ t l. weighs-little (not (eqb t (part p u)) && meets g p u e t))
+
+  pub begins : Rows (length p) g → u < length p → (end e : ℕ) → end ≡ past g u → e ≡ first g u → (own mark : ℕ) → own ≡ part p u → own < 16 → mark ≡ 1 → Met g p u end e (set fresh own mark) 0
+  begins ok named end e q r own mark o l m =
+      let k = ok .rise u named in
+      record {
+        end-is = q;
+        from = omega arith;
+        upto = omega arith;
+        sized = length-set fresh own mark;
+        bytes = λ t b. at t b (eqb t own) refl;
+        count-is = sym (sum-ext 16 (term g p u e) (λ t. 0) (λ t b. rw (unmet t, and-false)) ∙ sum-zero 16);
+      }
+    where
+      unmet : (t : ℕ) → meets g p u e t ≡ false
+      unmet t = rw r (some-from-empty (first g u) 0 (λ a. eqb (part p (neighbour g a)) t))
+
+      at : (t : ℕ) → t < 16 → (b : Bool) → eqb t own ≡ b → getD (set fresh own mark) t 0 ≡ byte g p u e t
+      at t b true n = rw (unmet t, ← o, n, eqb-true t own n, getD-set-same fresh own mark 0 l) m
+      at t b false n = rw (unmet t, ← o, n, getD-set-other fresh own t mark 0 (eqb-false t own n)) (getD-replicate 16 t 0 0 b)
+
+  module _ (end e : ℕ) (met : List ℕ) (count : ℕ) (inv : Met g p u end e met count) where
+    pub few : count ≤ 16
+    few = let a = inv .count-is in let b = at-most e in omega arith
+
+    pub ended : end ≤ e → count ≡ partsAround g p u
+    unfolding partsAround touches
+    ended l =
+        let k = inv .upto in
+        let q : e ≡ past g u = omega (arith, inv .end-is) in
+        rw q at (inv .count-is)
+
+    -- arc e goes to v, of part t
+    module _ (l : e < end) (v t : ℕ) (v-is : v ≡ neighbour g e) (t-is : t ≡ part p v) (t-below : t < 16) where
+      meets-more : (x : ℕ) → meets g p u (e + 1) x ≡ meets g p u e x || eqb t x
+      meets-more x = rw (t-is, v-is) (some-from-more (first g u) e (λ a. eqb (part p (neighbour g a)) x) (inv .from))
+
+      same : (x : ℕ) → (eqb t x ≡ true → eqb x (part p u) || meets g p u e x ≡ true) → (byte g p u (e + 1) x ≡ byte g p u e x) × (term g p u (e + 1) x ≡ term g p u e x)
+      same x h =
+          let r = stays (eqb x (part p u)) (meets g p u e x) (eqb t x) h in
+          (rw (meets-more x, r .0), rw (meets-more x, r .1))
+
+      -- the part was met, or is u's own
+      pub turn-known : (getD met t 0 ≡ 0 → ⊥) → Met g p u end (e + 1) met count
+      turn-known h =
+          let f = inv .from in
+          record {
+            end-is = inv .end-is;
+            from = omega arith;
+            upto = omega arith;
+            sized = inv .sized;
+            bytes = λ x b. inv .bytes x b ∙ sym (same x (known x) .0);
+            count-is = inv .count-is ∙ sum-ext 16 (term g p u e) (term g p u (e + 1)) (λ x b. sym (same x (known x) .1));
+          }
+        where
+          known : (x : ℕ) → eqb t x ≡ true → eqb x (part p u) || meets g p u e x ≡ true
+          known x q = rw (← eqb-true t x q) (weighs-one (eqb t (part p u) || meets g p u e t) (λ z. h (inv .bytes t t-below ∙ z)))
+
+      -- the part is a new one
+      pub turn-new : getD met t 0 ≡ 0 → Met g p u end (e + 1) (set met t 1) (count + 1)
+      turn-new h =
+          let f = inv .from in
+          record {
+            end-is = inv .end-is;
+            from = omega arith;
+            upto = omega arith;
+            sized = length-set met t 1 ∙ inv .sized;
+            bytes = λ x b. at x b (eqb t x) refl;
+            count-is = omega (arith, counts, inv .count-is, before, after);
+          }
+        where
+          unmet : (eqb t (part p u) ≡ false) × (meets g p u e t ≡ false)
+          unmet = or-false (eqb t (part p u)) (meets g p u e t) (weighs-none (eqb t (part p u) || meets g p u e t) (sym (inv .bytes t t-below) ∙ h))
+
+          other : (x : ℕ) → eqb t x ≡ false → eqb t x ≡ true → eqb x (part p u) || meets g p u e x ≡ true
+          other x q r = let o : _≡_ {A = ℕ} 0 1 = cc in absurd (omega arith)
+
+          at : (x : ℕ) → x < 16 → (b : Bool) → eqb t x ≡ b → getD (set met t 1) x 0 ≡ byte g p u (e + 1) x
+          at x b true q =
+              let z = inv .sized in
+              rw (meets-more x, q, or-true, or-true, ← eqb-true t x q) (getD-set-same met t 1 0 (omega arith))
+          at x b false q = getD-set-other met t x 1 0 (λ r. eqb-false t x q (sym r)) ∙ inv .bytes x b ∙ sym (same x (other x q) .0)
+
+          before : term g p u e t ≡ 0
+          before = rw (unmet .0, unmet .1)
+
+          after : term g p u (e + 1) t ≡ 1
+          after = rw (meets-more t, unmet .0, eq-eqb t t refl, or-true)
+
+          counts : sum 16 (term g p u e) + term g p u (e + 1) t ≡ sum 16 (term g p u (e + 1)) + term g p u e t
+          counts = sum-change 16 t (term g p u e) (term g p u (e + 1)) t-below (λ x ne. sym (same x (other x (ne-eqb t x ne)) .1))
+
+-- what a vertex counts in the lambda cut
+abbrev share : Graph → List ℕ → List ℕ → ℕ → ℕ
+share g weights p u = partsAround g p u * getD weights u 0
+
+-- the vertices before u are counted, each at most sixteen weights of 32 bits
+pub record Counted (g : Graph) (weights p : List ℕ) (u so-far : ℕ) : Type 0 where
+  pub upto : u ≤ length p
+  pub sum-is : so-far ≡ sum u (share g weights p)
+  pub small : so-far ≤ 68719476736 * u
+
+pub share-small : (parts w : ℕ) → parts ≤ 16 → w < 4294967296 → parts * w ≤ 68719476736
+share-small parts w a b = let c : w ≤ 4294967296 = omega arith in mul-le-mul a c
+
+module _ (g : Graph) (weights p : List ℕ) where
+  pub none-counted : Counted g weights p 0 0
+  none-counted = record { upto = omega arith; sum-is = sym (sum-none (share g weights p)); small = omega arith }
+
+  module _ (u so-far : ℕ) (inv : Counted g weights p u so-far) where
+    -- the next vertex, around which there are `parts` parts, weighs w
+    pub one-counted :
+        u < length p → (parts w : ℕ) → (parts ≡ partsAround g p u) × (parts ≤ 16) → w ≡ getD weights u 0 → w < 4294967296
+        → Counted g weights p (u + 1) (so-far + parts * w)
+    one-counted l parts w parts-are w-is fits =
+        let s = inv .small in
+        let a = share-small parts w (parts-are .1) fits in
+        record {
+          upto = omega arith;
+          sum-is = sum-step u so-far (parts * w) (share g weights p) (inv .sum-is) (rw (parts-are .0, w-is));
+          small = omega arith;
+        }
+
+    pub all-counted : length p ≤ u → so-far ≡ lambda g weights p
+    unfolding lambda
+    all-counted l =
+        let k = inv .upto in
+        let q : u ≡ length p = omega arith in
+        rw q at (inv .sum-is)

@@ -1,0 +1,12 @@
+-- The laws of a graph in rows, of its cuts and of a move.
+pub mod Starts
+pub mod Rises
+pub mod Rules
+pub mod Lookups
+pub mod Numbers
+pub mod Cuts
+pub mod Arounds
+pub mod Rowsums
+pub mod Pairs
+pub mod Moves
+pub mod Unique

@@ -1,0 +1,43 @@
+-- What rows whose starts are in order give: the starts climb, and every row stands within the arcs. Assumes nothing.
+use mathlib.Core.Path.{_≡_, refl, sym, ap, _∙_}
+use mathlib.Core.Bool.{Bool, true, false, _&&_}
+use Prim.Native.Nat.{ℕ, zero, suc, _+_, _≤_, _<_}
+use native.Mathlib.Omega.{arith}
+use native.Mathlib.Numerals.{add-one}
+use lib.ListN.{length, getD}
+use lib.Dec.{leb, eqb}
+use borrow.Author.Tests.{eqb-true, eqb-false, leb-true}
+use Rattle.lists.specs.All.{all}
+use Rattle.lists.proofs.Bools.{and-left, and-right}
+use Rattle.lists.proofs.Alls.{all-at}
+use Rattle.topology.specs.Graph.{Graph, first, past}
+use Rattle.topology.specs.Rule.{startsOk, fallsNot}
+
+-- where no number falls, the last is the largest
+pub climbs : (n u : ℕ) (g : Graph) → all n (fallsNot g) ≡ true → u ≤ n → first g u ≤ first g n
+unfolding all
+climbs zero u g h l = let e : u ≡ 0 = omega arith in rw e (omega arith)
+climbs (suc n) u g h l =
+    let m : first g n ≤ past g n = leb-true (first g n) (past g n) (and-right (all n (fallsNot g)) (fallsNot g n) h) in
+    go (eqb u (suc n)) refl (climbs n u g (and-left (all n (fallsNot g)) (fallsNot g n) h)) (rw add-one at m)
+  where
+    go : (b : Bool) → eqb u (suc n) ≡ b → (u ≤ n → first g u ≤ first g n) → first g n ≤ first g (suc n) → first g u ≤ first g (suc n)
+    go true e ih m = rw (eqb-true u (suc n) e) (omega arith)
+    go false e ih m = let ne = eqb-false u (suc n) e in omega (arith, ih (omega (arith, ne)))
+
+module _ (n : ℕ) (g : Graph) (h : startsOk n g ≡ true) where
+  starts-apart : (eqb (first g n) (length (g .neighbours)) ≡ true) × (all n (fallsNot g) ≡ true)
+  unfolding startsOk
+  starts-apart =
+      let b = eqb (first g 0) 0 in
+      let e = eqb (first g n) (length (g .neighbours)) in
+      let f = all n (fallsNot g) in
+      (and-right b e (and-left (b && e) f h), and-right (b && e) f h)
+
+  pub start-rises : (u : ℕ) → u < n → first g u ≤ past g u
+  start-rises u l = leb-true (first g u) (past g u) (all-at n u (fallsNot g) (starts-apart .1) l)
+
+  pub start-inside : (u : ℕ) → u < n → past g u ≤ length (g .neighbours)
+  start-inside u l =
+      let e = eqb-true (first g n) (length (g .neighbours)) (starts-apart .0) in
+      omega (arith, climbs n (u + 1) g (starts-apart .1) (omega arith))

@@ -1,0 +1,105 @@
+-- `topology::cut::cut_of` meets its contract: the loop's sum is that of the rows so far. Assumes nothing.
+use mathlib.Core.Path.{_≡_, sym}
+use Prim.Native.Nat.{ℕ, _+_, _-_, _*_, _≤_, _<_}
+use native.Mathlib.Omega.{arith}
+use lib.ListN.{length}
+use Rattle.lists.specs.Sum.{sum}
+use Rattle.topology.specs.Graph.{inRows}
+use Rattle.topology.specs.Cut.{cut, rowCut}
+use Rattle.lists.proofs.Sums.{sum-none, sum-step}
+use Rattle.topology.proofs.Cuts.{row-at}
+use borrow.Author.Needs.{needs}
+use Rattle.topology.proofs.cut.cut_of.Statement.{statement}
+use Rattle.topology.proofs.cut.cut_of.Tie as tie
+
+abbrev Inv-loop : tie.InvT-loop
+Inv-loop starts neighbours arc-weights labels sum₀ u₀ sum′ u =
+    (u ≤ length labels) × (sum′ ≡ sum u (rowCut (inRows starts neighbours arc-weights) labels)) × (sum′ ≤ 281474976710656 * u)
+
+abbrev μ-loop : tie.MeasureT-loop
+μ-loop starts neighbours arc-weights labels sum₀ u₀ sum′ u = length labels - u
+
+loop-holds : tie.Need-loop-holds Inv-loop μ-loop
+loop-holds c = (search needs, sym (sum-none _), search needs)
+
+mul-index : tie.Need-mul-index Inv-loop μ-loop
+mul-index c = search needs
+
+shared-slice-read-index : tie.Need-shared-slice-read-index Inv-loop μ-loop
+shared-slice-read-index c = search needs
+
+index-requires : tie.Need-index-requires Inv-loop μ-loop
+index-requires c κs = search needs
+
+add-index : tie.Need-add-index Inv-loop μ-loop
+add-index c = search needs
+
+mul-index-2 : tie.Need-mul-index-2 Inv-loop μ-loop
+mul-index-2 c = search needs
+
+shared-slice-read-index-2 : tie.Need-shared-slice-read-index-2 Inv-loop μ-loop
+shared-slice-read-index-2 c = search needs
+
+index-requires-2 : tie.Need-index-requires-2 Inv-loop μ-loop
+index-requires-2 c κs = search needs
+
+row-cut-requires : tie.Need-row-cut-requires Inv-loop μ-loop
+row-cut-requires c κs =
+    let l = c .before .before .before .before .before in
+    let r = l .before .before .before .before .before .pre in
+    let hi = r .inside (l .loop .u) (c .before .before .before .before .loop-test .taken) in
+    let lo = r .rise (l .loop .u) (c .before .before .before .before .loop-test .taken) in
+    (r, (search needs, omega (arith, lo, c .index2 .ensures, c .before .before .index .ensures), omega (arith, hi, c .index2 .ensures)))
+
+row-small : (c : tie.After-row-cut Inv-loop μ-loop) → c .row-cut .result ≤ 281474976710656
+row-small c =
+    let l = c .before .before .before .before .before .before in
+    let r = l .before .before .before .before .before .pre in
+    let hi = r .inside (l .loop .u) (c .before .before .before .before .before .loop-test .taken) in
+    omega (arith, hi, r .small, c .before .index2 .ensures, c .row-cut .ensures .1)
+
+add-sum : tie.Need-add-sum Inv-loop μ-loop
+add-sum c = omega (arith, row-small c)
+
+add-u : tie.Need-add-u Inv-loop μ-loop
+add-u c = search needs
+
+loop-less : tie.Need-loop-less Inv-loop μ-loop
+loop-less c = search needs
+
+loop-again : tie.Need-loop-again Inv-loop μ-loop
+loop-again c =
+    let l = c .before .before .before .before .before .before in
+    let x = l .before .before .before .before .before .args in (
+      search needs,
+      sum-step (l .loop .u) _ _ _ (l .loop .inv .1)
+          (row-at (inRows (x .starts .now) (x .neighbours .now) (x .arc-weights .now)) (x .labels .now) (l .loop .u) _ _ _ (c .before .before .before .index .ensures) (c .before .index2 .ensures) (c .row-cut .ensures .0)),
+      omega (arith, row-small c),
+    )
+
+returns : tie.Need-returns Inv-loop μ-loop
+unfolding cut
+returns c =
+    let e : c .before .loop .u ≡ length (c .before .before .before .before .before .before .args .labels .now) = omega arith in
+    rw e at (c .before .loop .inv .1)
+
+pub cut-of-spec : {M : Type 1} → statement M
+cut-of-spec =
+    tie.close
+    (tie.spec
+    Inv-loop
+    μ-loop
+    loop-holds
+    mul-index
+    shared-slice-read-index
+    index-requires
+    add-index
+    mul-index-2
+    shared-slice-read-index-2
+    index-requires-2
+    row-cut-requires
+    add-sum
+    add-u
+    loop-less
+    loop-again
+    returns)

@@ -1,0 +1,49 @@
+-- `topology::edge_cut_number` meets its contract: each way out rewrites with the tests that led there. Assumes nothing.
+use mathlib.Core.Path.{_≡_, sym, _∙_}
+use Rattle.lists.proofs.Numbers.{or-else-first, or-else-then}
+use Rattle.topology.specs.Number.{edgeCutNumber}
+use borrow.Author.Needs.{needs}
+use Rattle.topology.proofs.edge_cut_number.Statement.{statement}
+use Rattle.topology.proofs.edge_cut_number.Tie as tie
+use Rattle.topology.proofs.edge_cut_number.Reads as reads
+use Rattle.topology.proofs.edge_cut_number.Lts as lts
+use Rattle.imbalance.proofs.label_above.Reads as label-above-reads
+use Rattle.imbalance.proofs.over_limit.Reads as over-limit-reads
+use Rattle.topology.proofs.rows_number.Reads as rows-number-reads
+
+rows-number-requires : tie.Need-rows-number-requires
+rows-number-requires c κs = search needs
+
+returns : tie.Need-returns
+unfolding edgeCutNumber
+returns c = or-else-first _ _ _ (c .before .rows-number .ensures) (c .if1 .taken)
+
+over-limit-requires : tie.Need-over-limit-requires
+over-limit-requires c κs = search needs
+
+returns-2 : tie.Need-returns-2
+unfolding edgeCutNumber
+returns-2 c = rw (or-else-then _ _ _ (c .before .before .before .rows-number .ensures) (c .before .before .if1 .left), sym (c .before .over-limit .ensures) ∙ c .if2 .taken)
+
+label-above-requires : tie.Need-label-above-requires
+label-above-requires c κs = search needs
+
+returns-3 : tie.Need-returns-3
+unfolding edgeCutNumber
+returns-3 c = rw (or-else-then _ _ _ (c .before .before .before .before .before .rows-number .ensures) (c .before .before .before .before .if1 .left), sym (c .before .before .before .over-limit .ensures) ∙ c .before .before .if2 .left, sym (c .before .label-above .ensures) ∙ c .if3 .taken)
+
+returns-4 : tie.Need-returns-4
+unfolding edgeCutNumber
+returns-4 c = rw (or-else-then _ _ _ (c .before .before .before .before .before .rows-number .ensures) (c .before .before .before .before .if1 .left), sym (c .before .before .before .over-limit .ensures) ∙ c .before .before .if2 .left, sym (c .before .label-above .ensures) ∙ c .if3 .left)
+
+pub edge-cut-number-spec : {M : Type 1} → statement M
+edge-cut-number-spec =
+    tie.close
+    (tie.spec
+    rows-number-requires
+    returns
+    over-limit-requires
+    returns-2
+    label-above-requires
+    returns-3
+    returns-4)

@@ -1,0 +1,76 @@
+-- `topology::lambda::lambda_of` meets its contract. The invariant: the sum is that of the vertices passed. Assumes nothing.
+use Prim.Native.Nat.{_-_, _*_, _≤_, _<_}
+use native.Mathlib.Omega.{arith}
+use lib.ListN.{length}
+use borrow.Author.Needs.{needs}
+use Rattle.topology.specs.Graph.{inRows}
+use Rattle.topology.proofs.Arounds.{Counted, none-counted, share-small, one-counted, all-counted}
+use Rattle.topology.proofs.lambda.lambda_of.Statement.{statement}
+use Rattle.topology.proofs.lambda.lambda_of.Tie as tie
+
+abbrev Inv-loop : tie.InvT-loop
+Inv-loop starts neighbours arc-weights weights labels sum₀ u₀ sum u = Counted (inRows starts neighbours arc-weights) weights labels u sum
+
+abbrev μ-loop : tie.MeasureT-loop
+μ-loop starts neighbours arc-weights weights labels sum₀ u₀ sum u = length labels - u
+
+loop-holds : tie.Need-loop-holds Inv-loop μ-loop
+loop-holds c = search (none-counted, needs)
+
+parts-around-requires : tie.Need-parts-around-requires Inv-loop μ-loop
+parts-around-requires c κs = search needs
+
+mul-wide : tie.Need-mul-wide Inv-loop μ-loop
+mul-wide c = search needs
+
+shared-slice-read-wide : tie.Need-shared-slice-read-wide Inv-loop μ-loop
+shared-slice-read-wide c = search needs
+
+wide-requires : tie.Need-wide-requires Inv-loop μ-loop
+wide-requires c κs = search needs
+
+-- the vertex's weight has 32 bits
+light : (c : tie.After-wide Inv-loop μ-loop) → c .wide .result < 4294967296
+light c = omega (arith, c .wide .ensures, c .before .shared-slice-known6 .given (c .before .before .before .before .loop .u))
+
+-- and sixteen such weights are far below the largest u64
+little : (c : tie.After-wide Inv-loop μ-loop) → c .before .before .parts-around .result * c .wide .result ≤ 68719476736
+little c = share-small (c .before .before .parts-around .result) (c .wide .result) (c .before .before .parts-around .ensures .1) (light c)
+
+mul-sum : tie.Need-mul-sum Inv-loop μ-loop
+mul-sum c = omega (arith, little c)
+
+add-sum : tie.Need-add-sum Inv-loop μ-loop
+add-sum c =
+    let l = c .before .before .before .before .loop in
+    omega (arith, little c, l .inv .small, l .inv .upto, c .before .before .before .before .before .before .before .before .before .before .pre .1 .few)
+
+add-u : tie.Need-add-u Inv-loop μ-loop
+add-u c = search needs
+
+loop-less : tie.Need-loop-less Inv-loop μ-loop
+loop-less c = search needs
+
+loop-again : tie.Need-loop-again Inv-loop μ-loop
+loop-again c = search (one-counted, light c, needs)
+
+returns : tie.Need-returns Inv-loop μ-loop
+returns c = search (all-counted, needs)
+
+pub lambda-of-spec : {M : Type 1} → statement M
+lambda-of-spec =
+    tie.close
+    (tie.spec
+    Inv-loop
+    μ-loop
+    loop-holds
+    parts-around-requires
+    mul-wide
+    shared-slice-read-wide
+    wide-requires
+    mul-sum
+    add-sum
+    add-u
+    loop-less
+    loop-again
+    returns)

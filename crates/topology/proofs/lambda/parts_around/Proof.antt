@@ -1,0 +1,163 @@
+-- `topology::lambda::parts_around` meets its contract. The invariant: the bytes and the count are those of the arcs passed. Assumes nothing.
+use mathlib.Core.Logic.{⊎-elim}
+use Prim.Native.Nat.{_-_, _<_}
+use native.Mathlib.Omega.{arith}
+use lib.ListN.{length}
+use borrow.Author.Needs.{needs}
+use Rattle.topology.specs.Graph.{Graph, inRows}
+use Rattle.topology.proofs.Rises.{arc-inside, arc-goes}
+use Rattle.topology.proofs.Arounds.{Met, label-below, begins, few, turn-new, turn-known, ended}
+use Rattle.topology.proofs.lambda.parts_around.Statement.{statement}
+use Rattle.topology.proofs.lambda.parts_around.Tie as tie
+
+abbrev Inv-loop : tie.InvT-loop
+Inv-loop starts neighbours arc-weights weights labels u end e₀ own met₀ count₀ e met count = Met (inRows starts neighbours arc-weights) labels u end e met count
+
+abbrev μ-loop : tie.MeasureT-loop
+μ-loop starts neighbours arc-weights weights labels u end e₀ own met₀ count₀ e met count = end - e
+
+abbrev graph : tie.Start Inv-loop μ-loop → Graph
+graph s = inRows (s .args .starts .now) (s .args .neighbours .now) (s .args .arc-weights .now)
+
+add-index : tie.Need-add-index Inv-loop μ-loop
+add-index c = search needs
+
+mul-index : tie.Need-mul-index Inv-loop μ-loop
+mul-index c = search needs
+
+shared-slice-read-index : tie.Need-shared-slice-read-index Inv-loop μ-loop
+shared-slice-read-index c = search needs
+
+index-requires : tie.Need-index-requires Inv-loop μ-loop
+index-requires c κs = search needs
+
+mul-index-2 : tie.Need-mul-index-2 Inv-loop μ-loop
+mul-index-2 c = search needs
+
+shared-slice-read-index-2 : tie.Need-shared-slice-read-index-2 Inv-loop μ-loop
+shared-slice-read-index-2 c = search needs
+
+index-requires-2 : tie.Need-index-requires-2 Inv-loop μ-loop
+index-requires-2 c κs = search needs
+
+mul-index-3 : tie.Need-mul-index-3 Inv-loop μ-loop
+mul-index-3 c = search needs
+
+shared-slice-read-index-3 : tie.Need-shared-slice-read-index-3 Inv-loop μ-loop
+shared-slice-read-index-3 c = search needs
+
+index-requires-3 : tie.Need-index-requires-3 Inv-loop μ-loop
+index-requires-3 c κs = search needs
+
+-- u's own part is one of the sixteen
+own-named : (c : tie.After-index3 Inv-loop μ-loop) → c .index3 .result < 16
+own-named c =
+    let s = c .before .before .before .before .before .before .before .before .before .before .before in
+    let b = label-below (s .args .weights .now) (s .args .labels .now) (s .pre .1) (s .args .u) (s .pre .2) in
+    omega (arith, b, c .index3 .ensures)
+
+array-write-met : tie.Need-array-write-met Inv-loop μ-loop
+array-write-met c = own-named c
+
+loop-holds : tie.Need-loop-holds Inv-loop μ-loop
+loop-holds c = search (begins, own-named c, needs)
+
+-- the arc is one of the lists
+inside : (c : tie.In-loop Inv-loop μ-loop) → let s = c .before .before .before .before .before .before .before .before .before .before .before .before .before in let e = c .before .loop .e in (e < length (s .args .neighbours .now)) × (e < length (s .args .arc-weights .now)) × (e < 65535)
+inside c =
+    let s = c .before .before .before .before .before .before .before .before .before .before .before .before .before in
+    let l = c .before .loop in
+    arc-inside (length (s .args .labels .now)) (graph s) (s .pre .0) (s .args .u) (s .pre .2) (l .e) (omega (arith, c .loop-test .taken, l .inv .end-is))
+
+-- and goes to a vertex
+goes : (c : tie.After-index4 Inv-loop μ-loop) → (c .index4 .result < length (c .before .before .before .before .before .before .before .before .before .before .before .before .before .before .before .args .labels .now)) × (c .index4 .result < 4096)
+goes c =
+    let s = c .before .before .before .before .before .before .before .before .before .before .before .before .before .before .before in
+    let l = c .before .before .before .loop in
+    arc-goes (length (s .args .labels .now)) (graph s) (s .pre .0) (s .args .u) (s .pre .2) (l .e) (omega (arith, c .before .before .loop-test .taken, l .inv .end-is)) (c .index4 .result) (c .index4 .ensures)
+
+-- whose part is one of the sixteen
+named : (c : tie.After-index5 Inv-loop μ-loop) → c .index5 .result < 16
+named c =
+    let s = c .before .before .before .before .before .before .before .before .before .before .before .before .before .before .before .before .before in
+    let b = label-below (s .args .weights .now) (s .args .labels .now) (s .pre .1) (c .before .before .index4 .result) (goes (c .before .before) .0) in
+    omega (arith, b, c .index5 .ensures)
+
+mul-index-4 : tie.Need-mul-index-4 Inv-loop μ-loop
+mul-index-4 c = omega (arith, inside c .2)
+
+shared-slice-read-index-4 : tie.Need-shared-slice-read-index-4 Inv-loop μ-loop
+shared-slice-read-index-4 c = inside (c .before) .0
+
+index-requires-4 : tie.Need-index-requires-4 Inv-loop μ-loop
+index-requires-4 c κs = search needs
+
+mul-index-5 : tie.Need-mul-index-5 Inv-loop μ-loop
+mul-index-5 c = omega (arith, goes c .1)
+
+shared-slice-read-index-5 : tie.Need-shared-slice-read-index-5 Inv-loop μ-loop
+shared-slice-read-index-5 c = goes (c .before) .0
+
+index-requires-5 : tie.Need-index-requires-5 Inv-loop μ-loop
+index-requires-5 c κs = search needs
+
+array-read-if1 : tie.Need-array-read-if1 Inv-loop μ-loop
+array-read-if1 c = named c
+
+array-write-met-2 : tie.Need-array-write-met-2 Inv-loop μ-loop
+array-write-met-2 c = named (c .before)
+
+add-count : tie.Need-add-count Inv-loop μ-loop
+add-count c = omega (arith, few _ _ _ _ _ _ _ (c .before .before .before .before .before .before .loop .inv))
+
+add-e : tie.Need-add-e Inv-loop μ-loop
+add-e c = search needs
+
+loop-less : tie.Need-loop-less Inv-loop μ-loop
+loop-less c = search needs
+
+loop-again : tie.Need-loop-again Inv-loop μ-loop
+loop-again c =
+    let i = c .before .before .before .before .before .before .loop .inv in
+    let l = c .before .before .before .before .before .loop-test .taken in
+    let v = c .before .before .before .index4 .ensures in
+    let t = c .before .index5 .ensures in
+    ⊎-elim
+    (λ w. rw (w .1, w .2) (turn-new _ _ _ _ _ _ _ i l _ _ v t (named (c .before)) (w .0 .taken)))
+    (λ w. rw (w .1, w .2) (turn-known _ _ _ _ _ _ _ i l _ _ v t (named (c .before)) (w .0 .left)))
+    (c .if1 .came)
+
+returns : tie.Need-returns Inv-loop μ-loop
+returns c = search (ended, few, needs)
+
+pub parts-around-spec : {M : Type 1} → statement M
+parts-around-spec =
+    tie.close
+    (tie.spec
+    Inv-loop
+    μ-loop
+    add-index
+    mul-index
+    shared-slice-read-index
+    index-requires
+    mul-index-2
+    shared-slice-read-index-2
+    index-requires-2
+    mul-index-3
+    shared-slice-read-index-3
+    index-requires-3
+    array-write-met
+    loop-holds
+    mul-index-4
+    shared-slice-read-index-4
+    index-requires-4
+    mul-index-5
+    shared-slice-read-index-5
+    index-requires-5
+    array-read-if1
+    array-write-met-2
+    add-count
+    add-e
+    loop-less
+    loop-again
+    returns)

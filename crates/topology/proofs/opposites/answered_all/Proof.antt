@@ -1,0 +1,105 @@
+-- `topology::opposites::answered_all` meets its contract. The invariant: every row passed is answered. Assumes nothing.
+use mathlib.Core.Path.{_≡_, sym, _∙_}
+use mathlib.Core.Bool.{true}
+use Prim.Native.Nat.{_-_, _≤_}
+use native.Mathlib.Omega.{arith}
+use borrow.Author.Needs.{needs}
+use borrow.Author.Tests.{not-true, not-false}
+use Rattle.lists.specs.All.{all}
+use Rattle.lists.proofs.Alls.{all-none, all-more, all-fails}
+use Rattle.topology.specs.Graph.{Graph, inRows}
+use Rattle.topology.specs.Rule.{rowAnswered, answered}
+use Rattle.topology.proofs.opposites.answered_all.Statement.{statement}
+use Rattle.topology.proofs.opposites.answered_all.Tie as tie
+
+abbrev Inv-loop : tie.InvT-loop
+Inv-loop starts neighbours arc-weights n u₀ u = (u ≤ n) × (all u (rowAnswered (inRows starts neighbours arc-weights)) ≡ true)
+
+abbrev μ-loop : tie.MeasureT-loop
+μ-loop starts neighbours arc-weights n u₀ u = n - u
+
+abbrev graph : tie.Start Inv-loop μ-loop → Graph
+graph s = inRows (s .args .starts .now) (s .args .neighbours .now) (s .args .arc-weights .now)
+
+loop-holds : tie.Need-loop-holds Inv-loop μ-loop
+loop-holds c = (search needs, all-none _)
+
+mul-index : tie.Need-mul-index Inv-loop μ-loop
+mul-index c = search needs
+
+shared-slice-read-index : tie.Need-shared-slice-read-index Inv-loop μ-loop
+shared-slice-read-index c = search needs
+
+index-requires : tie.Need-index-requires Inv-loop μ-loop
+index-requires c κs = search needs
+
+add-index : tie.Need-add-index Inv-loop μ-loop
+add-index c = search needs
+
+mul-index-2 : tie.Need-mul-index-2 Inv-loop μ-loop
+mul-index-2 c = search needs
+
+shared-slice-read-index-2 : tie.Need-shared-slice-read-index-2 Inv-loop μ-loop
+shared-slice-read-index-2 c = search needs
+
+index-requires-2 : tie.Need-index-requires-2 Inv-loop μ-loop
+index-requires-2 c κs = search needs
+
+row-answered-requires : tie.Need-row-answered-requires Inv-loop μ-loop
+row-answered-requires c κs =
+    let s = c .before .before .before .before .before .before .before .before .before in
+    let u = c .before .before .before .before .before .loop .u in
+    let t = c .before .before .before .before .loop-test .taken in
+    let a = s .pre .0 .rise u t in
+    let b = s .pre .0 .inside u t in
+    (s .pre .0, s .pre .1, omega (arith, a, c .before .before .index .ensures, c .index2 .ensures), omega (arith, b, c .index2 .ensures))
+
+-- the call answers for the row itself
+learnt : (c : tie.After-row-answered Inv-loop μ-loop) → rowAnswered (graph (c .before .before .before .before .before .before .before .before .before .before)) (c .before .before .before .before .before .before .loop .u) ≡ c .row-answered .result
+learnt c = sym (rw (c .before .before .before .index .ensures, c .before .index2 .ensures) at (c .row-answered .ensures))
+
+returns : tie.Need-returns Inv-loop μ-loop
+unfolding answered
+returns c =
+    let s = c .before .before .before .before .before .before .before .before .before .before .before in
+    sym (all-fails (s .args .n) (c .before .before .before .before .before .before .before .loop .u) (rowAnswered (graph s)) (c .before .before .before .before .before .before .loop-test .taken) (learnt (c .before) ∙ not-true _ (c .if1 .taken)))
+
+add-u : tie.Need-add-u Inv-loop μ-loop
+add-u c = search needs
+
+loop-less : tie.Need-loop-less Inv-loop μ-loop
+loop-less c = search needs
+
+loop-again : tie.Need-loop-again Inv-loop μ-loop
+loop-again c =
+    let s = c .before .before .before .before .before .before .before .before .before .before .before in
+    let l = c .before .before .before .before .before .before .before .loop in
+    (search needs, all-more (l .u) (rowAnswered (graph s)) (l .inv .1) (learnt (c .before) ∙ not-false _ (c .if1 .left)))
+
+returns-2 : tie.Need-returns-2 Inv-loop μ-loop
+unfolding answered
+returns-2 c =
+    let l = c .before .loop in
+    let e : l .u ≡ c .before .before .before .before .before .args .n = omega arith in
+    sym (rw e at (l .inv .1))
+
+pub answered-all-spec : {M : Type 1} → statement M
+answered-all-spec =
+    tie.close
+    (tie.spec
+    Inv-loop
+    μ-loop
+    loop-holds
+    mul-index
+    shared-slice-read-index
+    index-requires
+    add-index
+    mul-index-2
+    shared-slice-read-index-2
+    index-requires-2
+    row-answered-requires
+    returns
+    add-u
+    loop-less
+    loop-again
+    returns-2)

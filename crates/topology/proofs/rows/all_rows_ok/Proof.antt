@@ -1,0 +1,109 @@
+-- `topology::rows::all_rows_ok` meets its contract. The loop's invariant: every row so far is in order. Assumes nothing.
+use mathlib.Core.Path.{_≡_, refl, sym, _∙_}
+use mathlib.Core.Bool.{true}
+use mathlib.Core.List.{[]}
+use Prim.Native.Nat.{ℕ, _+_, _-_, _≤_}
+use native.Mathlib.Omega.{arith}
+use lib.ListN.{getD}
+use borrow.Author.Tests.{not-true, not-false}
+use Rattle.lists.specs.All.{all}
+use Rattle.lists.proofs.Alls.{all-none, all-more, all-fails}
+use Rattle.topology.specs.Graph.{inRows}
+use Rattle.topology.specs.Rule.{rowOk, arcOk}
+use Rattle.topology.proofs.Rules.{row-read}
+use Rattle.topology.proofs.Starts.{start-rises, start-inside}
+use borrow.Author.Needs.{needs}
+use Rattle.topology.proofs.rows.all_rows_ok.Statement.{statement}
+use Rattle.topology.proofs.rows.all_rows_ok.Tie as tie
+use Rattle.topology.proofs.rows.all_rows_ok.Reads as reads
+use Rattle.topology.proofs.rows.all_rows_ok.Lts as lts
+use Rattle.lists.proofs.index.Reads as index-reads
+use Rattle.topology.proofs.rows.row_ok.Reads as row-ok-reads
+
+abbrev Inv-loop : tie.InvT-loop
+Inv-loop starts neighbours n u₀ u = (u ≤ n) × (all u (rowOk n (inRows starts neighbours [])) ≡ true)
+
+abbrev μ-loop : tie.MeasureT-loop
+μ-loop starts neighbours n u₀ u = n - u
+
+-- what `row_ok` answered is the rule of row u
+row-here : (c : tie.After-row-ok Inv-loop μ-loop) → c .row-ok .result ≡ rowOk (c .before .before .before .before .before .before .before .before .before .args .n) (inRows (c .before .before .before .before .before .before .before .before .before .args .starts .now) (c .before .before .before .before .before .before .before .before .before .args .neighbours .now) []) (c .before .before .before .before .before .before .loop .u)
+row-here c = let x = c .before .before .before .before .before .before .before .before .before .args in row-read (x .n) (x .starts .now) (x .neighbours .now) [] (c .before .before .before .before .before .before .loop .u) _ _ _ (c .before .before .before .index .ensures) (c .before .index2 .ensures) (c .row-ok .ensures)
+
+loop-holds : tie.Need-loop-holds Inv-loop μ-loop
+loop-holds c = (search needs, all-none _)
+
+mul-index : tie.Need-mul-index Inv-loop μ-loop
+mul-index c = search needs
+
+shared-slice-read-index : tie.Need-shared-slice-read-index Inv-loop μ-loop
+shared-slice-read-index c = search needs
+
+index-requires : tie.Need-index-requires Inv-loop μ-loop
+index-requires c κs = search needs
+
+add-index : tie.Need-add-index Inv-loop μ-loop
+add-index c = search needs
+
+mul-index-2 : tie.Need-mul-index-2 Inv-loop μ-loop
+mul-index-2 c = search needs
+
+shared-slice-read-index-2 : tie.Need-shared-slice-read-index-2 Inv-loop μ-loop
+shared-slice-read-index-2 c = search needs
+
+index-requires-2 : tie.Need-index-requires-2 Inv-loop μ-loop
+index-requires-2 c κs = search needs
+
+row-ok-requires : tie.Need-row-ok-requires Inv-loop μ-loop
+row-ok-requires c κs =
+    let l = c .before .before .before .before .before in
+    let s = l .before .before .before in
+    let x = s .args in
+    let up = start-rises (x .n) (inRows (x .starts .now) (x .neighbours .now) []) (s .pre .1) (l .loop .u) (c .before .before .before .before .loop-test .taken) in
+    let in-arcs = start-inside (x .n) (inRows (x .starts .now) (x .neighbours .now) []) (s .pre .1) (l .loop .u) (c .before .before .before .before .loop-test .taken) in
+    (omega (arith, c .before .before .index .ensures, c .index2 .ensures), omega (arith, c .index2 .ensures))
+
+returns : tie.Need-returns Inv-loop μ-loop
+returns c =
+    let l = c .before .before .before .before .before .before .before in
+    let x = l .before .before .before .args in
+    sym (all-fails (x .n) (l .loop .u) (rowOk (x .n) (inRows (x .starts .now) (x .neighbours .now) [])) (c .before .before .before .before .before .before .loop-test .taken) (sym (row-here (c .before)) ∙ not-true _ (c .if1 .taken)))
+
+add-u : tie.Need-add-u Inv-loop μ-loop
+add-u c = search needs
+
+loop-less : tie.Need-loop-less Inv-loop μ-loop
+loop-less c = search needs
+
+loop-again : tie.Need-loop-again Inv-loop μ-loop
+loop-again c =
+    let l = c .before .before .before .before .before .before .before in
+    let x = l .before .before .before .args in
+    (search needs, all-more (l .loop .u) (rowOk (x .n) (inRows (x .starts .now) (x .neighbours .now) [])) (l .loop .inv .1) (sym (row-here (c .before)) ∙ not-false _ (c .if1 .left)))
+
+returns-2 : tie.Need-returns-2 Inv-loop μ-loop
+returns-2 c =
+    let l = c .before in
+    let e : l .loop .u ≡ l .before .before .before .args .n = omega arith in
+    sym (rw e at (l .loop .inv .1))
+
+pub all-rows-ok-spec : {M : Type 1} → statement M
+all-rows-ok-spec =
+    tie.close
+    (tie.spec
+    Inv-loop
+    μ-loop
+    loop-holds
+    mul-index
+    shared-slice-read-index
+    index-requires
+    add-index
+    mul-index-2
+    shared-slice-read-index-2
+    index-requires-2
+    row-ok-requires
+    returns
+    add-u
+    loop-less
+    loop-again
+    returns-2)

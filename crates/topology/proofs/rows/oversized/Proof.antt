@@ -1,0 +1,20 @@
+use borrow.Author.Tests.{lt-ltb, le-ltb}
+use Rattle.topology.specs.Rule.{oversize}
+use borrow.Author.Needs.{needs}
+use Rattle.topology.proofs.rows.oversized.Statement.{statement}
+use Rattle.topology.proofs.rows.oversized.Tie as tie
+use Rattle.topology.proofs.rows.oversized.Reads as reads
+use Rattle.topology.proofs.rows.oversized.Lts as lts
+
+-- src/rows.rt:29:9
+returns : tie.Need-returns
+unfolding oversize
+returns c = rw (lt-ltb _ _ (c .if1 .taken))
+
+-- src/rows.rt:25:1
+returns-2 : tie.Need-returns-2
+unfolding oversize
+returns-2 c = rw (le-ltb _ _ (c .if1 .left))
+
+pub oversized-spec : {M : Type 1} → statement M
+oversized-spec = tie.close (tie.spec returns returns-2)

@@ -1,0 +1,62 @@
+// The edge cut. Document 01, "Edge cut: each pair of different parts counted once, by its higher vertex".
+ghost use mathlib.Core.Path.{_≡_};
+ghost use mathlib.Core.Bool.{_&&_, not};
+ghost use Prim.Native.Nat.{_*_, _-_, _≤_, _<_};
+ghost use lib.ListN.{length};
+ghost use lib.Dec.{ltb, eqb};
+ghost use Rattle.lists.specs.Sum.{between, weigh};
+ghost use Rattle.topology.specs.Graph.{inRows};
+ghost use Rattle.topology.specs.Rule.{Rows};
+ghost use Rattle.topology.specs.Cut.{crossing, cut};
+
+// What an arc from u to v counts: its weight where v is lower and of another part, else 0.
+fn crossed(u: usize, v: usize, pu: u32, pv: u32, w: u32) -> u64
+    ensures { λ r. ⌜ (r ≡ weigh (ltb v u && not (eqb pv pu)) w) × (r < 4294967296) ⌝ }
+{
+    if v < u {
+        if pv == pu { 0 } else { w as u64 }
+    } else {
+        0
+    }
+}
+
+// What row u counts, from arc a up to b.
+fn row_cut(
+    starts: &[u32],
+    neighbours: &[u32],
+    arc_weights: &[u32],
+    labels: &[u32],
+    u: usize,
+    a: usize,
+    b: usize,
+) -> u64
+    requires { ⌜ Rows (length (now labels)) (inRows (now starts) (now neighbours) (now «arc_weights»)) ⌝ }
+    requires { ⌜ (u < length (now labels)) × (a ≤ b) × (b ≤ length (now neighbours)) ⌝ }
+    ensures { λ r. ⌜ r ≡ between a b (crossing (inRows (now (starts .entry)) (now (neighbours .entry)) (now («arc_weights» .entry))) (now (labels .entry)) u) ⌝ }
+    ensures { λ r. ⌜ r ≤ 4294967296 * (b - a) ⌝ }
+{
+    let mut sum: u64 = 0;
+    let mut e = a;
+    while e < b {
+        let v = lists::index(neighbours[e]);
+        sum += crossed(u, v, labels[u], labels[v], arc_weights[e]);
+        e += 1;
+    }
+    sum
+}
+
+// The edge cut of labels on a graph whose rows are in order.
+pub fn cut_of(starts: &[u32], neighbours: &[u32], arc_weights: &[u32], labels: &[u32]) -> u64
+    requires { ⌜ Rows (length (now labels)) (inRows (now starts) (now neighbours) (now «arc_weights»)) ⌝ }
+    ensures { λ r. ⌜ r ≡ cut (inRows (now (starts .entry)) (now (neighbours .entry)) (now («arc_weights» .entry))) (now (labels .entry)) ⌝ }
+{
+    let mut sum: u64 = 0;
+    let mut u: usize = 0;
+    while u < labels.len() {
+        let a = lists::index(starts[u]);
+        let b = lists::index(starts[u + 1]);
+        sum += row_cut(starts, neighbours, arc_weights, labels, u, a, b);
+        u += 1;
+    }
+    sum
+}

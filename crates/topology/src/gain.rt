@@ -1,0 +1,43 @@
+// The gain of a vertex. Document 01, "Gain of a vertex to a target part".
+ghost use mathlib.Core.Path.{_≡_};
+ghost use Prim.Native.Nat.{_<_};
+ghost use lib.ListN.{length};
+ghost use lib.Dec.{eqb};
+ghost use Rattle.lists.specs.Sum.{weigh};
+ghost use Rattle.topology.specs.Graph.{inRows, gain};
+ghost use Rattle.topology.specs.Rule.{Rows};
+
+// An arc's weight where it goes into part t, else 0.
+pub fn counted(p: u32, t: u32, w: u32) -> u64
+    ensures { λ r. ⌜ (r ≡ weigh (eqb p t) w) × (r < 4294967296) ⌝ }
+{
+    if p == t { w as u64 } else { 0 }
+}
+
+// Arc weight of u into the target less arc weight into its own part, in one walk over its row.
+pub fn gain_of(
+    starts: &[u32],
+    neighbours: &[u32],
+    arc_weights: &[u32],
+    labels: &[u32],
+    u: usize,
+    target: u32,
+) -> i64
+    requires { ⌜ Rows (length (now labels)) (inRows (now starts) (now neighbours) (now «arc_weights»)) × (u < length (now labels)) ⌝ }
+    ensures { λ r. ⌜ r ≡ gain (inRows (now (starts .entry)) (now (neighbours .entry)) (now («arc_weights» .entry))) (now (labels .entry)) u target ⌝ }
+{
+    let own = labels[u];
+    let end = lists::index(starts[u + 1]);
+    let mut e = lists::index(starts[u]);
+    let mut there: u64 = 0;
+    let mut here: u64 = 0;
+    while e < end {
+        let v = lists::index(neighbours[e]);
+        let p = labels[v];
+        let w = arc_weights[e];
+        there += counted(p, target, w);
+        here += counted(p, own, w);
+        e += 1;
+    }
+    (there as i64) - (here as i64)
+}
