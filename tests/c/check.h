@@ -72,6 +72,22 @@ static void make_path(struct lists *l, size_t n)
     set_counts(l, n, a);
 }
 
+/* The eight-block grid of document 01, with these labels: 0-1-2-3, 4-5-6-7, 0-4, 1-5, 2-6, 3-7, all weights 1. */
+static void make_grid(struct lists *l, const uint32_t *labels)
+{
+    static const uint32_t starts[9] = {0, 2, 5, 8, 10, 12, 15, 18, 20};
+    static const uint32_t neighbours[20] = {1, 4, 0, 2, 5, 1, 3, 6, 2, 7, 0, 5, 1, 4, 6, 2, 5, 7, 3, 6};
+    paint(l);
+    memcpy(l->starts, starts, sizeof starts);
+    memcpy(l->neighbours, neighbours, sizeof neighbours);
+    memcpy(l->labels, labels, 8 * sizeof labels[0]);
+    for (int e = 0; e < 20; e++)
+        l->arc_weights[e] = 1;
+    for (int v = 0; v < 8; v++)
+        l->weights[v] = 1;
+    set_counts(l, 8, 20);
+}
+
 static struct daunsrevit_loads_answer loads_of(const struct lists *l)
 {
     return daunsrevit_compute_parts_load(l->weights, l->weights_count, l->labels, l->labels_count);
@@ -87,6 +103,31 @@ static struct daunsrevit_cut_answer lambda_cut_of(const struct lists *l)
 {
     return daunsrevit_lambda_cut(l->starts, l->starts_count, l->neighbours, l->neighbours_count,
         l->arc_weights, l->arc_weights_count, l->weights, l->weights_count, l->labels, l->labels_count);
+}
+
+static double of_bits(uint64_t bits)
+{
+    double e;
+    memcpy(&e, &bits, sizeof e);
+    return e;
+}
+
+static uint64_t bits_of(double e)
+{
+    uint64_t bits;
+    memcpy(&bits, &e, sizeof bits);
+    return bits;
+}
+
+/* Not a number, the floats next to 0.0 and to 64.0 that are no legal imbalance, and infinity. */
+#define NAN_BITS 0x7ff8000000000000u
+#define BELOW_ZERO_BITS 0x8000000000000001u
+#define ABOVE_64_BITS 0x4050000000000001u
+#define INFINITY_BITS 0x7ff0000000000000u
+
+static int has(unsigned faults, unsigned fault)
+{
+    return faults >> fault & 1;
 }
 
 static int all_zero(struct daunsrevit_loads loads)

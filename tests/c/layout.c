@@ -12,6 +12,27 @@ struct registers raw_edge_cut(const uint32_t *starts, size_t starts_count, const
     const uint32_t *arc_weights, size_t arc_weights_count, const uint32_t *labels, size_t labels_count)
     __asm__("daunsrevit_edge_cut");
 
+void *raw_refine(void *report, const uint32_t *starts, size_t starts_count, const uint32_t *neighbours, size_t neighbours_count,
+    const uint32_t *arc_weights, size_t arc_weights_count, const uint32_t *weights, size_t weights_count,
+    uint32_t *labels, size_t labels_count, int64_t *gains, size_t gains_count, struct daunsrevit_move *moves, size_t moves_count,
+    uint32_t *rows_made, size_t rows_made_count, uint32_t *rows_rewound, size_t rows_rewound_count,
+    struct daunsrevit_fiduccia_mattheyses_settings settings)
+    __asm__("daunsrevit_fiduccia_mattheyses");
+void *raw_swap(void *report, const uint32_t *starts, size_t starts_count, const uint32_t *neighbours, size_t neighbours_count,
+    const uint32_t *arc_weights, size_t arc_weights_count, const uint32_t *weights, size_t weights_count,
+    uint32_t *labels, size_t labels_count, int64_t *gains, size_t gains_count, uint8_t *locks, size_t locks_count,
+    uint32_t *swaps, size_t swaps_count, struct daunsrevit_kernighan_lin_settings settings)
+    __asm__("daunsrevit_kernighan_lin");
+void *raw_read(void *answer, const uint8_t *bytes, size_t bytes_count, uint32_t *labels, size_t labels_count,
+    uint32_t *weights, size_t weights_count, uint32_t *starts, size_t starts_count,
+    uint32_t *neighbours, size_t neighbours_count, uint32_t *arc_weights, size_t arc_weights_count)
+    __asm__("daunsrevit_read_plan");
+struct registers raw_write(const uint32_t *labels, size_t labels_count, const uint32_t *weights, size_t weights_count,
+    const uint32_t *starts, size_t starts_count, const uint32_t *neighbours, size_t neighbours_count,
+    const uint32_t *arc_weights, size_t arc_weights_count, uint32_t k, uint32_t choice, uint32_t whole, double imbalance,
+    uint8_t *target, size_t target_count)
+    __asm__("daunsrevit_write_plan");
+
 #define OFFSET(type, field) __builtin_offsetof(struct type, field)
 
 static const uint32_t weights[3] = {7, 9, 11}, labels[3] = {0, 15, 1};
@@ -26,6 +47,44 @@ static void sizes(void)
     CHECK(sizeof(struct daunsrevit_cut_answer) == 16);
     CHECK(OFFSET(daunsrevit_cut_answer, number) == 0);
     CHECK(OFFSET(daunsrevit_cut_answer, cut) == 8);
+    CHECK(sizeof(struct daunsrevit_move) == 8);
+    CHECK(OFFSET(daunsrevit_move, vertex) == 0);
+    CHECK(OFFSET(daunsrevit_move, part) == 4);
+    CHECK(sizeof(struct daunsrevit_fiduccia_mattheyses_settings) == 32);
+    CHECK(OFFSET(daunsrevit_fiduccia_mattheyses_settings, passes) == 0);
+    CHECK(OFFSET(daunsrevit_fiduccia_mattheyses_settings, moves) == 4);
+    CHECK(OFFSET(daunsrevit_fiduccia_mattheyses_settings, bad) == 8);
+    CHECK(OFFSET(daunsrevit_fiduccia_mattheyses_settings, choice) == 12);
+    CHECK(OFFSET(daunsrevit_fiduccia_mattheyses_settings, whole) == 16);
+    CHECK(OFFSET(daunsrevit_fiduccia_mattheyses_settings, imbalance) == 24);
+    CHECK(sizeof(struct daunsrevit_fiduccia_mattheyses_report) == 160);
+    CHECK(OFFSET(daunsrevit_fiduccia_mattheyses_report, number) == 0);
+    CHECK(OFFSET(daunsrevit_fiduccia_mattheyses_report, end) == 4);
+    CHECK(OFFSET(daunsrevit_fiduccia_mattheyses_report, passes) == 8);
+    CHECK(OFFSET(daunsrevit_fiduccia_mattheyses_report, first) == 16);
+    CHECK(OFFSET(daunsrevit_fiduccia_mattheyses_report, last) == 24);
+    CHECK(OFFSET(daunsrevit_fiduccia_mattheyses_report, loads) == 32);
+    CHECK(sizeof(struct daunsrevit_kernighan_lin_settings) == 12);
+    CHECK(OFFSET(daunsrevit_kernighan_lin_settings, passes) == 0);
+    CHECK(OFFSET(daunsrevit_kernighan_lin_settings, swaps) == 4);
+    CHECK(OFFSET(daunsrevit_kernighan_lin_settings, bad) == 8);
+    CHECK(sizeof(struct daunsrevit_kernighan_lin_report) == 32);
+    CHECK(OFFSET(daunsrevit_kernighan_lin_report, number) == 0);
+    CHECK(OFFSET(daunsrevit_kernighan_lin_report, end) == 4);
+    CHECK(OFFSET(daunsrevit_kernighan_lin_report, passes) == 8);
+    CHECK(OFFSET(daunsrevit_kernighan_lin_report, first) == 16);
+    CHECK(OFFSET(daunsrevit_kernighan_lin_report, last) == 24);
+    CHECK(sizeof(struct daunsrevit_read_answer) == 32);
+    CHECK(OFFSET(daunsrevit_read_answer, number) == 0);
+    CHECK(OFFSET(daunsrevit_read_answer, n) == 4);
+    CHECK(OFFSET(daunsrevit_read_answer, a) == 8);
+    CHECK(OFFSET(daunsrevit_read_answer, k) == 12);
+    CHECK(OFFSET(daunsrevit_read_answer, choice) == 16);
+    CHECK(OFFSET(daunsrevit_read_answer, whole) == 20);
+    CHECK(OFFSET(daunsrevit_read_answer, imbalance) == 24);
+    CHECK(sizeof(struct daunsrevit_write_answer) == 16);
+    CHECK(OFFSET(daunsrevit_write_answer, number) == 0);
+    CHECK(OFFSET(daunsrevit_write_answer, length) == 8);
 }
 
 static uint64_t word_at(const unsigned char *bytes, size_t offset)
@@ -63,10 +122,104 @@ static void cut_as_registers(void)
     CHECK(r.second == 0);
 }
 
+static uint32_t half_at(const unsigned char *bytes, size_t offset)
+{
+    uint32_t half;
+    memcpy(&half, bytes + offset, sizeof half);
+    return half;
+}
+
+static void past(const unsigned char *bytes, size_t from, size_t to)
+{
+    for (size_t i = from; i < to; i++)
+        CHECK(bytes[i] == 0xa5);
+}
+
+/* Two vertices of weights 7 and 9, joined by weight 5. By choice 1, and not by the imbalance, which is no legal one, FM has room
+ * for both in one part, and moves the first. */
+static void reports_as_bytes(void)
+{
+    _Alignas(16) unsigned char bytes[192];
+    uint32_t refined[2] = {0, 1}, made[2], rewound[2], swaps[1];
+    int64_t gains[2];
+    struct daunsrevit_move moves[2];
+    uint8_t locks[2];
+    struct daunsrevit_fiduccia_mattheyses_settings s = {1, 2, 0, 1, 16, 99.0};
+    memset(bytes, 0xa5, sizeof bytes);
+    CHECK(raw_refine(bytes, starts, 3, neighbours, 2, arc_weights, 2, weights, 2, refined, 2, gains, 2, moves, 2, made, 2,
+        rewound, 2, s) == bytes);
+    CHECK(half_at(bytes, 0) == 0);
+    CHECK(half_at(bytes, 4) == 0);
+    CHECK(half_at(bytes, 8) == 1);
+    CHECK(word_at(bytes, 16) == 5);
+    CHECK(word_at(bytes, 24) == 0);
+    for (size_t t = 0; t < 16; t++)
+        CHECK(word_at(bytes, 32 + 8 * t) == (t == 1 ? 16 : 0));
+    past(bytes, 160, sizeof bytes);
+    CHECK(refined[0] == 1);
+    CHECK(refined[1] == 1);
+    CHECK(made[0] == 1);
+    CHECK(rewound[0] == 0);
+
+    /* KL swaps the two, which lowers nothing. */
+    struct daunsrevit_kernighan_lin_settings limits = {9, 1, 1};
+    refined[0] = 0;
+    memset(bytes, 0xa5, sizeof bytes);
+    CHECK(raw_swap(bytes, starts, 3, neighbours, 2, arc_weights, 2, weights, 2, refined, 2, gains, 2, locks, 2, swaps, 1,
+        limits) == bytes);
+    CHECK(half_at(bytes, 0) == 0);
+    CHECK(half_at(bytes, 4) == 1);
+    CHECK(half_at(bytes, 8) == 1);
+    CHECK(word_at(bytes, 16) == 5);
+    CHECK(word_at(bytes, 24) == 5);
+    past(bytes, 32, sizeof bytes);
+    CHECK(refined[0] == 1);
+    CHECK(refined[1] == 0);
+}
+
+/* The writer's numbers and its float stand between lists, and the target comes last. */
+static void plan_answers(void)
+{
+    static uint8_t plan[1536];
+    _Alignas(16) unsigned char bytes[64];
+    uint32_t read_labels[2], read_weights[2], read_starts[3], read_neighbours[2], read_arc_weights[2];
+    struct registers r = raw_write(parts, 2, weights, 2, starts, 3, neighbours, 2, arc_weights, 2, 13, 2, 77, 0.25, plan, 1536);
+    CHECK((uint32_t)r.first == 0);
+    CHECK(r.second == 1536);
+    memset(bytes, 0xa5, sizeof bytes);
+    CHECK(raw_read(bytes, plan, 1536, read_labels, 2, read_weights, 2, read_starts, 3, read_neighbours, 2, read_arc_weights, 2)
+        == bytes);
+    CHECK(half_at(bytes, 0) == 0);
+    CHECK(half_at(bytes, 4) == 2);
+    CHECK(half_at(bytes, 8) == 2);
+    CHECK(half_at(bytes, 12) == 13);
+    CHECK(half_at(bytes, 16) == 2);
+    CHECK(half_at(bytes, 20) == 0);
+    CHECK(word_at(bytes, 24) == bits_of(0.25));
+    past(bytes, 32, sizeof bytes);
+    CHECK(memcmp(read_labels, parts, sizeof parts) == 0);
+    CHECK(memcmp(read_weights, weights, sizeof read_weights) == 0);
+    CHECK(memcmp(read_starts, starts, sizeof starts) == 0);
+    CHECK(memcmp(read_neighbours, neighbours, sizeof neighbours) == 0);
+    CHECK(memcmp(read_arc_weights, arc_weights, sizeof arc_weights) == 0);
+    r = raw_write(parts, 2, weights, 2, starts, 3, neighbours, 2, arc_weights, 2, 13, 1, 77, 0.25, plan, 1535);
+    CHECK((uint32_t)r.first == 15);
+    CHECK(r.second == 0);
+    r = raw_write(parts, 2, weights, 2, starts, 3, neighbours, 2, arc_weights, 2, 13, 1, 77, 0.25, plan, 1536);
+    CHECK((uint32_t)r.first == 0);
+    CHECK(raw_read(bytes, plan, 1536, read_labels, 2, read_weights, 2, read_starts, 3, read_neighbours, 2, read_arc_weights, 2)
+        == bytes);
+    CHECK(half_at(bytes, 16) == 1);
+    CHECK(half_at(bytes, 20) == 77);
+    CHECK(word_at(bytes, 24) == 0);
+}
+
 int main(void)
 {
     sizes();
     loads_as_bytes();
     cut_as_registers();
+    reports_as_bytes();
+    plan_answers();
     return finish("layout");
 }

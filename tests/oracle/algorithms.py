@@ -50,24 +50,27 @@ def plain(algorithm, rng, graph):
 
 
 def fields(answer):
-    """The oracle's `OK key=v,v,.. ..` as lists of numbers."""
+    """The values of the oracle's `OK key=values ..`, by their key."""
     words = answer.split()
     if not words or words[0] != "OK":
         raise Disagreement(answer)
-    pairs = (word.split("=") for word in words[1:])
-    return {key: [int(value) for value in values.split(",")] for key, values in pairs}
+    return dict(word.split("=") for word in words[1:])
+
+
+def numbers(values):
+    return [int(value) for value in values.split(",")] if values else []
 
 
 def one_cut(ask, answer):
     """coupe's default topology and its sprs topology (on a stub of sprs) each give the cut."""
-    default, by_sprs = fields(answer)[ask.algorithm.word]
+    default, by_sprs = numbers(fields(answer)[ask.algorithm.word])
     if default != by_sprs:
         raise Disagreement(answer)
     return [default]
 
 
 def all_loads(ask, answer):
-    loads = fields(answer)["loads"]
+    loads = numbers(fields(answer)["loads"])
     return loads + [0] * (PARTS - len(loads))
 
 

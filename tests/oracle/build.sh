@@ -1,13 +1,15 @@
 #!/bin/sh
 # Builds the oracle: coupe's own refiners, unchanged, behind a driver that reads one case a line (src/main.rs).
 # COUPE names the folder coupe/src of commit 30dce98c25. Ends with 0 when built, 3 when coupe is not there, 4 when a Debian package is not there.
+# Where COUPE is not set, a copy in ../shared/docs/src beside the repository is taken.
 # What it makes stands in target/ beside this file: coupe's files in target/coupe, the program target/release/oracle.
 set -eu
-cd "$(dirname "$0")"
-
-near=../../../shared/docs/src/coupe/src
+here=$(cd "$(dirname "$0")" && pwd)
+near=$here/../../../shared/docs/src/coupe/src
 if [ -z "${COUPE:-}" ] && [ -d "$near" ]; then COUPE=$near; fi
-if [ -z "${COUPE:-}" ] || [ ! -f "$COUPE/algorithms/fiduccia_mattheyses.rs" ]; then
+if [ -n "${COUPE:-}" ] && [ -f "$COUPE/algorithms/fiduccia_mattheyses.rs" ]; then
+    COUPE=$(cd "$COUPE" && pwd)
+else
     cat >&2 <<'TEXT'
 oracle: coupe's source is not there. Get it and say where its src folder is:
     git clone https://github.com/LIHPC-Computational-Geometry/coupe
@@ -16,6 +18,7 @@ oracle: coupe's source is not there. Get it and say where its src folder is:
 TEXT
     exit 3
 fi
+cd "$here"
 for crate in rayon itertools num-traits tracing; do
     if ! ls -d /usr/share/cargo/registry/"$crate"-[0-9]* >/dev/null 2>&1; then
         cat >&2 <<'TEXT'
@@ -26,7 +29,7 @@ TEXT
     fi
 done
 
-copy=target/coupe
+copy=target/coupe.new
 rm -rf "$copy"
 mkdir -p "$copy/topology"
 for file in algorithms/fiduccia_mattheyses algorithms/kernighan_lin algorithms/arc_swap imbalance defer work_share; do
@@ -49,4 +52,11 @@ if [ "$(differing fm_btree)" != 2 ] || [ "$(differing fm_low)" != 1 ]; then
     exit 3
 fi
 
+# Files that are the same keep their dates, so that nothing is compiled again.
+if diff -r "$copy" target/coupe >/dev/null 2>&1; then
+    rm -rf "$copy"
+else
+    rm -rf target/coupe
+    mv "$copy" target/coupe
+fi
 cargo build --offline --quiet --release

@@ -71,13 +71,13 @@ class Comparison:
             self.differ[name] += differ[name]
             self.left_out[name] += left_out[name]
 
-    def tell(self, seeds):
+    def tell(self, sources):
         for algorithm in self.algorithms:
             name = algorithm.name
             parts = [f"{self.run[name]} cases", f"{self.differ[name]} differ"]
             if self.left_out[name]:
                 parts.append(f"{self.left_out[name]} not comparable")
-            print(f"{name}: {', '.join(parts)} (seeds {' '.join(map(str, seeds))})")
+            print(f"{name}: {', '.join(parts)} ({sources})")
             self.failed = self.failed or self.run[name] == 0 or self.differ[name] > 0
 
 
@@ -94,14 +94,17 @@ def main():
     build_replay()
     KEPT.mkdir(parents=True, exist_ok=True)
     comparison = Comparison([a for a in ALGORITHMS if not options.only or a.name in options.only])
+    sources = f"seeds {' '.join(map(str, options.seeds))}"
     for seed in options.seeds:
         comparison.add(f"seed-{seed}", seeded(seed, options.graphs), seed)
-    if options.exhaustive:
-        comparison.add("exhaustive", exhaustive(), 0)
     if options.limits:
+        sources += ", at the limits"
         for seed in options.seeds:
             comparison.add(f"limits-{seed}", at_limits(random.Random(seed)), seed)
-    comparison.tell(options.seeds)
+    if options.exhaustive:
+        sources += ", exhaustive"
+        comparison.add("exhaustive", exhaustive(), 0)
+    comparison.tell(sources)
     sys.exit(1 if comparison.failed else 0)
 
 

@@ -22,7 +22,9 @@ def stored_asks():
     graphs = [small(rng) for _ in range(SMALL)] + list(exhaustive())[::STEP]
     asks = cases(graphs, ALGORITHMS, SEED)
     for algorithm in ALGORITHMS:
-        asks += cases([drawn(rng, (LARGEST[algorithm.name],), MOST_VERTICES, most=9)], [algorithm], SEED)
+        if algorithm.name in LARGEST:
+            graph = drawn(rng, (LARGEST[algorithm.name],), MOST_VERTICES, most=9)
+            asks += cases([graph], [algorithm], SEED)
     return asks
 
 

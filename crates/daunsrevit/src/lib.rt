@@ -3,7 +3,16 @@ ghost use mathlib.Core.Path.{_≡_};
 ghost use Rattle.imbalance.specs.Number.{loadsAnswer};
 ghost use Rattle.topology.specs.Graph.{inRows};
 ghost use Rattle.topology.specs.Number.{edgeCutAnswer, lambdaCutAnswer};
+ghost use Rattle.fiduccia_mattheyses.specs.Entry.{Refined};
+ghost use Rattle.kernighan_lin.specs.Entry as KL;
+ghost use Rattle.plan.specs.Read.{Read};
+ghost use Rattle.plan.specs.Write.{Written};
+use fiduccia_mattheyses::Move;
+use fiduccia_mattheyses::Report;
+use fiduccia_mattheyses::Settings;
 use imbalance::LoadsAnswer;
+use plan::ReadAnswer;
+use plan::WriteAnswer;
 use topology::CutAnswer;
 
 // The load of each part.
@@ -39,4 +48,123 @@ pub extern "C" fn daunsrevit_lambda_cut(
     ensures { λ r. ⌜ r ≡ lambdaCutAnswer (inRows (now (starts .entry)) (now (neighbours .entry)) (now («arc_weights» .entry))) (now (weights .entry)) (now (labels .entry)) ⌝ }
 {
     topology::lambda_cut(starts, neighbours, arc_weights, weights, labels)
+}
+
+// FM: refines the labels of two parts.
+#[no_mangle]
+pub extern "C" fn daunsrevit_fiduccia_mattheyses(
+    starts: &[u32],
+    neighbours: &[u32],
+    arc_weights: &[u32],
+    weights: &[u32],
+    labels: &mut [u32],
+    gains: &mut [i64],
+    moves: &mut [Move],
+    rows_made: &mut [u32],
+    rows_rewound: &mut [u32],
+    s: Settings,
+) -> Report
+    ensures { λ r. ⌜ Refined
+        (record { starts = now (starts .entry); neighbours = now (neighbours .entry); arcs = now («arc_weights» .entry); weights = now (weights .entry); settings = s })
+        (record { labels = now (labels .entry); gains = now (gains .entry); moves = now (moves .entry); made = now («rows_made» .entry); rewound = now («rows_rewound» .entry) })
+        r
+        (record { labels = now (labels .exit); gains = now (gains .exit); moves = now (moves .exit); made = now («rows_made» .exit); rewound = now («rows_rewound» .exit) }) ⌝ }
+{
+    fiduccia_mattheyses::fiduccia_mattheyses(
+        starts,
+        neighbours,
+        arc_weights,
+        weights,
+        labels,
+        gains,
+        moves,
+        rows_made,
+        rows_rewound,
+        s,
+    )
+}
+
+// KL: refines the labels of two parts by swaps.
+#[no_mangle]
+pub extern "C" fn daunsrevit_kernighan_lin(
+    starts: &[u32],
+    neighbours: &[u32],
+    arc_weights: &[u32],
+    weights: &[u32],
+    labels: &mut [u32],
+    gains: &mut [i64],
+    locks: &mut [u8],
+    swaps: &mut [u32],
+    settings: kernighan_lin::Settings,
+) -> kernighan_lin::Report
+    ensures { λ r. ⌜ KL.Refined
+        (record { starts = now (starts .entry); neighbours = now (neighbours .entry); arcs = now («arc_weights» .entry); weights = now (weights .entry); settings = settings })
+        (record { labels = now (labels .entry); gains = now (gains .entry); locks = now (locks .entry); swaps = now (swaps .entry) })
+        r
+        (record { labels = now (labels .exit); gains = now (gains .exit); locks = now (locks .exit); swaps = now (swaps .exit) }) ⌝ }
+{
+    kernighan_lin::kernighan_lin(
+        starts,
+        neighbours,
+        arc_weights,
+        weights,
+        labels,
+        gains,
+        locks,
+        swaps,
+        settings,
+    )
+}
+
+// Reads a plan file.
+#[no_mangle]
+pub extern "C" fn daunsrevit_read_plan(
+    bytes: &[u8],
+    labels: &mut [u32],
+    weights: &mut [u32],
+    starts: &mut [u32],
+    neighbours: &mut [u32],
+    arc_weights: &mut [u32],
+) -> ReadAnswer
+    ensures { λ r. ⌜ Read
+        (now (bytes .entry))
+        (record { labels = now (labels .entry); weights = now (weights .entry); starts = now (starts .entry); neighbours = now (neighbours .entry); arcWeights = now («arc_weights» .entry) })
+        r
+        (record { labels = now (labels .exit); weights = now (weights .exit); starts = now (starts .exit); neighbours = now (neighbours .exit); arcWeights = now («arc_weights» .exit) }) ⌝ }
+{
+    plan::read_plan(bytes, labels, weights, starts, neighbours, arc_weights)
+}
+
+// Writes a plan file.
+#[no_mangle]
+pub extern "C" fn daunsrevit_write_plan(
+    labels: &[u32],
+    weights: &[u32],
+    starts: &[u32],
+    neighbours: &[u32],
+    arc_weights: &[u32],
+    k: u32,
+    choice: u32,
+    whole: u32,
+    imbalance: f64,
+    target: &mut [u8],
+) -> WriteAnswer
+    ensures { λ r. ⌜ Written
+        (record { labels = now (labels .entry); weights = now (weights .entry); starts = now (starts .entry); neighbours = now (neighbours .entry); arcWeights = now («arc_weights» .entry); k = k; choice = choice; whole = whole; imbalance = imbalance })
+        (now (target .entry))
+        r
+        (now (target .exit)) ⌝ }
+{
+    plan::write_plan(
+        labels,
+        weights,
+        starts,
+        neighbours,
+        arc_weights,
+        k,
+        choice,
+        whole,
+        imbalance,
+        target,
+    )
 }

@@ -143,3 +143,13 @@ module _ (a b : ℕ) (f : ℕ → Bool) where
   some-from-only e l k h =
       let s : a + (e - a) ≡ e = omega arith in
       rw s at (some-only (b - a) (e - a) (λ i. f (a + i)) (omega arith) (λ i j ne. h (a + i) (omega arith) (omega arith) (λ q. ne (omega arith))))
+
+-- a test that holds at each number holds at all
+pub all-every : (n : ℕ) (f : ℕ → Bool) → ((i : ℕ) → i < n → f i ≡ true) → all n f ≡ true
+unfolding all
+all-every zero f h = refl
+all-every (suc n) f h = rw (all-every n f (λ i l. h i (omega arith))) (h n (omega arith))
+
+pub from-every : (a b : ℕ) (f : ℕ → Bool) → ((i : ℕ) → a ≤ i → i < b → f i ≡ true) → allFrom a b f ≡ true
+unfolding allFrom
+from-every a b f h = all-every (b - a) (λ i. f (a + i)) (λ i l. h (a + i) (omega arith) (omega arith))

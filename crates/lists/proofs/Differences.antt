@@ -194,3 +194,14 @@ take-away a b k = ap (λ (z : ℤ). subℕ a b -ℤ z) (pos-is k) ∙ sub a b k 
 -- a natural less a difference
 pub pos-minus : (c a b d : ℕ) → d + a ≡ c + b → pos c -ℤ subℕ a b ≡ pos d
 pos-minus c a b d e = ap (λ (z : ℤ). z -ℤ subℕ a b) (pos-is c) ∙ sub c 0 a b ∙ same (c + b) (0 + a) d 0 (omega arith) ∙ sym (pos-is d)
+
+-- the difference of two whole numbers is not much larger than they are
+parts-small : (z : ℤ) → above z + beneath z ≤ mag z + 1
+parts-small (pos a) = omega arith
+parts-small (negsuc a) = omega arith
+
+pub mag-minus : (x y : ℤ) → mag (x -ℤ y) ≤ mag x + mag y + 2
+mag-minus x y =
+    let e : x -ℤ y ≡ subℕ (above x + beneath y) (beneath x + above y) =
+    ap (λ (z : ℤ). z -ℤ y) (is-diff x) ∙ ap (λ (z : ℤ). subℕ (above x) (beneath x) -ℤ z) (is-diff y) ∙ sub (above x) (beneath x) (above y) (beneath y) in
+    rw e (omega (arith, mag-sub (above x + beneath y) (beneath x + above y), parts-small x, parts-small y))

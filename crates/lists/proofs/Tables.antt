@@ -1,14 +1,15 @@
--- Lists made place by place from a function: laws of `table`. Assumes nothing.
+-- Lists made place by place from a function: laws of `table`, and of `written`, which leaves a table and what stood past its end. Assumes nothing.
 use mathlib.Core.Path.{_≡_, refl, sym, _∙_}
 use mathlib.Core.Bool.{Bool, true, false}
-use mathlib.Core.List.{[], _∷_, _++_}
-use Prim.Native.Nat.{ℕ, zero, suc, _<_}
+use mathlib.Core.List.{List, [], _∷_, _++_}
+use Prim.Native.Nat.{ℕ, zero, suc, _≤_, _<_}
 use native.Mathlib.Omega.{arith}
-use lib.ListN.{length, getD, set, length-append, length-set, List·getD-append}
-use lib.Seq.{getD-at, getD-set-same, getD-set-other, ext-getD}
+use lib.ListN.{length, getD, set, drop, length-append, length-set, List·getD-append}
+use lib.Seq.{append-snoc, drop-cons, set-at, getD-at, getD-set-same, getD-set-other, ext-getD}
 use lib.Dec.{eqb}
 use borrow.Author.Tests.{eqb-true, eqb-false}
-use Rattle.lists.specs.Fill.{table}
+use Rattle.lists.specs.Fill.{table, written}
+use Rattle.lists.proofs.Fills.{length-written, written-below}
 
 pub length-table : {A : Type 0} (n : ℕ) (f : ℕ → A) → length (table n f) ≡ n
 unfolding table
@@ -47,3 +48,24 @@ table-set n i x f g h here other =
     go j l false e =
         let ne = eqb-false j i e in
         getD-set-other (table n f) i j x x ne ∙ table-at n j x f l ∙ other j ne ∙ sym (table-at n j x g l)
+
+-- what is written place by place is a table, and then what stood past its end
+pub written-table : {A : Type 0} (f : ℕ → A) (n : ℕ) (xs : List A) → n ≤ length xs → written f n xs ≡ table n f ++ drop n xs
+unfolding written table
+written-table f zero xs h = refl
+written-table f (suc n) xs h =
+    rw (written-table f n xs (omega arith), drop-cons xs n (f n))
+    (set-at (table n f) (getD xs n (f n)) (drop (suc n) xs) (f n) n (length-table n f) ∙ sym (append-snoc (table n f) (f n) (drop (suc n) xs)))
+
+-- a list is the table of its places
+pub table-of : {A : Type 0} (n : ℕ) (d : A) (xs : List A) → length xs ≡ n → xs ≡ table n (λ i. getD xs i d)
+table-of n d xs e =
+    ext-getD d xs (table n (λ i. getD xs i d)) (e ∙ sym (length-table n (λ i. getD xs i d)))
+    (λ i l. sym (table-at n i d (λ j. getD xs j d) (omega arith)))
+
+-- a list of n places, each of them written
+pub written-whole : {A : Type 0} (n : ℕ) (d : A) (f : ℕ → A) (xs : List A) → length xs ≡ n → written f n xs ≡ table n f
+written-whole n d f xs e =
+    let q = length-written f n xs in
+    ext-getD d (written f n xs) (table n f) (q ∙ e ∙ sym (length-table n f))
+    (λ i l. written-below f d n xs (omega arith) i (omega arith) ∙ sym (table-at n i d f (omega arith)))

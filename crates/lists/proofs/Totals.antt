@@ -3,10 +3,10 @@ use mathlib.Core.Path.{_≡_, refl, sym, ap, ap₂, _∙_}
 use mathlib.Core.Bool.{Bool, true, false, not, cond, _&&_, _||_}
 use Prim.Native.Nat.{ℕ, zero, suc, _+_, _-_, _*_, _≤_, _<_}
 use native.Mathlib.Omega.{arith}
-use native.Mathlib.Nat.{add-zero, zero-add}
+use native.Mathlib.Nat.{add-zero, zero-add, add-suc, suc-mul}
 use lib.Dec.{ltb, leb, eqb}
 use borrow.Author.Tests.{lt-ltb, le-ltb, eq-eqb, ne-eqb, eqb-true, eqb-false}
-use Rattle.lists.specs.Sum.{sum, weigh, total}
+use Rattle.lists.specs.Sum.{sum, between, weigh, total}
 use Rattle.lists.proofs.Bools.{weigh-split}
 
 pub sum-ext : (n : ℕ) (f g : ℕ → ℕ) → ((i : ℕ) → i < n → f i ≡ g i) → sum n f ≡ sum n g
@@ -89,3 +89,28 @@ pub sum-below : (n : ℕ) (f g : ℕ → ℕ) → ((i : ℕ) → i < n → f i �
 unfolding sum
 sum-below zero f g h = omega arith
 sum-below (suc n) f g h = let k : sum n f ≤ sum n g = sum-below n f g (λ i l. h i (omega arith)) in let r : f n ≤ g n = h n (omega arith) in omega arith
+
+-- the first a parts, and k more
+pub sum-split : (a k : ℕ) (f : ℕ → ℕ) → sum (a + k) f ≡ sum a f + sum k (λ i. f (a + i))
+unfolding sum
+sum-split a zero f = rw (add-zero a) (sym (add-zero (sum a f)))
+sum-split a (suc k) f = rw (add-suc a k, sum) (rw (sum-split a k f) (omega arith))
+
+-- the parts of a range sum to no more than all
+pub between-most : (a b n : ℕ) (f : ℕ → ℕ) → a ≤ b → b ≤ n → between a b f ≤ sum n f
+unfolding between
+between-most a b n f h l =
+    let q : a + (b - a) ≡ b = omega arith in
+    let s : sum b f ≡ sum a f + sum (b - a) (λ i. f (a + i)) = rw q at (sum-split a (b - a) f) in
+    let k : sum b f ≤ sum n f = sum-grows b n f l in
+    omega arith
+
+-- parts of at most m each
+pub sum-most : (n m : ℕ) (f : ℕ → ℕ) → ((i : ℕ) → i < n → f i ≤ m) → sum n f ≤ n * m
+unfolding sum
+sum-most zero m f h = omega arith
+sum-most (suc n) m f h =
+    let k : sum n f ≤ n * m = sum-most n m f (λ i l. h i (omega arith)) in
+    let r : f n ≤ m = h n (omega arith) in
+    let q : suc n * m ≡ n * m + m = suc-mul n m in
+    omega arith

@@ -1,0 +1,215 @@
+-- The call, from its number to its promise: what number 0 tells, what the run asks and leaves, and the three ways out. Assumes nothing.
+use mathlib.Core.Path.{_≡_, refl, sym, ap, ap₂, _∙_}
+use mathlib.Core.Bool.{Bool, true, false, cond, _||_}
+use mathlib.Core.List.{List, [], _∷_, _++_, map}
+use Prim.Native.Nat.{ℕ, zero, suc, _+_, _-_, _≤_, _<_}
+use native.Mathlib.Omega.{arith}
+use lib.Dec.{ltb, eqb}
+use lib.ListN.{length, getD, set, take, drop, length-append, length-drop, List·getD-eq-default}
+use lib.Seq.{ext-getD, getD-drop, drop-at}
+use lib.IntN.{ℤ, pos}
+use borrow.Author.Tests.{eq-eqb, ne-eqb, ltb-true, ltb-false, le-ltb}
+use Rattle.lists.specs.Sum.{total}
+use Rattle.lists.specs.Fill.{filled, table}
+use Rattle.lists.specs.Number.{orElse}
+use Rattle.lists.proofs.Bools.{or-false}
+use Rattle.lists.proofs.Numbers.{or-else-zero, not-given}
+use Rattle.lists.proofs.Alls.{some-nowhere}
+use Rattle.lists.proofs.Fills.{length-written, written-below, written-past}
+use Rattle.lists.proofs.Tables.{length-table}
+use Rattle.imbalance.specs.Limit.{labelAbove}
+use Rattle.imbalance.specs.Load.{part, load, loadsOf, Loadable}
+use Rattle.imbalance.specs.Ceiling.{unfitChoice, ceiling, ceilings}
+use Rattle.imbalance.specs.declared.Loads.{Loads}
+use Rattle.imbalance.proofs.Limits.{label-most}
+use Rattle.topology.specs.Rule.{graphNumber, Sound}
+use Rattle.topology.specs.Cut.{cut}
+use Rattle.topology.proofs.Numbers.{sound}
+use Rattle.fiduccia_mattheyses_pass.specs.Choice.{Setting}
+use Rattle.fiduccia_mattheyses_pass.specs.Pass.{Pass}
+use Rattle.fiduccia_mattheyses_pass.specs.Standing.{Fixed}
+use Rattle.fiduccia_mattheyses.specs.declared.Move.{Move}
+use Rattle.fiduccia_mattheyses.specs.declared.Room.{Room}
+use Rattle.fiduccia_mattheyses.specs.declared.Settings.{Settings}
+use Rattle.fiduccia_mattheyses.specs.declared.Report.{Report}
+use Rattle.fiduccia_mattheyses.specs.declared.Ended.{Ended}
+use Rattle.fiduccia_mattheyses.specs.Run.{Run, run}
+use Rattle.fiduccia_mattheyses.specs.Entry.{Plan, Lent, graphOf, unfit, short, roomOf, numberOf, number, settingOf, runOf, none, bare, refused, empty, reportOf, over, leftBy, answer, left, Refined}
+use Rattle.fiduccia_mattheyses.specs.Inner.{settingBy, PassAsked, PassesAsked, PassesDone, Ready, Ran}
+
+-- ---- what number 0 tells
+pub ready : (p : Plan) (l : Lent) (k : ℕ) → k ≡ number p l → k ≡ 0 → Ready p l
+unfolding numberOf unfit short
+ready p l k e z =
+    let n = length (l .labels) in
+    let q = p .settings .passes in
+    let r = roomOf l in
+    let both = or-else-zero (graphNumber n (p .weights) (graphOf p)) (cond (labelAbove 1 (l .labels)) 6 (cond (unfit (p .settings)) 7 (cond (short n q r) 8 0))) (sym e ∙ z) in
+    let six = not-given (labelAbove 1 (l .labels)) 5 (cond (unfit (p .settings)) 7 (cond (short n q r) 8 0)) (both .1) in
+    let seven = not-given (unfit (p .settings)) 6 (cond (short n q r) 8 0) (six .1) in
+    let eight = not-given (short n q r) 7 0 (seven .1) in
+    let u = or-false (ltb 1024 q) (unfitChoice (p .settings .choice) (p .settings .imbalance)) (seven .0) in
+    let s0 = or-false (ltb (r .gains) n) (ltb (r .moves) n || (ltb (r .made) q || ltb (r .rewound) q)) (eight .0) in
+    let s1 = or-false (ltb (r .moves) n) (ltb (r .made) q || ltb (r .rewound) q) (s0 .1) in
+    let s2 = or-false (ltb (r .made) q) (ltb (r .rewound) q) (s1 .1) in
+    record {
+      sound = sound n (p .weights) (graphOf p) (both .0);
+      labelled = six .0;
+      few-passes = ltb-false 1024 q (u .0);
+      fit = u .1;
+      in-gains = ltb-false (r .gains) n (s0 .0);
+      in-moves = ltb-false (r .moves) n (s1 .0);
+      in-made = ltb-false (r .made) q (s2 .0);
+      in-rewound = ltb-false (r .rewound) q (s2 .1);
+    }
+
+-- ---- the first places of a list, lent on and joined again with the rest
+pub take-long : {A : Type 0} (n : ℕ) (xs : List A) → n ≤ length xs → length (take n xs) ≡ n
+take-long zero xs h = refl
+take-long (suc n) [] h = absurd (omega arith)
+take-long (suc n) (x ∷ xs) h = ap suc (take-long n xs (omega arith))
+
+module _ {A : Type 0} (n : ℕ) (xs ys : List A) (e : length ys ≡ length (take n xs)) (h : n ≤ length xs) where
+  pub joined-long : length (ys ++ drop n xs) ≡ length xs
+  joined-long = length-append ys (drop n xs) ∙ (let t = take-long n xs h in let d = length-drop n xs in omega arith)
+
+  pub joined-past : drop n (ys ++ drop n xs) ≡ drop n xs
+  joined-past = let t = take-long n xs h in drop-at ys (drop n xs) n (e ∙ t)
+
+-- ---- the run
+module _ (p : Plan) (l : Lent) (a : Ready p l) where
+  abbrev n : ℕ
+  n = length (l .labels)
+
+  -- labels 0 or 1, also past the list's end
+  two-labels : (x : ℕ) → part (l .labels) x < 2
+  two-labels x = go (ltb x n) refl
+    where
+      go : (t : Bool) → ltb x n ≡ t → part (l .labels) x < 2
+      go true t = let h = label-most 1 (l .labels) (a .labelled) x (ltb-true x n t) in omega arith
+      go false t = rw (List·getD-eq-default (l .labels) 0 {n = x} (ltb-false x n t)) (omega arith)
+
+  pub loadable : Loadable (p .weights) (l .labels)
+  unfolding labelAbove
+  loadable = record {
+    paired = a .sound .weighed;
+    few = a .sound .rows .few;
+    light = a .sound .light;
+    named = some-nowhere n (λ v. ltb 15 (getD (l .labels) v 0)) (λ v k. (let h = two-labels v in le-ltb 15 (getD (l .labels) v 0) (omega arith)));
+  }
+
+  module _ (loads : Loads) (total′ cut′ bad limit : ℕ) (ceil : List ℕ) (el : loads ≡ loadsOf (p .weights) (l .labels)) (et : total′ ≡ total (p .weights)) (ec : ceil ≡ ceilings (loads .at) total′ 2 (p .settings .choice) (p .settings .whole) (p .settings .imbalance)) (eu : cut′ ≡ cut (graphOf p) (l .labels)) (eb : bad ≡ p .settings .bad) (em : limit ≡ p .settings .moves) where
+    abbrev s : Setting
+    s = settingBy (p .starts) (p .neighbours) (p .arcs) (p .weights) ceil bad limit
+
+    ceil-is : ceil ≡ ceilings (table 16 (load (p .weights) (l .labels))) (total (p .weights)) 2 (p .settings .choice) (p .settings .whole) (p .settings .imbalance)
+    ceil-is = ec ∙ ap₂ (λ (x : List ℕ) (t : ℕ). ceilings x t 2 (p .settings .choice) (p .settings .whole) (p .settings .imbalance)) (ap (λ (x : Loads). x .at) el) et
+
+    -- the setting that the code works with is the definition's
+    same-setting : s ≡ settingOf p l
+    same-setting = λ i. record { graph = graphOf p; weights = p .weights; ceilings = ceil-is i; movable = λ v. true; badLimit = eb i; moveLimit = em i }
+
+    fixed : Fixed s n
+    unfolding ceilings
+    fixed = record {
+      rows = a .sound .rows;
+      symmetric = a .sound .symmetric;
+      weighed = a .sound .weighed;
+      light = a .sound .light;
+      lightArcs = a .sound .lightArcs;
+      capped = ap length ceil-is ∙ length-table 16 _;
+      anyone = λ v. refl;
+    }
+
+    -- what the passes ask: the gains' first n places are lent on
+    pub passes-asked : (gains : List ℤ) → length gains ≡ n → PassesAsked s (p .settings .passes) (l .labels) gains (l .moves) (l .made) (l .rewound) (loads .at) cut′
+    passes-asked gains eg = record {
+      begun = record {
+        fixed = fixed;
+        two = two-labels;
+        gained = eg;
+        room = a .in-moves;
+        loaded = ap (λ (x : Loads). x .at) el;
+        cut-is = eu;
+      };
+      in-made = a .in-made;
+      in-rewound = a .in-rewound;
+      few-passes = a .few-passes;
+    }
+
+    -- lists that agree from n on are alike once their first n places are filled
+    refilled : {A : Type 0} (x : A) (xs ys : List A) → length xs ≡ length ys → n ≤ length ys → drop n xs ≡ drop n ys → filled x n xs ≡ filled x n ys
+    refilled {A} x xs ys e h d =
+        ext-getD x (filled x n xs) (filled x n ys) (length-written (λ (j : ℕ). x) n xs ∙ e ∙ sym (length-written (λ (j : ℕ). x) n ys))
+        (λ i k. each i (ltb i n) refl)
+      where
+        each : (i : ℕ) (t : Bool) → ltb i n ≡ t → getD (filled x n xs) i x ≡ getD (filled x n ys) i x
+        each i true t =
+            let b = ltb-true i n t in
+            written-below (λ (j : ℕ). x) x n xs (omega arith) i b ∙ sym (written-below (λ (j : ℕ). x) x n ys h i b)
+        each i false t =
+            let b = ltb-false i n t in
+            let q : n + (i - n) ≡ i = omega arith in
+            written-past (λ (j : ℕ). x) x n xs i b
+            ∙ ap (λ (j : ℕ). getD xs j x) (sym q) ∙ sym (getD-drop n xs (i - n) x)
+            ∙ ap (λ (z : List A). getD z (i - n) x) d
+            ∙ getD-drop n ys (i - n) x ∙ ap (λ (j : ℕ). getD ys j x) q
+            ∙ sym (written-past (λ (j : ℕ). x) x n ys i b)
+
+    -- what the run leaves
+    pub ran :
+        (labels′ : List ℕ) (moves′ : List Move) (made′ rewound′ : List ℕ) (r : Ended)
+        → PassesDone s (p .settings .passes) (l .labels) (l .moves) (l .made) (l .rewound) labels′ moves′ made′ rewound′ r
+        → (gains′ gains″ : List ℤ)
+        → length gains′ ≡ length (l .gains)
+        → drop n gains′ ≡ drop n (l .gains)
+        → gains″ ≡ filled (pos 0) n gains′
+        → (moves″ : List Move)
+        → moves″ ≡ filled none n moves′
+        → (q : Report)
+        → q ≡ record { number = 0; end = r .end; passes = r .passes; first = cut′; last = r .cut; loads = r .loads }
+        → Ran p l q (record { labels = labels′; gains = gains″; moves = moves″; made = made′; rewound = rewound′ })
+    unfolding leftBy reportOf
+    ran labels′ moves′ made′ rewound′ r d gains′ gains″ gl gd eg moves″ em′ q eq =
+        let rr : run s (p .settings .passes) (l .labels) ≡ runOf p l = ap (λ (x : Setting). run x (p .settings .passes) (l .labels)) same-setting in
+        let ll : labels′ ≡ runOf p l .labels = d .labelled ∙ ap (λ (x : Run). x .labels) rr in
+        record {
+          answered =
+              eq
+              ∙ (λ i.
+              record {
+                number = 0;
+                end = (d .end-is ∙ ap (λ (x : Run). x .end) rr) i;
+                passes = (d .passes-are ∙ ap (λ (x : Run). length (x .rows)) rr) i;
+                first = eu i;
+                last = (d .cut-is ∙ ap (cut (graphOf p)) ll) i;
+                loads = record { at = (d .loaded ∙ ap (λ (x : List ℕ). table 16 (load (p .weights) x)) ll) i };
+              });
+          labels = ll;
+          gains = eg ∙ refilled (pos 0) gains′ (l .gains) gl (a .in-gains) gd;
+          moves = em′ ∙ refilled none moves′ (l .moves) (d .moves-long) (a .in-moves) (d .moves-past);
+          made = d .made-are ∙ ap (λ (x : Run). over (map (λ (y : Pass). y .made) (x .rows)) (l .made)) rr;
+          rewound = d .rewound-are ∙ ap (λ (x : Run). over (map (λ (y : Pass). y .rewound) (x .rows)) (l .rewound)) rr;
+        }
+
+-- ---- the call's three ways out
+refined : (p : Plan) (l : Lent) (r : Report) (k : Lent) → r ≡ answer p l → k .labels ≡ left p l .labels → k .gains ≡ left p l .gains → k .moves ≡ left p l .moves → k .made ≡ left p l .made → k .rewound ≡ left p l .rewound → Refined p l r k
+refined p l r k a b c d e f = record { answered = a; labels = b; gains = c; moves = d; made = e; rewound = f }
+
+pub at-empty : (p : Plan) (l : Lent) (r : Report) → length (l .labels) ≡ 0 → r ≡ empty → Refined p l r l
+unfolding answer left
+at-empty p l r z e = let t = eq-eqb (length (l .labels)) 0 z in refined p l r l (rw t e) (rw t refl) (rw t refl) (rw t refl) (rw t refl) (rw t refl)
+
+pub at-refusal : (p : Plan) (l : Lent) (r : Report) (k : ℕ) → (length (l .labels) ≡ 0 → ⊥) → k ≡ number p l → (k ≡ 0 → ⊥) → r ≡ refused k → Refined p l r l
+unfolding answer left
+at-refusal p l r k z n u e =
+    let t = ne-eqb (length (l .labels)) 0 z in
+    let v = ne-eqb (number p l) 0 (λ q. u (n ∙ q)) in
+    refined p l r l (rw (t, v) (e ∙ ap refused n)) (rw (t, v) refl) (rw (t, v) refl) (rw (t, v) refl) (rw (t, v) refl) (rw (t, v) refl)
+
+pub at-run : (p : Plan) (l : Lent) (r : Report) (k : Lent) (m : ℕ) → (length (l .labels) ≡ 0 → ⊥) → m ≡ number p l → m ≡ 0 → Ran p l r k → Refined p l r k
+unfolding answer left
+at-run p l r k m z e n g =
+    let t = ne-eqb (length (l .labels)) 0 z in
+    let v = eq-eqb (number p l) 0 (sym e ∙ n) in
+    refined p l r k (rw (t, v) (g .answered)) (rw (t, v) (g .labels)) (rw (t, v) (g .gains)) (rw (t, v) (g .moves)) (rw (t, v) (g .made)) (rw (t, v) (g .rewound))

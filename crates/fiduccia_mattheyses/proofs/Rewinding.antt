@@ -1,0 +1,207 @@
+-- The rewind: each record puts its vertex back into the part that it was in before the move, and the loads follow. Assumes nothing.
+use mathlib.Core.Path.{_≡_, refl, sym, ap, ap₂, _∙_}
+use mathlib.Core.Bool.{Bool, true, false}
+use mathlib.Core.List.{List, [], _∷_, _++_}
+use Prim.Native.Nat.{ℕ, zero, suc, _+_, _-_, _≤_, _<_}
+use native.Mathlib.Omega.{arith}
+use native.Mathlib.Numerals.{add-one}
+use lib.ListN.{length, getD, set, take, drop, length-set, length-take, length-drop, List·getD-append}
+use lib.Seq.{split-at, take-all, take-suc, getD-take, getD-drop, getD-set-same}
+use Rattle.lists.specs.Fill.{table}
+use Rattle.lists.proofs.Tables.{table-at, length-table}
+use Rattle.imbalance.specs.Load.{part, load}
+use Rattle.imbalance.specs.Limit.{mostWeight}
+use Rattle.imbalance.proofs.PartLoads.{load-within}
+use Rattle.fiduccia_mattheyses_pass.specs.Choice.{other, flip}
+use Rattle.fiduccia_mattheyses_pass.specs.Pass.{flips}
+use Rattle.fiduccia_mattheyses_pass.specs.Standing.{Apart, loadsAfter}
+use Rattle.fiduccia_mattheyses_pass.proofs.Backs.{two-flips, flips-append, flips-other, flips-long, flips-more, rewound}
+use Rattle.fiduccia_mattheyses_pass.proofs.Stands.{loads-follow, load-holds}
+use Rattle.fiduccia_mattheyses.specs.declared.Move.{Move}
+use Rattle.fiduccia_mattheyses.specs.Entry.{none}
+use Rattle.fiduccia_mattheyses.specs.Inner.{records, recorded, undone, RewindAsked}
+use Rattle.fiduccia_mattheyses.proofs.Walking.{length-records, recorded-long}
+
+-- the record of the move at place i
+records-at : (p vs : List ℕ) (i : ℕ) → i < length vs → getD (records p vs) i none ≡ record { vertex = getD vs i 0; part = part (flips p (take i vs)) (getD vs i 0) }
+unfolding records flips
+records-at p [] i l = absurd (omega arith)
+records-at p (v ∷ vs) zero l = refl
+records-at p (v ∷ vs) (suc i) l = records-at (flip p v) vs i (omega arith)
+
+flips-one : (x : List ℕ) (u : ℕ) (us : List ℕ) → flips x (u ∷ us) ≡ flips (flip x u) us
+unfolding flips
+flips-one x u us = refl
+
+-- a place within a list's first k is below k
+take-less : {A : Type 0} (k : ℕ) (l : List A) (i : ℕ) → i < length (take k l) → i < k
+take-less zero l i h = h
+take-less (suc k) [] i h = absurd (omega arith)
+take-less (suc k) (x ∷ l) zero h = omega arith
+take-less (suc k) (x ∷ l) (suc i) h = let r = take-less k l i (omega arith) in omega arith
+
+-- a vertex moved once is in the other part afterwards
+moved-once : (p vs : List ℕ) (i : ℕ) → Apart vs → i < length vs → getD vs i 0 < length p → part (flips p vs) (getD vs i 0) ≡ other (part (flips p (take i vs)) (getD vs i 0))
+unfolding flip
+moved-once p vs i apart l inside =
+    let v = getD vs i 0 in
+    let q = flips p (take i vs) in
+    let a : flips p vs ≡ flips (flip q v) (drop (suc i) vs) = ap (flips p) (split-at vs i 0 l) ∙ flips-append p (take i vs) (v ∷ drop (suc i) vs) ∙ flips-one q v (drop (suc i) vs) in
+    ap (λ (x : List ℕ). part x v) a
+    ∙ flips-other (flip q v) (drop (suc i) vs) v
+    (λ j k e. (let d = length-drop (suc i) vs in apart i (suc i + j) (omega arith) (omega arith) (sym (sym (getD-drop (suc i) vs j 0) ∙ e))))
+    ∙ getD-set-same q v (other (part q v)) 0 (let f = flips-long p (take i vs) in omega arith)
+
+pub undone-none : (moves : List Move) (kept : ℕ) (labels : List ℕ) → labels ≡ undone moves kept (kept - kept) labels
+unfolding undone
+undone-none moves kept labels = let r : kept - kept ≡ 0 = omega arith in rw r
+
+pub undone-long : (moves : List Move) (kept k : ℕ) (labels : List ℕ) → length (undone moves kept k labels) ≡ length labels
+unfolding undone
+undone-long moves kept zero labels = refl
+undone-long moves kept (suc k) labels = length-set (undone moves kept k labels) _ _ ∙ undone-long moves kept k labels
+
+other-twice : (q : ℕ) → q < 2 → other (other q) ≡ q
+other-twice q l = omega arith
+
+module _ (weights labels : List ℕ) (moves : List Move) (loads : List ℕ) (kept made : ℕ) (a : RewindAsked weights labels moves loads kept made) where
+  abbrev vs : List ℕ
+  vs = a .vs
+
+  -- the labels put back by k records
+  abbrev back-by : ℕ → List ℕ
+  back-by k = flips labels (take k (drop kept vs))
+
+  module _ (k : ℕ) (lt : k < made - kept) where
+    abbrev v : ℕ
+    v = getD vs (kept + k) 0
+
+    abbrev q : ℕ
+    q = part (flips (a .p) (take (kept + k) vs)) v
+
+    in-vs : kept + k < length vs
+    in-vs = let m = a .made-is in omega arith
+
+    record-is : getD moves (kept + k) none ≡ record { vertex = v; part = q }
+    record-is =
+        ap (λ (l : List Move). getD l (kept + k) none) (a .recorded-are)
+        ∙ List·getD-append (records (a .p) vs) (drop (length vs) (a .before)) none (kept + k) (let e = length-records (a .p) vs in let h = in-vs in omega arith)
+        ∙ records-at (a .p) vs (kept + k) in-vs
+
+    q-two : q < 2
+    q-two = two-flips (a .p) (take (kept + k) vs) (a .two) v
+
+    v-inside : v < length (a .p)
+    v-inside = a .inside (kept + k) in-vs
+
+    now-other : part (back-by k) v ≡ other q
+    now-other =
+        flips-other labels (take k (drop kept vs)) v
+        (λ i l e. (a .apart (kept + i) (kept + k) (below i l) in-vs (sym (getD-drop kept vs i 0) ∙ sym (getD-take k (drop kept vs) i 0 (less i l)) ∙ e)))
+        ∙ ap (λ (l : List ℕ). part l v) (a .labelled)
+        ∙ moved-once (a .p) vs (kept + k) (a .apart) in-vs v-inside
+      where
+        less : (i : ℕ) → i < length (take k (drop kept vs)) → i < k
+        less i l = take-less k (drop kept vs) i l
+
+        below : (i : ℕ) → i < length (take k (drop kept vs)) → kept + i < kept + k
+        below i l = let h = less i l in omega arith
+
+    -- what the record says is the other part of where the vertex is
+    put-back : set (back-by k) v q ≡ flip (back-by k) v
+    unfolding flip
+    put-back = ap (set (back-by k) v) (sym (ap other now-other ∙ other-twice q q-two))
+
+    one-more : flip (back-by k) v ≡ back-by (suc k)
+    one-more =
+        sym (ap (flips labels) (take-suc (drop kept vs) k 0 (let d = length-drop kept vs in let h = in-vs in omega arith) ∙ ap (λ (x : ℕ). take k (drop kept vs) ++ (x ∷ [])) (getD-drop kept vs k 0))
+        ∙ flips-more labels (take k (drop kept vs)) v)
+
+  -- a record below `made` is in the list
+  pub at-inside : (at : ℕ) → at < made → at < length moves
+  at-inside at l =
+      let m = a .made-is in
+      let r = ap length (a .recorded-are) ∙ recorded-long (a .p) vs (a .before) (a .room) in
+      let h = a .room in
+      omega arith
+
+  undone-back : (k : ℕ) → k ≤ made - kept → undone moves kept k labels ≡ back-by k
+  unfolding undone flips
+  undone-back zero h = refl
+  undone-back (suc k) h =
+      let ih = undone-back k (omega arith) in
+      let lt : k < made - kept = omega arith in
+      ap₂ (λ (l : List ℕ) (m : Move). set l (m .vertex) (m .part)) ih (record-is k lt) ∙ put-back k lt ∙ one-more k lt
+
+  -- the labels that the rewind leaves: those after the kept moves
+  pub undone-kept : undone moves kept (made - kept) labels ≡ flips (a .p) (take kept vs)
+  undone-kept =
+      undone-back (made - kept) (omega arith)
+      ∙ ap (flips labels) (take-all (made - kept) (drop kept vs) (let d = length-drop kept vs in let m = a .made-is in omega arith))
+      ∙ ap (λ (l : List ℕ). flips l (drop kept vs)) (a .labelled)
+      ∙ rewound (a .p) vs kept (a .two)
+
+  -- one turn at place `at`: the record read, the labels and the loads after it
+  module _ (labels′ : List ℕ) (back : List ℕ) (at : ℕ) (from : kept ≤ at) (upto : at < made) (so : labels′ ≡ undone moves kept (at - kept) labels) (loaded : back ≡ table 16 (load weights labels′)) (m : Move) (read : m ≡ getD moves at none) where
+    abbrev k′ : ℕ
+    k′ = at - kept
+
+    lt′ : at - kept < made - kept
+    lt′ = omega arith
+
+    at-is : kept + (at - kept) ≡ at
+    at-is = omega arith
+
+    m-is : m ≡ record { vertex = v k′ lt′; part = q k′ lt′ }
+    m-is = read ∙ ap (λ (i : ℕ). getD moves i none) (sym at-is) ∙ record-is k′ lt′
+
+    now : labels′ ≡ back-by k′
+    now = so ∙ undone-back k′ (omega arith)
+
+    long-now : length labels′ ≡ length (a .p)
+    long-now = ap length now ∙ flips-long labels (take k′ (drop kept vs)) ∙ ap length (a .labelled) ∙ flips-long (a .p) vs
+
+    two-now : (x : ℕ) → part labels′ x < 2
+    two-now x = rw now (two-flips labels (take k′ (drop kept vs)) (λ y. rw (a .labelled) (two-flips (a .p) vs (a .two) y)) x)
+
+    -- the vertex, as the code reads it
+    pub turn-inside : (i : ℕ) → i ≡ m .vertex → (i < length labels′) × (i < length weights) × (i < 4096)
+    turn-inside i e =
+        let f = ap (λ (x : Move). x .vertex) m-is in
+        let g = v-inside k′ lt′ in
+        let l = long-now in
+        let w = a .weighed in
+        let n = a .few in
+        (omega arith, omega arith, omega arith)
+
+    pub turn-asked : (i : ℕ) → i ≡ m .vertex → (part labels′ i < 2) × (length back ≡ 16) × (getD weights i 0 ≤ getD back (part labels′ i) 0) × (getD back (other (part labels′ i)) 0 ≤ mostWeight)
+    turn-asked i e =
+        let t = two-now i in
+        let s = turn-inside i e in
+        let at-own = ap (λ (l : List ℕ). getD l (part labels′ i) 0) loaded ∙ table-at 16 (part labels′ i) 0 (load weights labels′) (omega arith) in
+        let at-other = ap (λ (l : List ℕ). getD l (other (part labels′ i)) 0) loaded ∙ table-at 16 (other (part labels′ i)) 0 (load weights labels′) (omega arith) in
+        let w = load-within weights labels′ (a .weighed ∙ sym long-now) (other (part labels′ i)) in
+        let lim = a .light in
+        let h = load-holds weights labels′ i (s .0) t in
+        (t, ap length loaded ∙ length-table 16 (load weights labels′), omega arith, omega arith)
+
+    flipped : (i : ℕ) → i ≡ m .vertex → set labels′ i (m .part) ≡ flip labels′ i
+    flipped i e =
+        let f = e ∙ ap (λ (x : Move). x .vertex) m-is in
+        let g = ap (λ (x : Move). x .part) m-is in
+        rw (f, g, now) (put-back k′ lt′)
+
+    pub turn-labels : (i : ℕ) → i ≡ m .vertex → set labels′ i (m .part) ≡ undone moves kept (at + 1 - kept) labels
+    unfolding undone
+    turn-labels i e =
+        let r : at + 1 - kept ≡ suc (at - kept) = omega arith in
+        ap (λ (j : ℕ). set labels′ j (m .part)) e
+        ∙ ap₂ (λ (l : List ℕ) (x : Move). set l (x .vertex) (x .part)) so (read ∙ ap (λ (j : ℕ). getD moves j none) (sym at-is))
+        ∙ sym (rw r refl)
+
+    pub turn-loads : (i : ℕ) (next : List ℕ) → i ≡ m .vertex → next ≡ loadsAfter back (part labels′ i) (getD weights i 0) → next ≡ table 16 (load weights (set labels′ i (m .part)))
+    turn-loads i next e f =
+        f
+        ∙ ap (λ (l : List ℕ). loadsAfter l (part labels′ i) (getD weights i 0)) loaded
+        ∙ loads-follow weights labels′ i (turn-inside i e .0) (two-now i)
+        ∙ ap (λ (l : List ℕ). table 16 (load weights l)) (sym (flipped i e))

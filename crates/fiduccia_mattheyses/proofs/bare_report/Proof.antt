@@ -1,0 +1,15 @@
+-- `fiduccia_mattheyses::bare_report` meets its contract. Assumes nothing.
+use mathlib.Core.Path.{refl}
+use Rattle.lists.specs.Fill.{table}
+use borrow.Author.Needs.{needs}
+use Rattle.fiduccia_mattheyses.proofs.bare_report.Statement.{statement}
+use Rattle.fiduccia_mattheyses.proofs.bare_report.Tie as tie
+use Rattle.fiduccia_mattheyses.proofs.bare_report.Reads as reads
+use Rattle.fiduccia_mattheyses.proofs.bare_report.Lts as lts
+
+returns : tie.Need-returns
+unfolding table
+returns c = refl
+
+pub bare-report-spec : {M : Type 1} → statement M
+bare-report-spec = tie.close (tie.spec returns)

@@ -1,0 +1,23 @@
+-- `fiduccia_mattheyses::unfit_settings` meets its contract. Assumes nothing.
+use borrow.Author.Tests.{lt-ltb, le-ltb}
+use Rattle.fiduccia_mattheyses.specs.Entry.{unfit}
+use borrow.Author.Needs.{needs}
+use Rattle.fiduccia_mattheyses.proofs.unfit_settings.Statement.{statement}
+use Rattle.fiduccia_mattheyses.proofs.unfit_settings.Tie as tie
+use Rattle.fiduccia_mattheyses.proofs.unfit_settings.Reads as reads
+use Rattle.fiduccia_mattheyses.proofs.unfit_settings.Lts as lts
+use Rattle.imbalance.proofs.unfit_choice.Reads as unfit-choice-reads
+
+returns : tie.Need-returns
+unfolding unfit
+returns c = rw (lt-ltb _ _ (c .if1 .taken))
+
+unfit-choice-requires : tie.Need-unfit-choice-requires
+unfit-choice-requires c κs = search needs
+
+returns-2 : tie.Need-returns-2
+unfolding unfit
+returns-2 c = rw (le-ltb _ _ (c .before .if1 .left)) (c .unfit-choice .ensures)
+
+pub unfit-settings-spec : {M : Type 1} → statement M
+unfit-settings-spec = tie.close (tie.spec returns unfit-choice-requires returns-2)

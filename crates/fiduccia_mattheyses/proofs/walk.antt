@@ -1,0 +1,10 @@
+-- Made by tools/walkgen.py: do not edit.
+pub mod put_move
+pub mod move_at
+pub mod clear
+pub mod walk_moves
+pub mod rewind
+pub mod pass
+pub mod make_passes
+pub mod refine
+pub mod fiduccia_mattheyses

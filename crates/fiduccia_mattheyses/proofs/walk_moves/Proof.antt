@@ -1,0 +1,122 @@
+-- `fiduccia_mattheyses::walk_moves` meets its contract: each turn is a law of `Walking`. Assumes nothing.
+mod Lts
+mod Tie
+use mathlib.Core.Path.{_≡_, refl, sym, ap, _∙_}
+use Prim.Native.Nat.{ℕ, _-_}
+use native.Mathlib.Omega.{arith}
+use lib.ListN.{length}
+use borrow.Author.Needs.{needs}
+use Rattle.fiduccia_mattheyses_pass.proofs.Updates.{back}
+use Rattle.fiduccia_mattheyses.specs.Inner.{settingBy}
+use Rattle.fiduccia_mattheyses.proofs.Walking.{Walking, answer, walking-start, scanned, walking-stop, walking-full, move-room, move-asked, walking-move, moves-long}
+use Rattle.fiduccia_mattheyses.proofs.walk_moves.Statement.{statement}
+use Rattle.fiduccia_mattheyses.proofs.walk_moves.Proof.Tie as tie
+use Rattle.fiduccia_mattheyses.proofs.walk.walk_moves.Reads as reads
+use Rattle.fiduccia_mattheyses.proofs.walk_moves.Proof.Lts as lts
+use Rattle.fiduccia_mattheyses.proofs.narrow.Reads as narrow-reads
+use Rattle.fiduccia_mattheyses.proofs.walk.put_move.Reads as put-move-reads
+use Rattle.fiduccia_mattheyses_pass.proofs.make_move.Reads as make-move-reads
+use Rattle.fiduccia_mattheyses_pass.proofs.next_move.Reads as next-move-reads
+
+abbrev Inv-loop : tie.InvT-loop
+Inv-loop starts neighbours arc-weights weights labels₀ gains₀ moves₀ ceilings bad-limit limit st₀ made₀ labels gains moves st made = Walking (settingBy starts neighbours arc-weights weights (ceilings .at) bad-limit limit) limit labels₀ moves₀ labels gains moves st made
+
+abbrev μ-loop : tie.MeasureT-loop
+μ-loop starts neighbours arc-weights weights labels₀ gains₀ moves₀ ceilings bad-limit limit st₀ made₀ labels gains moves st made = limit - made
+
+loop-holds : tie.Need-loop-holds Inv-loop μ-loop
+loop-holds c = walking-start _ _ _ _ _ _ (c .before .before .before .before .before .pre)
+
+next-move-requires : tie.Need-next-move-requires Inv-loop μ-loop
+next-move-requires c κs = scanned _ _ _ _ (c .before .before .before .before .before .before .before .before .before .pre .fixed) (c .before .before .before .before .before .before .before .before .before .pre .room) _ _ _ _ _ (c .before .before .before .loop .inv)
+
+enum-known-next : tie.Need-enum-known-next Inv-loop μ-loop
+enum-known-next c = search needs
+
+enum-told : tie.Need-enum-told Inv-loop μ-loop
+enum-told c = search needs
+
+same-length : tie.Need-same-length Inv-loop μ-loop
+same-length c = c .before .before .before .before .before .before .loop .inv .stands .long
+
+same-length-2 : tie.Need-same-length-2 Inv-loop μ-loop
+same-length-2 c = c .before .before .before .before .before .before .loop .inv .stands .gained .long ∙ c .before .before .before .before .before .before .loop .inv .stands .long ∙ sym (c .before .before .before .before .before .before .before .before .before .before .before .before .pre .stands .gained .long)
+
+same-length-3 : tie.Need-same-length-3 Inv-loop μ-loop
+same-length-3 c = moves-long _ _ _ _ (c .before .before .before .before .before .before .before .before .before .before .before .before .pre .fixed) (c .before .before .before .before .before .before .before .before .before .before .before .before .pre .room) _ _ _ _ _ (c .before .before .before .before .before .before .loop .inv)
+
+returns : tie.Need-returns Inv-loop μ-loop
+unfolding answer
+returns c = walking-stop _ _ _ _ (c .before .before .before .before .before .before .before .before .before .before .before .before .pre .fixed) (c .before .before .before .before .before .before .before .before .before .before .before .before .pre .room) _ _ _ _ _ (c .before .before .before .before .before .before .loop .inv) _ (c .before .before .next-move .ensures) (c .enum-told .given .1)
+
+narrow-requires : tie.Need-narrow-requires Inv-loop μ-loop
+unfolding answer
+narrow-requires c κs = move-room _ _ _ _ (c .before .before .before .before .before .before .before .before .before .before .before .before .before .before .pre .fixed) (c .before .before .before .before .before .before .before .before .before .before .before .before .before .before .pre .room) _ _ _ _ _ (c .before .before .before .before .before .before .before .before .loop .inv) _ _ _ _ (c .before .before .before .before .next-move .ensures) (c .before .before .next .given .1) .1
+
+mul-put-move : tie.Need-mul-put-move Inv-loop μ-loop
+unfolding answer
+mul-put-move c = let v = move-room _ _ _ _ (c .before .before .before .before .before .before .before .before .before .before .before .before .before .before .before .pre .fixed) (c .before .before .before .before .before .before .before .before .before .before .before .before .before .before .before .pre .room) _ _ _ _ _ (c .before .before .before .before .before .before .before .before .before .loop .inv) _ _ _ _ (c .before .before .before .before .before .next-move .ensures) (c .before .before .before .next .given .1) .1 in record { fits = omega arith }
+
+slice-read-put-move : tie.Need-slice-read-put-move Inv-loop μ-loop
+unfolding answer
+slice-read-put-move c = move-room _ _ _ _ (c .before .before .before .before .before .before .before .before .before .before .before .before .before .before .before .before .pre .fixed) (c .before .before .before .before .before .before .before .before .before .before .before .before .before .before .before .before .pre .room) _ _ _ _ _ (c .before .before .before .before .before .before .before .before .before .before .loop .inv) _ _ _ _ (c .before .before .before .before .before .before .next-move .ensures) (c .before .before .before .before .next .given .1) .0
+
+put-move-requires : tie.Need-put-move-requires Inv-loop μ-loop
+unfolding answer
+put-move-requires c κs = move-room _ _ _ _ (c .before .before .before .before .before .before .before .before .before .before .before .before .before .before .before .before .pre .fixed) (c .before .before .before .before .before .before .before .before .before .before .before .before .before .before .before .before .pre .room) _ _ _ _ _ (c .before .before .before .before .before .before .before .before .before .before .loop .inv) _ _ _ _ (c .before .before .before .before .before .before .next-move .ensures) (c .before .before .before .before .next .given .1) .2
+
+add-made : tie.Need-add-made Inv-loop μ-loop
+add-made c = search needs
+
+make-move-requires : tie.Need-make-move-requires Inv-loop μ-loop
+unfolding answer
+make-move-requires c κs = rw (back (c .before .before .before .before .before .before .before .before .next .given .0 .1 .0) (c .before .before .before .before .before .before .before .known-told .given .1 .0 .1)) (move-asked _ _ _ _ (c .before .before .before .before .before .before .before .before .before .before .before .before .before .before .before .before .before .before .before .before .pre .fixed) (c .before .before .before .before .before .before .before .before .before .before .before .before .before .before .before .before .before .before .before .before .pre .room) _ _ _ _ _ (c .before .before .before .before .before .before .before .before .before .before .before .before .before .before .loop .inv) _ _ _ _ (c .before .before .before .before .before .before .before .before .before .before .next-move .ensures) (c .before .before .before .before .before .before .before .before .next .given .1))
+
+loop-less : tie.Need-loop-less Inv-loop μ-loop
+loop-less c = search needs
+
+loop-again : tie.Need-loop-again Inv-loop μ-loop
+unfolding answer
+loop-again c =
+    let h = back (c .before .before .before .before .before .before .before .before .before .before .before .before .next .given .0 .1 .0) (c .before .before .before .before .before .before .before .before .before .before .before .known-told .given .1 .0 .1) in
+    let m = c .before .before .before .make-move .ensures in
+    walking-move _ _ _ _ (c .before .before .before .before .before .before .before .before .before .before .before .before .before .before .before .before .before .before .before .before .before .before .before .before .pre .fixed) (c .before .before .before .before .before .before .before .before .before .before .before .before .before .before .before .before .before .before .before .before .before .before .before .before .pre .room) _ _ _ _ _ (c .before .before .before .before .before .before .before .before .before .before .before .before .before .before .before .before .before .before .loop .inv) _ _ _ _ (c .before .before .before .before .before .before .before .before .before .before .before .before .before .before .next-move .ensures) (c .before .before .before .before .before .before .before .before .before .before .before .before .next .given .1) (c .before .before .before .before .before .before .before .before .before .before .before .before .before .before .before .before .before .loop-test .taken) _ _ _ _ _ refl (rw (c .before .before .before .before .before .before .before .before .before .narrow .ensures) at (c .before .before .before .before .before .before .before .put-move .ensures)) (m .0) (m .1) (rw h at (m .2))
+
+same-length-4 : tie.Need-same-length-4 Inv-loop μ-loop
+same-length-4 c = c .before .loop .inv .stands .long
+
+same-length-5 : tie.Need-same-length-5 Inv-loop μ-loop
+same-length-5 c = c .before .loop .inv .stands .gained .long ∙ c .before .loop .inv .stands .long ∙ sym (c .before .before .before .before .before .before .before .pre .stands .gained .long)
+
+same-length-6 : tie.Need-same-length-6 Inv-loop μ-loop
+same-length-6 c = moves-long _ _ _ _ (c .before .before .before .before .before .before .before .pre .fixed) (c .before .before .before .before .before .before .before .pre .room) _ _ _ _ _ (c .before .loop .inv)
+
+returns-2 : tie.Need-returns-2 Inv-loop μ-loop
+returns-2 c = walking-full _ _ _ _ (c .before .before .before .before .before .before .before .pre .fixed) (c .before .before .before .before .before .before .before .pre .room) _ _ _ _ _ (c .before .loop .inv) (c .loop-test .left)
+
+pub walk-moves-spec : {M : Type 1} → statement M
+walk-moves-spec =
+    tie.close
+    (tie.spec
+    Inv-loop
+    μ-loop
+    loop-holds
+    next-move-requires
+    enum-known-next
+    enum-told
+    same-length
+    same-length-2
+    same-length-3
+    returns
+    narrow-requires
+    mul-put-move
+    slice-read-put-move
+    put-move-requires
+    add-made
+    make-move-requires
+    loop-less
+    loop-again
+    same-length-4
+    same-length-5
+    same-length-6
+    returns-2)

@@ -1,0 +1,144 @@
+-- What the functions inside the entry ask and answer: the moves of a pass in their records, the rewind, the pass, the passes.
+use mathlib.Core.Path.{_≡_}
+use mathlib.Core.Bool.{true, false}
+use mathlib.Core.List.{List, [], _∷_, _++_, map}
+use Prim.Native.Nat.{ℕ, zero, suc, _+_, _-_, _≤_, _<_}
+use lib.ListN.{length, getD, set, drop}
+use lib.IntN.{ℤ, pos}
+use Rattle.lists.specs.Sum.{total}
+use Rattle.lists.specs.Fill.{table}
+use Rattle.imbalance.specs.Limit.{mostVertices, mostWeight, labelAbove}
+use Rattle.imbalance.specs.Ceiling.{unfitChoice}
+use Rattle.topology.specs.Rule.{Sound}
+use Rattle.imbalance.specs.Load.{part, load}
+use Rattle.topology.specs.Graph.{inRows}
+use Rattle.topology.specs.Cut.{cut}
+use Rattle.fiduccia_mattheyses_pass.specs.Choice.{Setting, flip}
+use Rattle.fiduccia_mattheyses_pass.specs.Pass.{State, Pass, start, walk, flips, pass}
+use Rattle.fiduccia_mattheyses_pass.specs.Standing.{Fixed, Stands, Apart}
+use Rattle.fiduccia_mattheyses_pass.specs.declared.Standing.{Standing}
+use Rattle.imbalance.specs.declared.Loads.{Loads}
+use Rattle.fiduccia_mattheyses.specs.declared.Move.{Move}
+use Rattle.fiduccia_mattheyses.specs.declared.Passed.{Passed}
+use Rattle.fiduccia_mattheyses.specs.declared.Ended.{Ended}
+use Rattle.fiduccia_mattheyses.specs.Run.{Run, run}
+use Rattle.fiduccia_mattheyses.specs.Entry.{Plan, Lent, graphOf, none, over, reportOf, leftBy}
+use Rattle.fiduccia_mattheyses.specs.declared.Report.{Report}
+
+-- the setting that a function's parameters stand for
+abbrev pub settingBy : List ℕ → List ℕ → List ℕ → List ℕ → List ℕ → ℕ → ℕ → Setting
+settingBy starts neighbours arcs weights ceilings badLimit moveLimit =
+    record { graph = inRows starts neighbours arcs; weights = weights; ceilings = ceilings; movable = λ v. true; badLimit = badLimit; moveLimit = moveLimit }
+
+-- where a pass starts, with these loads and this cut
+abbrev pub firstStanding : Loads → ℕ → Standing
+firstStanding loads cut = record { loads = loads; cut = pos cut; least = pos cut; kept = 0; bad = 0 }
+
+-- "The moves of a pass stand in a lent list of move records: vertex and part before": of the vertices vs, moved in order from the labels p
+unfoldable pub records : List ℕ → List ℕ → List Move
+records p [] = []
+records p (v ∷ vs) = record { vertex = v; part = part p v } ∷ records (flip p v) vs
+
+-- the records at the list's front, and past them what stood there
+abbrev pub recorded : List ℕ → List ℕ → List Move → List Move
+recorded p vs moves = records p vs ++ drop (length vs) moves
+
+-- What the walk asks: all in order, the code standing at the pass's start, room for a record a vertex.
+pub record WalkAsked (s : Setting) (labels : List ℕ) (gains : List ℤ) (moves : List Move) (first : Standing) : Type 0 where
+  pub fixed : Fixed s (length labels)
+  pub stands : Stands s (length labels) (start s labels) labels gains first
+  pub room : length labels ≤ length moves
+
+-- What the walk answers: the code stands at the end e of the defined walk from p, and each move is recorded.
+pub record WalkDone (s : Setting) (p : List ℕ) (moves₀ : List Move) (e : State) (labels : List ℕ) (gains : List ℤ) (moves : List Move) (made : ℕ) (last : Standing) : Type 0 where
+  pub stands : Stands s (length p) e labels gains last
+  pub moved-from : e .labels ≡ flips p (e .moved)
+  pub recorded-are : moves ≡ recorded p (e .moved) moves₀
+  pub made-is : made ≡ length (e .moved)
+  pub kept-within : e .kept ≤ length (e .moved)
+
+-- the labels put back by k records from `from` on: "the rewind walks the records from the kept prefix on"
+unfoldable pub undone : List Move → ℕ → ℕ → List ℕ → List ℕ
+undone moves from zero p = p
+undone moves from (suc k) p = set (undone moves from k p) (getD moves (from + k) none .vertex) (getD moves (from + k) none .part)
+
+-- What the rewind asks: labels that come of moves vs from labels p, no vertex twice, all recorded, and the loads of these labels.
+pub record RewindAsked (weights labels : List ℕ) (moves : List Move) (loads : List ℕ) (kept made : ℕ) : Type 0 where
+  pub p : List ℕ
+  pub vs : List ℕ
+  pub before : List Move
+  pub labelled : labels ≡ flips p vs
+  pub recorded-are : moves ≡ recorded p vs before
+  pub room : length vs ≤ length before
+  pub made-is : made ≡ length vs
+  pub kept-within : kept ≤ made
+  pub loaded : loads ≡ table 16 (load weights labels)
+  pub weighed : length weights ≡ length p
+  pub few : length weights ≤ mostVertices
+  pub light : total weights ≤ mostWeight
+  pub two : (x : ℕ) → part p x < 2
+  pub apart : Apart vs
+  pub inside : (i : ℕ) → i < length vs → getD vs i 0 < length p
+
+-- What a pass asks: all in order, the cut and the loads of the labels, room for the gains and the records.
+pub record PassAsked (s : Setting) (labels : List ℕ) (gains : List ℤ) (moves : List Move) (loads : List ℕ) (cut₀ : ℕ) : Type 0 where
+  pub fixed : Fixed s (length labels)
+  pub two : (x : ℕ) → part labels x < 2
+  pub gained : length gains ≡ length labels
+  pub room : length labels ≤ length moves
+  pub loaded : loads ≡ table 16 (load (s .weights) labels)
+  pub cut-is : cut₀ ≡ cut (s .graph) labels
+
+-- What a pass answers: the defined pass from p, its cut and its loads; the list of moves is unchanged past n.
+pub record PassDone (s : Setting) (p : List ℕ) (moves₀ : List Move) (labels : List ℕ) (moves : List Move) (r : Passed) : Type 0 where
+  pub labelled : labels ≡ pass s p .labels
+  pub made-is : r .made ≡ pass s p .made
+  pub kept-within : r .kept ≤ r .made
+  pub rewound-is : r .made - r .kept ≡ pass s p .rewound
+  pub few : r .made ≤ length p
+  pub least-is : r .cut ≡ pass s p .least
+  pub cut-is : r .cut ≡ cut (s .graph) labels
+  pub loaded : r .loads .at ≡ table 16 (load (s .weights) labels)
+  pub two : (x : ℕ) → part labels x < 2
+  pub long : length labels ≡ length p
+  pub moves-long : length moves ≡ length moves₀
+  pub moves-past : drop (length p) moves ≡ drop (length p) moves₀
+
+-- What the passes ask besides: room for a row a pass.
+pub record PassesAsked (s : Setting) (limit : ℕ) (labels : List ℕ) (gains : List ℤ) (moves : List Move) (made rewound loads : List ℕ) (cut₀ : ℕ) : Type 0 where
+  pub begun : PassAsked s labels gains moves loads cut₀
+  pub in-made : limit ≤ length made
+  pub in-rewound : limit ≤ length rewound
+  pub few-passes : limit ≤ 1024
+
+-- What the passes answer: the defined run from p, its rows written, the cut and the loads of the labels left.
+pub record PassesDone (s : Setting) (limit : ℕ) (p : List ℕ) (moves₀ : List Move) (made₀ rewound₀ labels : List ℕ) (moves : List Move) (made rewound : List ℕ) (r : Ended) : Type 0 where
+  pub labelled : labels ≡ run s limit p .labels
+  pub end-is : r .end ≡ run s limit p .end
+  pub passes-are : r .passes ≡ length (run s limit p .rows)
+  pub cut-is : r .cut ≡ cut (s .graph) labels
+  pub loaded : r .loads .at ≡ table 16 (load (s .weights) labels)
+  pub made-are : made ≡ over (map (λ (x : Pass). x .made) (run s limit p .rows)) made₀
+  pub rewound-are : rewound ≡ over (map (λ (x : Pass). x .rewound) (run s limit p .rows)) rewound₀
+  pub moves-long : length moves ≡ length moves₀
+  pub moves-past : drop (length p) moves ≡ drop (length p) moves₀
+
+-- What the run asks, once no number applies.
+pub record Ready (p : Plan) (l : Lent) : Type 0 where
+  pub sound : Sound (length (l .labels)) (p .weights) (graphOf p)
+  pub labelled : labelAbove 1 (l .labels) ≡ false
+  pub few-passes : p .settings .passes ≤ 1024
+  pub fit : unfitChoice (p .settings .choice) (p .settings .imbalance) ≡ false
+  pub in-gains : length (l .labels) ≤ length (l .gains)
+  pub in-moves : length (l .labels) ≤ length (l .moves)
+  pub in-made : p .settings .passes ≤ length (l .made)
+  pub in-rewound : p .settings .passes ≤ length (l .rewound)
+
+-- What the run answers.
+pub record Ran (p : Plan) (l : Lent) (r : Report) (k : Lent) : Type 0 where
+  pub answered : r ≡ reportOf p l
+  pub labels : k .labels ≡ leftBy p l .labels
+  pub gains : k .gains ≡ leftBy p l .gains
+  pub moves : k .moves ≡ leftBy p l .moves
+  pub made : k .made ≡ leftBy p l .made
+  pub rewound : k .rewound ≡ leftBy p l .rewound

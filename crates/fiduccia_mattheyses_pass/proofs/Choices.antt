@@ -1,0 +1,72 @@
+-- The scan over the lists of gains and loads finds FM's choice. Assumes nothing.
+use mathlib.Core.Path.{_≡_, refl, sym, ap, ap₂, _∙_}
+use mathlib.Core.Bool.{Bool, true, false, not, cond, _&&_, _||_}
+use mathlib.Core.List.{List}
+use mathlib.Core.Option.{Option, none, some}
+use Prim.Native.Nat.{ℕ, zero, suc, _+_, _-_, _≤_, _<_}
+use native.Mathlib.Omega.{arith}
+use lib.Dec.{ltb, leb, eqb}
+use lib.ListN.{length, getD}
+use lib.IntN.{ℤ, pos}
+use lib.Signed.{mag, ltZ, leZ}
+use borrow.Author.Tests.{not-true}
+use Rattle.lists.specs.Best.{best}
+use Rattle.lists.proofs.Bools.{and-left, and-right}
+use Rattle.imbalance.specs.Load.{part, load}
+use Rattle.fiduccia_mattheyses_pass.specs.Choice.{Setting, other, member, worth, after, fits, allowed, better, choice}
+use Rattle.fiduccia_mattheyses_pass.specs.Scan.{lock, isFree, beats, picked, may, over, pickBelow, loadAfter, ceilingAt}
+use Rattle.fiduccia_mattheyses_pass.specs.Standing.{Gains}
+use Rattle.fiduccia_mattheyses_pass.specs.declared.Pick.{Pick}
+use Rattle.fiduccia_mattheyses_pass.specs.declared.Pick.the-variants.{Nobody, Vertex}
+use Rattle.lists.proofs.Bests.{best-in, best-ext}
+use Rattle.fiduccia_mattheyses_pass.proofs.Follows.{free-small}
+use Rattle.fiduccia_mattheyses_pass.proofs.Worths.{Light, worth-small}
+
+module _ (s : Setting) (p locked : List ℕ) (gs : List ℤ) (loads : List ℕ) (all-may : (v : ℕ) → s .movable v ≡ true) (light : Light (s .graph)) (h : Gains s p locked gs) (ls : (t : ℕ) → t < 2 → getD loads t 0 ≡ load (s .weights) p t) where
+  abbrev n : ℕ
+  n = length p
+
+  abbrev L : ℕ → ℕ
+  L = loadAfter loads (s .weights) p
+
+  abbrev C : ℕ → ℕ
+  C = ceilingAt (s .ceilings) p
+
+  loads-same : (v : ℕ) → L v ≡ after s p v
+  unfolding after
+  loads-same v = rw (ls (other (part p v)) (omega arith))
+
+  free-same : (v : ℕ) → v < n → isFree (getD gs v (pos 0)) ≡ not (member v locked)
+  free-same v l = rw (h .each v l) (go (member v locked))
+    where
+      go : (m : Bool) → isFree (cond m lock (worth s p v)) ≡ not m
+      go true = refl
+      go false = let q = worth-small s p v light in free-small (worth s p v) (omega arith)
+
+  may-same : (v : ℕ) → v < n → may gs L C v ≡ allowed s p locked v
+  unfolding allowed fits
+  may-same v l = rw (free-same v l, loads-same v, all-may v)
+
+  worth-same : (v : ℕ) → v < n → allowed s p locked v ≡ true → getD gs v (pos 0) ≡ worth s p v
+  unfolding allowed
+  worth-same v l e = h .each v l ∙ rw (not-true (member v locked) (and-right (s .movable v) (not (member v locked)) (and-left (s .movable v && not (member v locked)) (fits s p v) e)))
+
+  over-same : (u v : ℕ) → u < n → v < n → may gs L C u ≡ true → may gs L C v ≡ true → over gs L C u v ≡ better s p u v
+  unfolding better
+  over-same u v lu lv eu ev = rw (worth-same u lu (sym (may-same u lu) ∙ eu), worth-same v lv (sym (may-same v lv) ∙ ev), loads-same u, loads-same v)
+
+  same-choice : best (may gs L C) (over gs L C) n ≡ choice s p locked
+  unfolding choice
+  same-choice = best-ext (may gs L C) (allowed s p locked) (over gs L C) (better s p) n may-same over-same
+
+  pub choice-in : (v : ℕ) → choice s p locked ≡ some v → (v < n) × (allowed s p locked v ≡ true)
+  unfolding choice
+  choice-in v e = best-in (allowed s p locked) (better s p) n v e
+
+  -- the pick is the choice, with what its move is worth and the load of its target
+  pub pick-choice : pickBelow gs L C n ≡ picked (worth s p) (after s p) (choice s p locked)
+  pick-choice = rw same-choice (go (choice s p locked) refl)
+    where
+      go : (o : Option ℕ) → choice s p locked ≡ o → picked (λ v. getD gs v (pos 0)) L o ≡ picked (worth s p) (after s p) o
+      go none e = refl
+      go (some v) e = let r = choice-in v e in rw (worth-same v (r .0) (r .1), loads-same v)

@@ -1,0 +1,11 @@
+-- The laws of a pass's moves.
+pub mod Moved
+pub mod Scans
+pub mod Updates
+pub mod Follows
+pub mod Worths
+pub mod Choices
+pub mod Stands
+pub mod Backs
+pub mod Walks
+pub mod Keeps

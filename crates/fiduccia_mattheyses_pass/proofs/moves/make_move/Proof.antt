@@ -1,0 +1,62 @@
+-- `fiduccia_mattheyses_pass::moves::make_move` meets its contract: the loads, the label and gains, and the standing, each by its function. Assumes nothing.
+use mathlib.Core.Path.{_≡_, ap, _∙_}
+use mathlib.Core.List.{List}
+use Prim.Native.Nat.{ℕ}
+use native.Mathlib.Omega.{arith}
+use mir.Facts.{toZ-ofZ}
+use Rattle.fiduccia_mattheyses_pass.specs.Standing.{standingWith}
+use borrow.Author.Needs.{needs}
+use Rattle.fiduccia_mattheyses_pass.proofs.moves.make_move.Statement.{statement}
+use Rattle.fiduccia_mattheyses_pass.proofs.moves.make_move.Tie as tie
+use Rattle.fiduccia_mattheyses_pass.proofs.moves.make_move.Reads as reads
+use Rattle.fiduccia_mattheyses_pass.proofs.moves.make_move.Lts as lts
+use Rattle.fiduccia_mattheyses_pass.proofs.moves.move_vertex.Reads as move-vertex-reads
+use Rattle.fiduccia_mattheyses_pass.proofs.moves.moved_loads.Reads as moved-loads-reads
+use Rattle.fiduccia_mattheyses_pass.proofs.moves.next_standing.Reads as next-standing-reads
+
+mul-moved-loads : tie.Need-mul-moved-loads
+mul-moved-loads c = search needs
+
+slice-read-moved-loads : tie.Need-slice-read-moved-loads
+slice-read-moved-loads c = search needs
+
+mul-moved-loads-2 : tie.Need-mul-moved-loads-2
+mul-moved-loads-2 c = search needs
+
+shared-slice-read-moved-loads : tie.Need-shared-slice-read-moved-loads
+shared-slice-read-moved-loads c = search needs
+
+moved-loads-requires : tie.Need-moved-loads-requires
+moved-loads-requires c κs = let q = c .before .before .before .before .before .before .before .before .pre in let v = c .before .before .before .before .before .before .before .before .args .v in let t = q .scanned .two v in (t, q .scanned .sixteen, q .held, q .scanned .light _ (omega arith))
+
+move-vertex-requires : tie.Need-move-vertex-requires
+move-vertex-requires c κs = let q = c .before .before .before .before .before .before .before .before .before .before .before .pre in (q .rows, q .here, q .scanned .gained, q .scanned .two (c .before .before .before .before .before .before .before .before .before .before .before .args .v), q .smallGains)
+
+next-standing-requires : tie.Need-next-standing-requires
+next-standing-requires c κs = search needs
+
+same-length : tie.Need-same-length
+same-length c = search needs
+
+same-length-2 : tie.Need-same-length-2
+same-length-2 c = search needs
+
+returns : tie.Need-returns
+returns c =
+    let m = c .before .before .before .before .move-vertex .ensures in
+    (m .0, m .1, (rw (toZ-ofZ (c .before .before .before .before .before .before .before .before .before .before .before .before .before .before .before .before .fits .g)) at (c .next-standing .ensures)) ∙ ap (λ (l : List ℕ). standingWith (c .before .before .before .before .before .before .before .before .before .before .before .before .before .before .before .before .args .st) l (c .before .before .before .before .before .before .before .before .before .before .before .before .before .before .before .before .args .g) (c .before .before .before .before .before .before .before .before .before .before .before .before .before .before .before .before .args .bad) (c .before .before .before .before .before .before .before .before .before .before .before .before .before .before .before .before .args .made)) (c .before .before .before .before .before .before .before .moved-loads .ensures))
+
+pub make-move-spec : {M : Type 1} → statement M
+make-move-spec =
+    tie.close
+    (tie.spec
+    mul-moved-loads
+    slice-read-moved-loads
+    mul-moved-loads-2
+    shared-slice-read-moved-loads
+    moved-loads-requires
+    move-vertex-requires
+    next-standing-requires
+    same-length
+    same-length-2
+    returns)

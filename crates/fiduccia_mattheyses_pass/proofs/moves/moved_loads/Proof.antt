@@ -1,0 +1,77 @@
+-- `fiduccia_mattheyses_pass::moves::moved_loads` meets its contract. Assumes nothing.
+use mathlib.Core.Path.{_≡_, refl, ap}
+use Prim.Native.Nat.{ℕ, _-_}
+use native.Mathlib.Omega.{arith}
+use lib.ListN.{getD}
+use borrow.Author.Needs.{needs}
+use Rattle.fiduccia_mattheyses_pass.proofs.moves.moved_loads.Statement.{statement}
+use Rattle.fiduccia_mattheyses_pass.proofs.moves.moved_loads.Tie as tie
+use Rattle.fiduccia_mattheyses_pass.proofs.moves.moved_loads.Reads as reads
+use Rattle.fiduccia_mattheyses_pass.proofs.moves.moved_loads.Lts as lts
+use Rattle.lists.proofs.index.Reads as index-reads
+use Rattle.lists.proofs.wide.Reads as wide-reads
+
+index-requires : tie.Need-index-requires
+index-requires c κs = search needs
+
+sub-to : tie.Need-sub-to
+sub-to c = search needs
+
+mul-next : tie.Need-mul-next
+mul-next c = search needs
+
+array-read-next : tie.Need-array-read-next
+array-read-next c = search needs
+
+wide-requires : tie.Need-wide-requires
+wide-requires c κs = search needs
+
+sub-next : tie.Need-sub-next
+sub-next c = rw (c .wide .ensures, c .before .before .index .ensures) (c .before .before .before .pre .2)
+
+mul-next-2 : tie.Need-mul-next-2
+mul-next-2 c = search needs
+
+element-write-next : tie.Need-element-write-next
+element-write-next c = search needs
+
+mul-next-3 : tie.Need-mul-next-3
+mul-next-3 c = search needs
+
+array-read-next-2 : tie.Need-array-read-next-2
+array-read-next-2 c = search needs
+
+wide-requires-2 : tie.Need-wide-requires-2
+wide-requires-2 c κs = search needs
+
+add-next : tie.Need-add-next
+add-next c = let e = ap (λ (i : ℕ). getD (c .before .before .before .before .args .loads .at) (1 - i) 0) (c .before .before .before .index .ensures) in omega (arith, e, c .before .before .before .before .pre .3, c .wide2 .ensures, c .before .before .before .before .fits .w)
+
+mul-next-4 : tie.Need-mul-next-4
+mul-next-4 c = search needs
+
+element-write-next-2 : tie.Need-element-write-next-2
+element-write-next-2 c = search needs
+
+returns : tie.Need-returns
+returns c = rw (c .before .wide .ensures, c .wide2 .ensures, c .before .before .before .index .ensures) refl
+
+pub moved-loads-spec : {M : Type 1} → statement M
+moved-loads-spec =
+    tie.close
+    (tie.spec
+    index-requires
+    sub-to
+    mul-next
+    array-read-next
+    wide-requires
+    sub-next
+    mul-next-2
+    element-write-next
+    mul-next-3
+    array-read-next-2
+    wide-requires-2
+    add-next
+    mul-next-4
+    element-write-next-2
+    returns)

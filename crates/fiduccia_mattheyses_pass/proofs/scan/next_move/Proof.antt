@@ -1,0 +1,39 @@
+-- `fiduccia_mattheyses_pass::scan::next_move` meets its contract: each way out is a law of `Scans`. Assumes nothing.
+use mir.Syntax.{w64}
+use mir.ValLaws.{toZ-ofZ}
+use Rattle.fiduccia_mattheyses_pass.proofs.Scans.{next-nobody, next-stop, next-bad, next-good}
+use borrow.Author.Needs.{needs}
+use Rattle.fiduccia_mattheyses_pass.proofs.scan.next_move.Statement.{statement}
+use Rattle.fiduccia_mattheyses_pass.proofs.scan.next_move.Tie as tie
+use Rattle.fiduccia_mattheyses_pass.proofs.scan.next_move.Reads as reads
+use Rattle.fiduccia_mattheyses_pass.proofs.scan.next_move.Lts as lts
+use Rattle.fiduccia_mattheyses_pass.proofs.scan.choose.Reads as choose-reads
+
+choose-requires : tie.Need-choose-requires
+choose-requires c κs = search needs
+
+enum-known-v : tie.Need-enum-known-v
+enum-known-v c = search needs
+
+enum-told : tie.Need-enum-told
+enum-told c = search needs
+
+returns : tie.Need-returns
+returns c = next-nobody _ _ _ _ (c .before .before .choose .ensures) (c .enum-told .given .1)
+
+returns-2 : tie.Need-returns-2
+returns-2 c = let b = c .before .before .before .v .given in let h = (toZ-ofZ w64 (b .0 .1 .0) (record { sfits = c .before .before .known-told .given .1 .0 .1 })) in next-stop _ _ _ _ (c .before .before .before .before .before .choose .ensures) _ _ _ (b .1) (rw h at (c .before .if1 .taken)) (c .if2 .taken)
+
+add-t14 : tie.Need-add-t14
+add-t14 c = search needs
+
+returns-3 : tie.Need-returns-3
+returns-3 c = let b = c .before .before .before .v .given in let h = (toZ-ofZ w64 (b .0 .1 .0) (record { sfits = c .before .before .known-told .given .1 .0 .1 })) in rw h (next-bad _ _ _ _ (c .before .before .before .before .before .choose .ensures) _ _ _ (b .1) (rw h at (c .before .if1 .taken)) (c .if2 .left))
+
+returns-4 : tie.Need-returns-4
+returns-4 c = let b = c .before .before .v .given in let h = (toZ-ofZ w64 (b .0 .1 .0) (record { sfits = c .before .known-told .given .1 .0 .1 })) in rw h (next-good _ _ _ _ (c .before .before .before .before .choose .ensures) _ _ _ (b .1) (rw h at (c .if1 .left)))
+
+pub next-move-spec : {M : Type 1} → statement M
+next-move-spec =
+    tie.close
+    (tie.spec choose-requires enum-known-v enum-told returns returns-2 add-t14 returns-3 returns-4)

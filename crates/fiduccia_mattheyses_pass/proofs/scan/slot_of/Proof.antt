@@ -1,0 +1,16 @@
+-- `fiduccia_mattheyses_pass::scan::slot_of` meets its contract. Assumes nothing.
+use mir.Facts.{toZ-ofZ}
+use borrow.Author.Needs.{needs}
+use Rattle.fiduccia_mattheyses_pass.proofs.scan.slot_of.Statement.{statement}
+use Rattle.fiduccia_mattheyses_pass.proofs.scan.slot_of.Tie as tie
+use Rattle.fiduccia_mattheyses_pass.proofs.scan.slot_of.Reads as reads
+use Rattle.fiduccia_mattheyses_pass.proofs.scan.slot_of.Lts as lts
+
+returns : tie.Need-returns
+returns c = let e = toZ-ofZ (c .before .fits .g) in rw (e, rw e at (c .if1 .taken))
+
+returns-2 : tie.Need-returns-2
+returns-2 c = rw (rw (toZ-ofZ (c .before .fits .g)) at (c .if1 .left))
+
+pub slot-of-spec : {M : Type 1} → statement M
+slot-of-spec = tie.close (tie.spec returns returns-2)

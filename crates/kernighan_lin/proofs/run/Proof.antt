@@ -1,0 +1,116 @@
+-- `kernighan_lin::run` meets its contract. The invariant: what is left of the run from here is the run from the start. Assumes nothing.
+use mathlib.Core.Path.{sym, _∙_}
+use Prim.Native.Nat.{_-_}
+use native.Mathlib.Omega.{arith}
+use lib.ListN.{getD}
+use borrow.Author.Needs.{needs}
+use Rattle.topology.specs.Graph.{inRows}
+use Rattle.kernighan_lin_pass.specs.Pass.{Setting}
+use Rattle.kernighan_lin_pass.specs.Inner.{setting}
+use Rattle.kernighan_lin.proofs.Runs.{Passing, passing-start, roomy, pass-on, pass-ends, limit-ends}
+use Rattle.kernighan_lin.proofs.run.Statement.{statement}
+use Rattle.kernighan_lin.proofs.run.Tie as tie
+
+abbrev Inv-loop : tie.InvT-loop
+Inv-loop starts neighbours arc-weights labels₀ gains₀ locks₀ swaps₀ first bad passes most limit before last₀ i₀ labels gains locks swaps last i =
+    Passing (setting (inRows starts neighbours arc-weights) first bad) most passes labels₀ i last labels gains locks swaps
+
+abbrev μ-loop : tie.MeasureT-loop
+μ-loop starts neighbours arc-weights labels₀ gains₀ locks₀ swaps₀ first bad passes most limit before last₀ i₀ labels gains locks swaps last i =
+    passes - i
+
+abbrev S : tie.Start Inv-loop μ-loop → Setting
+S s = setting (inRows (s .args .starts .now) (s .args .neighbours .now) (s .args .arc-weights .now)) (getD (s .args .labels .now) 0 0) (s .args .settings .bad)
+
+slice-read-first : tie.Need-slice-read-first Inv-loop μ-loop
+slice-read-first c = c .before .before .before .before .before .before .before .pre .some-vertex
+
+most-swaps-requires : tie.Need-most-swaps-requires Inv-loop μ-loop
+most-swaps-requires c κs = search needs
+
+cut-of-requires : tie.Need-cut-of-requires Inv-loop μ-loop
+cut-of-requires c κs = c .before .before .before .before .before .before .before .before .before .pre .fit .rows
+
+loop-holds : tie.Need-loop-holds Inv-loop μ-loop
+loop-holds c = let s = c .before .before .before .before .before .before .before .before .before .before in passing-start (S s) (s .args .settings .swaps) (s .args .settings .passes) (s .args .labels .now) (s .args .gains .now) (s .args .locks .now) (s .args .swaps .now) _ (s .pre) (c .cut-of .ensures)
+
+make-pass-requires : tie.Need-make-pass-requires Inv-loop μ-loop
+make-pass-requires c κs =
+    let s = c .before .before .before .before .before .before .before .before .before .before .before .before .before .before .before .before in
+    let l = c .before .before .before .before .before .loop in
+    (rw (l .inv .long) (s .pre .fit), roomy (S s) (s .args .settings .swaps) (s .args .settings .passes) (s .args .labels .now) (l .i) (l .last) (l .labels) (l .gains) (l .locks) (l .swaps) (l .inv) _ (c .before .before .before .before .before .before .before .before .most-swaps .ensures) (s .pre .fit .rows .few), l .inv .last-is)
+
+add-i : tie.Need-add-i Inv-loop μ-loop
+add-i c = record { fits = omega (arith, c .before .before .before .before .before .before .before .before .before .before .before .before .loop-test .taken, c .before .before .before .before .before .before .before .before .before .before .before .before .before .before .before .before .before .before .before .before .before .before .before .before .pre .few-passes) }
+
+same-length : tie.Need-same-length Inv-loop μ-loop
+same-length c = c .before .before .before .before .before .before .before .before .make-pass .kept .1 .1 .1 .0 ∙ c .before .before .before .before .before .before .before .before .before .before .before .before .before .before .loop .inv .long
+
+same-length-2 : tie.Need-same-length-2 Inv-loop μ-loop
+same-length-2 c = c .before .before .before .before .before .before .before .before .make-pass .kept .1 .1 .1 .1 .0 ∙ c .before .before .before .before .before .before .before .before .before .before .before .before .before .before .loop .inv .gains-long ∙ sym (c .before .before .before .before .before .before .before .before .before .before .before .before .before .before .before .before .before .before .before .before .before .before .before .before .before .pre .gains-long)
+
+same-length-3 : tie.Need-same-length-3 Inv-loop μ-loop
+same-length-3 c = c .before .before .before .before .before .before .before .before .make-pass .kept .1 .1 .1 .1 .1 .0 ∙ c .before .before .before .before .before .before .before .before .before .before .before .before .before .before .loop .inv .locks-long ∙ sym (c .before .before .before .before .before .before .before .before .before .before .before .before .before .before .before .before .before .before .before .before .before .before .before .before .before .pre .locks-long)
+
+same-length-4 : tie.Need-same-length-4 Inv-loop μ-loop
+same-length-4 c = c .before .before .before .before .before .before .before .before .make-pass .kept .1 .1 .1 .1 .1 .1 .0 ∙ c .before .before .before .before .before .before .before .before .before .before .before .before .before .before .loop .inv .swaps-long ∙ sym (c .before .before .before .before .before .before .before .before .before .before .before .before .before .before .before .before .before .before .before .before .before .before .before .before .before .pre .swaps-long)
+
+returns : tie.Need-returns Inv-loop μ-loop
+returns c =
+    let s = c .before .before .before .before .before .before .before .before .before .before .before .before .before .before .before .before .before .before .before .before .before .before .before .before .before in
+    let l = c .before .before .before .before .before .before .before .before .before .before .before .before .before .before .loop in
+    let m = c .before .before .before .before .before .before .before .before .make-pass in
+    pass-ends (S s) (s .args .settings .swaps) (s .args .settings .passes) (s .args .labels .now) (l .i) (l .last) (l .labels) (l .gains) (l .locks) (l .swaps) (l .inv) (c .before .before .before .before .before .before .before .before .before .before .before .before .before .loop-test .taken) _ (c .before .before .before .before .before .before .before .before .before .before .before .before .before .before .before .before .before .most-swaps .ensures) _ (m .ensures .0) _ (m .ensures .1) _ (c .before .before .before .before .before .before .before .before .before .before .before .before .before .before .before .cut-of .ensures) (c .if1 .taken)
+
+loop-less : tie.Need-loop-less Inv-loop μ-loop
+loop-less c = omega (arith, c .before .before .before .before .before .before .before .before .before .before .before .before .before .loop-test .taken)
+
+loop-again : tie.Need-loop-again Inv-loop μ-loop
+loop-again c =
+    let s = c .before .before .before .before .before .before .before .before .before .before .before .before .before .before .before .before .before .before .before .before .before .before .before .before .before in
+    let l = c .before .before .before .before .before .before .before .before .before .before .before .before .before .before .loop in
+    let m = c .before .before .before .before .before .before .before .before .make-pass in
+    pass-on (S s) (s .args .settings .swaps) (s .args .settings .passes) (s .args .labels .now) (l .i) (l .last) (l .labels) (l .gains) (l .locks) (l .swaps) (l .inv) (c .before .before .before .before .before .before .before .before .before .before .before .before .before .loop-test .taken) _ (c .before .before .before .before .before .before .before .before .before .before .before .before .before .before .before .before .before .most-swaps .ensures) _ (m .ensures .0) _ (m .ensures .1) _ _ _ (m .kept .1 .1 .1 .0) (m .kept .1 .1 .1 .1 .0) (m .kept .1 .1 .1 .1 .1 .0) (m .kept .1 .1 .1 .1 .1 .1 .0) (c .if1 .left)
+
+same-length-5 : tie.Need-same-length-5 Inv-loop μ-loop
+same-length-5 c = c .before .loop .inv .long
+
+same-length-6 : tie.Need-same-length-6 Inv-loop μ-loop
+same-length-6 c = c .before .loop .inv .gains-long ∙ sym (c .before .before .before .before .before .before .before .before .before .before .before .before .pre .gains-long)
+
+same-length-7 : tie.Need-same-length-7 Inv-loop μ-loop
+same-length-7 c = c .before .loop .inv .locks-long ∙ sym (c .before .before .before .before .before .before .before .before .before .before .before .before .pre .locks-long)
+
+same-length-8 : tie.Need-same-length-8 Inv-loop μ-loop
+same-length-8 c = c .before .loop .inv .swaps-long ∙ sym (c .before .before .before .before .before .before .before .before .before .before .before .before .pre .swaps-long)
+
+returns-2 : tie.Need-returns-2 Inv-loop μ-loop
+returns-2 c =
+    let s = c .before .before .before .before .before .before .before .before .before .before .before .before in
+    let l = c .before .loop in
+    limit-ends (S s) (s .args .settings .swaps) (s .args .settings .passes) (s .args .labels .now) (l .i) (l .last) (l .labels) (l .gains) (l .locks) (l .swaps) (l .inv) _ (c .before .before .cut-of .ensures) (c .loop-test .left)
+
+pub run-spec : {M : Type 1} → statement M
+run-spec =
+    tie.close
+    (tie.spec
+    Inv-loop
+    μ-loop
+    slice-read-first
+    most-swaps-requires
+    cut-of-requires
+    loop-holds
+    make-pass-requires
+    add-i
+    same-length
+    same-length-2
+    same-length-3
+    same-length-4
+    returns
+    loop-less
+    loop-again
+    same-length-5
+    same-length-6
+    same-length-7
+    same-length-8
+    returns-2)

@@ -1,0 +1,219 @@
+-- The swaps of a pass, one after another. Assumes nothing.
+use mathlib.Core.Path.{_≡_, refl, sym, ap, _∙_}
+use mathlib.Core.Bool.{Bool, true, false, cond, _||_}
+use mathlib.Core.List.{List}
+use mathlib.Core.Option.{Option, none, some}
+use Prim.Native.Nat.{ℕ, zero, suc, _+_, _-_, _*_, _≤_, _<_}
+use native.Mathlib.Omega.{arith}
+use lib.ListN.{length, getD, set, length-set}
+use lib.Seq.{getD-set-same, getD-set-other}
+use lib.Dec.{ltb, eqb}
+use lib.IntN.{ℤ, pos}
+use borrow.Author.Tests.{eqb-true, eqb-false}
+use Rattle.lists.proofs.Tables.{length-table}
+use Rattle.topology.specs.Graph.{Graph}
+use Rattle.topology.specs.Cut.{cut}
+use Rattle.kernighan_lin_pass.specs.Gain.{added, told}
+use Rattle.kernighan_lin_pass.specs.Pass.{Setting, Swap, State, swapped, start, pair, after, next, walk}
+use Rattle.kernighan_lin_pass.specs.Inner.{Fit, Within, mostGain, pairAt, codeOf, swapOf, Coded, back, Started, Ended}
+use Rattle.kernighan_lin_pass.specs.declared.choose.Pair.{Pair}
+use Rattle.kernighan_lin_pass.proofs.Within.{table-within, added-within, told-within}
+use Rattle.kernighan_lin_pass.proofs.Pairs.{largest-in, pair-in}
+use Rattle.kernighan_lin_pass.proofs.Swaps.{length-swapped}
+use Rattle.kernighan_lin_pass.proofs.Backs.{swap-twice, read-back, back-same, back-none, back-more}
+
+-- the walk ends where there is no pair
+pub walk-stop : (s : Setting) (k : ℕ) (st : State) → pair s (st .labels) (st .gains) (st .locks) ≡ none → walk s k st ≡ st
+unfolding walk next
+walk-stop s zero st e = refl
+walk-stop s (suc k) st e = rw (e, walk)
+
+pub walk-step : (s : Setting) (k : ℕ) (st : State) (t : Swap) → pair s (st .labels) (st .gains) (st .locks) ≡ some t → walk s (suc k) st ≡ walk s k (after s st t)
+unfolding walk next
+walk-step s k st t e = rw (e, walk)
+
+pub walk-none : (s : Setting) (k : ℕ) (st : State) → k ≡ 0 → walk s k st ≡ st
+unfolding walk
+walk-none s k st e = rw e
+
+length-told : (g : Graph) (p : List ℕ) (v : ℕ) (gains : List ℤ) → length (told g p v gains) ≡ length p
+unfolding told
+length-told g p v gains = length-table (length p) _
+
+-- a pair is two of the vertices
+pub pair-below : (s : Setting) (p : List ℕ) (before : List ℤ) (locks : List ℕ) (t : Swap) → pair s p before locks ≡ some t → (t .one < length p) × (t .two < length p)
+pair-below s p before locks t e =
+    let c = pair-in s p before locks t e in
+    (largest-in (s .movable) (s .first) true p (added (s .graph) p before) locks (t .one) (c .0) .0, largest-in (s .movable) (s .first) false p (told (s .graph) p (t .one) (added (s .graph) p before)) locks (t .two) (c .1) .0)
+
+-- what the answer says of the pair
+pub answer-none : (s : Setting) (p : List ℕ) (before : List ℤ) (locks : List ℕ) (r : Pair) → r ≡ pairAt (length p) (pair s p before locks) → r .one ≡ length p → pair s p before locks ≡ none
+answer-none s p before locks r e q = go (pair s p before locks) refl e
+  where
+    go : (o : Option Swap) → pair s p before locks ≡ o → r ≡ pairAt (length p) o → o ≡ none
+    go none f g = refl
+    go (some t) f g =
+        let l = pair-below s p before locks t f .0 in
+        let k : r .one ≡ t .one = ap (λ (x : Pair). x .one) g in
+        absurd (omega arith)
+
+pub answer-some : (s : Setting) (p : List ℕ) (before : List ℤ) (locks : List ℕ) (r : Pair) → r ≡ pairAt (length p) (pair s p before locks) → (r .one ≡ length p → ⊥) → pair s p before locks ≡ some (record { one = r .one; two = r .two })
+answer-some s p before locks r e q = go (pair s p before locks) e
+  where
+    go : (o : Option Swap) → r ≡ pairAt (length p) o → o ≡ some (record { one = r .one; two = r .two })
+    go none g = absurd (q (ap (λ (x : Pair). x .one) g))
+    go (some t) g = rw g refl
+
+-- Where the code stands after k swaps.
+pub record On (s : Setting) (limit : ℕ) (p₀ : List ℕ) (k : ℕ) (labels : List ℕ) (gains : List ℤ) (locks codes : List ℕ) (cur least kept : ℕ) : Type 0 where
+  pub upto : k ≤ limit
+  pub long : length labels ≡ length p₀
+  pub gains-long : length gains ≡ length p₀
+  pub locks-long : length locks ≡ length p₀
+  pub within : Within (6442450942 * k) gains
+  pub cur-is : cur ≡ cut (s .graph) labels
+  pub best : List ℕ
+  pub least-is : least ≡ cut (s .graph) best
+  pub kept-upto : kept ≤ k
+  pub coded : Coded (length p₀) k codes
+  pub back-is : back codes k (k - kept) labels ≡ best
+  pub rest : walk s (limit - k) (record { labels = labels; gains = gains; locks = locks; made = k; kept = best }) ≡ walk s limit (start s p₀)
+
+module _ (s : Setting) (limit : ℕ) (p₀ : List ℕ) (fit : Fit (length p₀) (s .graph)) where
+  -- before the first swap
+  pub on-start : (gains : List ℤ) (locks codes : List ℕ) (room before : ℕ) → Started s p₀ gains locks room limit before → On s limit p₀ 0 p₀ gains locks codes before before 0
+  unfolding start
+  on-start gains locks codes room before h =
+      record {
+        upto = omega arith;
+        long = refl;
+        gains-long = ap length (h .gains-are) ∙ length-table (length p₀) (λ u. pos 0);
+        locks-long = ap length (h .locks-are) ∙ length-table (length p₀) (λ u. 0);
+        within = rw (h .gains-are) (table-within (length p₀) (6442450942 * 0) (λ u. pos 0) (λ u l. omega arith));
+        cur-is = h .cut-is;
+        best = p₀;
+        least-is = h .cut-is;
+        kept-upto = omega arith;
+        coded = record { one = λ i l. absurd (omega arith); two = λ i l. absurd (omega arith) };
+        back-is = back-none codes 0 (0 - 0) p₀ (omega arith);
+        rest = let r : limit - 0 ≡ limit = omega arith in rw (r, h .gains-are, h .locks-are);
+      }
+
+  module _ (k : ℕ) (labels : List ℕ) (gains : List ℤ) (locks codes : List ℕ) (cur least kept : ℕ) (on : On s limit p₀ k labels gains locks codes cur least kept) where
+    abbrev here : State
+    here = record { labels = labels; gains = gains; locks = locks; made = k; kept = on .best }
+
+    pub fit-now : Fit (length labels) (s .graph)
+    fit-now = rw (on .long) fit
+
+    pub gains-small : limit ≤ 2048 → Within mostGain gains
+    gains-small few u = let k′ = on .upto in omega (arith, on .within u)
+
+    ended : (labels′ : List ℕ) → labels′ ≡ labels → here ≡ walk s limit (start s p₀) → Ended s limit p₀ labels′ codes (record { made = k; kept = kept; least = least })
+    ended labels′ f e =
+        let b : on .best ≡ walk s limit (start s p₀) .kept = ap (λ (x : State). x .kept) e in
+        record {
+          upto = on .upto;
+          kept-upto = on .kept-upto;
+          coded = on .coded;
+          long = ap length f ∙ on .long;
+          back-is = ap (back codes k (k - kept)) f ∙ on .back-is ∙ b;
+          least-is = on .least-is ∙ ap (cut (s .graph)) b;
+        }
+
+    -- the swaps are all made
+    pub on-full : limit ≤ k → Ended s limit p₀ labels codes (record { made = k; kept = kept; least = least })
+    on-full l = let r : limit - k ≡ 0 = omega arith in ended labels refl (sym (walk-none s (limit - k) here r) ∙ on .rest)
+
+    -- or there is no pair
+    pub on-none : pair s labels gains locks ≡ none → Ended s limit p₀ labels codes (record { made = k; kept = kept; least = least })
+    on-none e = ended labels refl (sym (walk-stop s (limit - k) here e) ∙ on .rest)
+
+    module _ (lk : k < limit) (t : Swap) (e : pair s labels gains locks ≡ some t) (few : length p₀ ≤ 4096) (room : k < length codes) where
+      abbrev labels′ : List ℕ
+      labels′ = swapped labels t
+
+      abbrev gains′ : List ℤ
+      gains′ = told (s .graph) labels (t .one) (added (s .graph) labels gains)
+
+      abbrev locks′ : List ℕ
+      locks′ = set (set locks (t .one) 1) (t .two) 1
+
+      abbrev codes′ : List ℕ
+      codes′ = set codes k (codeOf t)
+
+      below : (t .one < length labels) × (t .two < length labels)
+      below = pair-below s labels gains locks t e
+
+      -- the swap in place k reads back
+      here-is : swapOf (getD codes′ k 0) ≡ t
+      here-is =
+          let l = below .1 in
+          let q = on .long in
+          let r = read-back (t .one) (t .two) (omega arith) in
+          ap swapOf (getD-set-same codes k (codeOf t) 0 room) ∙ (λ i. record { one = r .0 i; two = r .1 i })
+
+      coded′ : Coded (length p₀) (k + 1) codes′
+      coded′ = record { one = λ i l. one i l (eqb i k) refl; two = λ i l. two i l (eqb i k) refl }
+        where
+          one : (i : ℕ) → i < k + 1 → (b : Bool) → eqb i k ≡ b → swapOf (getD codes′ i 0) .one < length p₀
+          one i l true q = rw (eqb-true i k q) (omega (arith, ap (λ (x : Swap). x .one) here-is, below .0, on .long))
+          one i l false q = let ne = eqb-false i k q in rw (getD-set-other codes k i (codeOf t) 0 ne) (on .coded .one i (omega (arith, ne)))
+
+          two : (i : ℕ) → i < k + 1 → (b : Bool) → eqb i k ≡ b → swapOf (getD codes′ i 0) .two < length p₀
+          two i l true q = rw (eqb-true i k q) (omega (arith, ap (λ (x : Swap). x .two) here-is, below .1, on .long))
+          two i l false q = let ne = eqb-false i k q in rw (getD-set-other codes k i (codeOf t) 0 ne) (on .coded .two i (omega (arith, ne)))
+
+      -- undoing this swap too
+      back-old : back codes′ (k + 1) (k + 1 - kept) labels′ ≡ on .best
+      back-old =
+          let u = on .kept-upto in
+          back-more codes′ k (k - kept) (k + 1 - kept) labels′ (omega arith)
+          ∙ ap (back codes′ k (k - kept)) (ap (swapped labels′) here-is ∙ swap-twice labels t (below .0) (below .1))
+          ∙ back-same codes′ codes k (k - kept) labels (omega arith) (λ i l. getD-set-other codes k i (codeOf t) 0 (λ q. omega arith))
+          ∙ on .back-is
+
+      module _ (cur′ : ℕ) (now : cur′ ≡ cut (s .graph) labels′) (b : Bool) (test : eqb k 0 || ltb cur′ least ≡ b) where
+        least′ : (b : Bool) → cond b cur′ least ≡ cut (s .graph) (cond b labels′ (on .best))
+        least′ true = now
+        least′ false = on .least-is
+
+        upto′ : (b : Bool) → cond b (k + 1) kept ≤ k + 1
+        upto′ true = omega arith
+        upto′ false = omega (arith, on .kept-upto)
+
+        back′ : (b : Bool) → back codes′ (k + 1) (k + 1 - cond b (k + 1) kept) labels′ ≡ cond b labels′ (on .best)
+        back′ true = back-none codes′ (k + 1) (k + 1 - (k + 1)) labels′ (omega arith)
+        back′ false = back-old
+
+        after-is : after s here t ≡ record { labels = labels′; gains = gains′; locks = locks′; made = k + 1; kept = cond b labels′ (on .best) }
+        unfolding after
+        after-is =
+            let q : eqb k 0 || ltb (cut (s .graph) labels′) (cut (s .graph) (on .best)) ≡ b = rw (now, on .least-is) at test in
+            ap (λ (x : Bool). record { labels = labels′; gains = gains′; locks = locks′; made = k + 1; kept = cond x labels′ (on .best) }) q
+
+        on-swap : On s limit p₀ (k + 1) labels′ gains′ locks′ codes′ cur′ (cond b cur′ least) (cond b (k + 1) kept)
+        on-swap =
+            record {
+              upto = omega arith;
+              long = length-swapped labels t ∙ on .long;
+              gains-long = length-told (s .graph) labels (t .one) (added (s .graph) labels gains) ∙ on .long;
+              locks-long = length-set (set locks (t .one) 1) (t .two) 1 ∙ length-set locks (t .one) 1 ∙ on .locks-long;
+              within = λ u. omega (arith, told-within (s .graph) labels fit-now (6442450942 * k + 2147483648) (added (s .graph) labels gains) (added-within (s .graph) labels fit-now (6442450942 * k) gains (on .within)) (t .one) (below .0) u);
+              cur-is = now;
+              best = cond b labels′ (on .best);
+              least-is = least′ b;
+              kept-upto = upto′ b;
+              coded = coded′;
+              back-is = back′ b;
+              rest =
+                  let n : limit - k ≡ suc (limit - (k + 1)) = omega arith in
+                  ap (walk s (limit - (k + 1))) (sym after-is)
+                  ∙ sym (walk-step s (limit - (k + 1)) here t e)
+                  ∙ ap (λ (m : ℕ). walk s m here) (sym n)
+                  ∙ on .rest;
+            }
+
+        -- the same of lists and numbers that are these
+        pub on-next : (labels″ : List ℕ) (gains″ : List ℤ) (locks″ codes″ : List ℕ) (least″ kept″ : ℕ) → labels″ ≡ labels′ → gains″ ≡ gains′ → locks″ ≡ locks′ → codes″ ≡ codes′ → least″ ≡ cond b cur′ least → kept″ ≡ cond b (k + 1) kept → On s limit p₀ (k + 1) labels″ gains″ locks″ codes″ cur′ least″ kept″
+        on-next labels″ gains″ locks″ codes″ least″ kept″ a c d e f g = rw (a, c, d, e, f, g) on-swap

@@ -1,0 +1,184 @@
+-- `kernighan_lin_pass::gain::tell` meets its contract. The invariant: each vertex is told the arcs passed. Assumes nothing.
+use mathlib.Core.Path.{_≡_, refl, sym, _∙_}
+use Prim.Native.Nat.{_≤_, _-_, _^_, _<_}
+use native.Mathlib.Omega.{arith}
+use lib.ListN.{getD, length}
+use lib.Dec.{eqb}
+use lib.IntN.{pos}
+use lib.Signed.{mag}
+use borrow.Author.Needs.{needs}
+use Rattle.topology.specs.Graph.{Graph, inRows}
+use Rattle.topology.proofs.Rises.{arc-inside, arc-goes}
+use Rattle.kernighan_lin_pass.proofs.Bits.{sum-fits, sum-kept, twice-small}
+use Rattle.kernighan_lin_pass.proofs.Tells.{Telling, begins, turn, gain-small, long-kept, ended}
+use Rattle.kernighan_lin_pass.proofs.gain.tell.Statement.{statement}
+use Rattle.kernighan_lin_pass.proofs.gain.tell.Tie as tie
+
+abbrev Inv-loop : tie.InvT-loop
+Inv-loop starts neighbours arc-weights labels gains₀ v own end e₀ gains e = Telling (inRows starts neighbours arc-weights) labels v gains₀ end e gains
+
+abbrev μ-loop : tie.MeasureT-loop
+μ-loop starts neighbours arc-weights labels gains₀ v own end e₀ gains e = end - e
+
+abbrev graph : tie.Start Inv-loop μ-loop → Graph
+graph s = inRows (s .args .starts .now) (s .args .neighbours .now) (s .args .arc-weights .now)
+
+-- the arc is one of the lists
+inside : (c : tie.In-loop Inv-loop μ-loop) → let s = c .before .before .before .before .before .before .before .before .before .before .before in let e = c .before .loop .e in (e < length (s .args .neighbours .now)) × (e < length (s .args .arc-weights .now)) × (e < 65535)
+inside c =
+    let s = c .before .before .before .before .before .before .before .before .before .before .before in
+    let l = c .before .loop in
+    arc-inside (length (s .args .labels .now)) (graph s) (s .pre .0 .rows) (s .args .v) (s .pre .2) (l .e) (omega (arith, c .loop-test .taken, l .inv .end-is))
+
+-- and goes to a vertex
+goes : (c : tie.After-index3 Inv-loop μ-loop) → (c .index3 .result < length (c .before .before .before .before .before .before .before .before .before .before .before .before .before .args .labels .now)) × (c .index3 .result < 4096)
+goes c =
+    let s = c .before .before .before .before .before .before .before .before .before .before .before .before .before in
+    let l = c .before .before .before .loop in
+    arc-goes (length (s .args .labels .now)) (graph s) (s .pre .0 .rows) (s .args .v) (s .pre .2) (l .e) (omega (arith, c .before .before .loop-test .taken, l .inv .end-is)) (c .index3 .result) (c .index3 .ensures)
+
+long : (c : tie.At-loop Inv-loop μ-loop) → length (c .loop .gains) ≡ length (c .before .before .before .before .before .before .before .before .before .before .args .labels .now)
+long c = let s = c .before .before .before .before .before .before .before .before .before .before in long-kept (graph s) (s .args .labels .now) (s .args .v) (s .args .gains .now) (s .pre .0) (s .pre .2) _ (c .loop .e) (c .loop .gains) (c .loop .inv)
+
+-- the gain is far from the ends of the range, and so is what is added
+gain-far : (c : tie.After-index3 Inv-loop μ-loop) → mag (getD (c .before .before .before .loop .gains) (c .index3 .result) (pos 0)) ≤ 35188667056126
+gain-far c =
+    let s = c .before .before .before .before .before .before .before .before .before .before .before .before .before in
+    let l = c .before .before .before .loop in
+    gain-small (graph s) (s .args .labels .now) (s .args .v) (s .args .gains .now) (s .pre .0) (s .pre .2) _ (l .e) (l .gains) (l .inv) 35184372088832 (s .pre .3) (c .index3 .result) (goes c .0)
+
+added-far : (c : tie.After-twice Inv-loop μ-loop) → mag (c .twice .result) ≤ 8589934592
+added-far c =
+    let s = c .before .before .before .before .before .before .before .before .before .before .before .before .before .before .before .before .before in
+    let w = getD (s .args .arc-weights .now) (c .before .before .before .before .before .before .before .loop .e) 0 in
+    let h : w < 4294967296 = omega (arith, c .before .before .shared-slice-known9 .given (c .before .before .before .before .before .before .before .loop .e)) in
+    rw (c .twice .ensures) (omega (arith, twice-small w h (eqb (getD (s .args .labels .now) (c .before .before .before .before .index3 .result) 0) (getD (s .args .labels .now) (s .args .v) 0))))
+
+-- the two added
+far : (c : tie.After-twice Inv-loop μ-loop) → (mag (getD (c .before .before .before .before .before .before .before .loop .gains) (c .before .before .before .before .index3 .result) (pos 0)) < 2 ^ 62) × (mag (c .twice .result) < 2 ^ 62 - 1)
+far c = (omega (arith, gain-far (c .before .before .before .before)), omega (arith, added-far c))
+
+mul-own : tie.Need-mul-own Inv-loop μ-loop
+mul-own c = search needs
+
+shared-slice-read-own : tie.Need-shared-slice-read-own Inv-loop μ-loop
+shared-slice-read-own c = search needs
+
+add-index : tie.Need-add-index Inv-loop μ-loop
+add-index c = search needs
+
+mul-index : tie.Need-mul-index Inv-loop μ-loop
+mul-index c = search needs
+
+shared-slice-read-index : tie.Need-shared-slice-read-index Inv-loop μ-loop
+shared-slice-read-index c = search needs
+
+index-requires : tie.Need-index-requires Inv-loop μ-loop
+index-requires c κs = search needs
+
+mul-index-2 : tie.Need-mul-index-2 Inv-loop μ-loop
+mul-index-2 c = search needs
+
+shared-slice-read-index-2 : tie.Need-shared-slice-read-index-2 Inv-loop μ-loop
+shared-slice-read-index-2 c = search needs
+
+index-requires-2 : tie.Need-index-requires-2 Inv-loop μ-loop
+index-requires-2 c κs = search needs
+
+loop-holds : tie.Need-loop-holds Inv-loop μ-loop
+loop-holds c = begins (graph (c .before .before .before .before .before .before .before .before .before)) _ _ _ (c .before .before .before .before .before .before .before .before .before .pre .0) (c .before .before .before .before .before .before .before .before .before .pre .2) (c .before .before .before .before .before .before .before .before .before .pre .1) _ _ (c .before .before .index .ensures) (c .index2 .ensures)
+
+mul-index-3 : tie.Need-mul-index-3 Inv-loop μ-loop
+mul-index-3 c = omega (arith, inside c .2)
+
+shared-slice-read-index-3 : tie.Need-shared-slice-read-index-3 Inv-loop μ-loop
+shared-slice-read-index-3 c = inside (c .before) .0
+
+index-requires-3 : tie.Need-index-requires-3 Inv-loop μ-loop
+index-requires-3 c κs = search needs
+
+mul-g : tie.Need-mul-g Inv-loop μ-loop
+mul-g c = omega (arith, goes c .1)
+
+slice-copy-out-g : tie.Need-slice-copy-out-g Inv-loop μ-loop
+slice-copy-out-g c = rw (long (c .before .before .before)) (goes c .0)
+
+mul-twice : tie.Need-mul-twice Inv-loop μ-loop
+mul-twice c = omega (arith, inside (c .before .before .before) .2)
+
+shared-slice-read-twice : tie.Need-shared-slice-read-twice Inv-loop μ-loop
+shared-slice-read-twice c = inside (c .before .before .before .before) .1
+
+mul-twice-2 : tie.Need-mul-twice-2 Inv-loop μ-loop
+mul-twice-2 c = omega (arith, goes (c .before .before) .1)
+
+shared-slice-read-twice-2 : tie.Need-shared-slice-read-twice-2 Inv-loop μ-loop
+shared-slice-read-twice-2 c = goes (c .before .before .before) .0
+
+twice-requires : tie.Need-twice-requires Inv-loop μ-loop
+twice-requires c κs = search needs
+
+add-gains : tie.Need-add-gains Inv-loop μ-loop
+add-gains c =
+    sum-fits (getD (c .before .before .before .before .before .before .before .loop .gains) (c .before .before .before .before .index3 .result) (pos 0)) (c .twice .result) (far c .0) (far c .1)
+
+mul-t29 : tie.Need-mul-t29 Inv-loop μ-loop
+mul-t29 c = omega (arith, goes (c .before .before .before .before) .1)
+
+slice-set-from-gains : tie.Need-slice-set-from-gains Inv-loop μ-loop
+slice-set-from-gains c = rw (long (c .before .before .before .before .before .before .before)) (goes (c .before .before .before .before) .0)
+
+add-e : tie.Need-add-e Inv-loop μ-loop
+add-e c = search needs
+
+loop-less : tie.Need-loop-less Inv-loop μ-loop
+loop-less c = search needs
+
+loop-again : tie.Need-loop-again Inv-loop μ-loop
+loop-again c =
+    let s = c .before .before .before .before .before .before .before .before .before .before .before .before .before .before .before .before .before in
+    let l = c .before .before .before .before .before .before .before .loop in
+    let x = c .before .before .before .before .index3 .result in
+    let kept = sum-kept (getD (l .gains) x (pos 0)) (c .twice .result) (far c .0) (far c .1) in
+    turn (graph s) (s .args .labels .now) (s .args .v) (s .args .gains .now) (s .pre .0) (s .pre .2) _ (l .e) (l .gains) (l .inv) (c .before .before .before .before .before .before .loop-test .taken) x (getD (s .args .arc-weights .now) (l .e) 0) _ (c .before .before .before .before .index3 .ensures) (goes (c .before .before .before .before) .0) refl (rw (← c .twice .ensures) kept)
+
+same-length : tie.Need-same-length Inv-loop μ-loop
+same-length c = long (c .before) ∙ sym (c .before .before .before .before .before .before .before .before .before .before .before .pre .1)
+
+returns : tie.Need-returns Inv-loop μ-loop
+returns c = ended (graph (c .before .before .before .before .before .before .before .before .before .before .before)) _ _ _ (c .before .before .before .before .before .before .before .before .before .before .before .pre .0) (c .before .before .before .before .before .before .before .before .before .before .before .pre .2) _ _ _ (c .before .loop .inv) (c .loop-test .left)
+
+pub tell-spec : {M : Type 1} → statement M
+tell-spec =
+    tie.close
+    (tie.spec
+    Inv-loop
+    μ-loop
+    mul-own
+    shared-slice-read-own
+    add-index
+    mul-index
+    shared-slice-read-index
+    index-requires
+    mul-index-2
+    shared-slice-read-index-2
+    index-requires-2
+    loop-holds
+    mul-index-3
+    shared-slice-read-index-3
+    index-requires-3
+    mul-g
+    slice-copy-out-g
+    mul-twice
+    shared-slice-read-twice
+    mul-twice-2
+    shared-slice-read-twice-2
+    twice-requires
+    add-gains
+    mul-t29
+    slice-set-from-gains
+    add-e
+    loop-less
+    loop-again
+    same-length
+    returns)

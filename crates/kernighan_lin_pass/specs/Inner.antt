@@ -1,0 +1,94 @@
+-- What the inner functions ask and promise.
+use mathlib.Core.Path.{_≡_}
+use mathlib.Core.Bool.{true}
+use mathlib.Core.List.{List}
+use mathlib.Core.Option.{Option, none, some}
+use Prim.Native.Nat.{ℕ, zero, suc, _+_, _-_, _*_, _/_, _%_, _≤_, _<_}
+use lib.ListN.{length, getD}
+use lib.IntN.{ℤ, pos}
+use lib.Signed.{mag}
+use Rattle.lists.specs.Sum.{total}
+use Rattle.lists.specs.Fill.{table}
+use Rattle.imbalance.specs.Limit.{mostWeight}
+use Rattle.topology.specs.Graph.{Graph}
+use Rattle.topology.specs.Rule.{Rows, Symmetric}
+use Rattle.topology.specs.Cut.{cut}
+use Rattle.kernighan_lin_pass.specs.Gain.{added, told}
+use Rattle.kernighan_lin_pass.specs.Pass.{Setting, Swap, swapped, pair, start, walk}
+use Rattle.kernighan_lin_pass.specs.declared.choose.Pair.{Pair}
+use Rattle.kernighan_lin_pass.specs.declared.pass.Walked.{Walked}
+
+-- What no number from 1 to 5 means for a graph of n vertices, without the vertex weights, which KL does not use.
+pub record Fit (n : ℕ) (g : Graph) : Type 0 where
+  pub rows : Rows n g
+  pub symmetric : Symmetric n g
+  pub light : total (g .weights) ≤ mostWeight
+
+-- no gain is larger than m, without its sign
+abbrev pub Within : ℕ → List ℤ → Type 0
+Within m gains = (u : ℕ) → mag (getD gains u (pos 0)) ≤ m
+
+-- 2^44: no gain of a pass reaches it
+abbrev pub mostGain : ℕ
+mostGain = 17592186044416
+
+-- the vertex, or n where there is none
+abbrev pub placeOf : ℕ → Option ℕ → ℕ
+placeOf n none = n
+placeOf n (some v) = v
+
+-- the same of a pair
+abbrev pub pairAt : ℕ → Option Swap → Pair
+pairAt n none = record { one = n; two = n }
+pairAt n (some t) = record { one = t .one; two = t .two }
+
+-- today's setting: every vertex may be taken
+abbrev pub setting : Graph → ℕ → ℕ → Setting
+setting g first badLimit = record { graph = g; movable = λ v. true; first = first; badLimit = badLimit }
+
+-- What choosing the next pair answers, and leaves in the gains where there is one.
+pub record Chose (s : Setting) (p : List ℕ) (before : List ℤ) (locks : List ℕ) (r : Pair) (gains : List ℤ) : Type 0 where
+  pub pair-is : r ≡ pairAt (length p) (pair s p before locks)
+  pub gains-are : (t : Swap) → pair s p before locks ≡ some t → gains ≡ told (s .graph) p (t .one) (added (s .graph) p before)
+
+-- a swap in the lent list: first × 65,536 + second
+abbrev pub codeOf : Swap → ℕ
+codeOf t = t .one * 65536 + t .two
+
+abbrev pub swapOf : ℕ → Swap
+swapOf code = record { one = code / 65536; two = code % 65536 }
+
+-- the first m swaps of the list are of the n vertices
+pub record Coded (n m : ℕ) (codes : List ℕ) : Type 0 where
+  pub one : (i : ℕ) → i < m → swapOf (getD codes i 0) .one < n
+  pub two : (i : ℕ) → i < m → swapOf (getD codes i 0) .two < n
+
+-- the last j of the first m swaps undone, the last first
+unfoldable pub back : List ℕ → ℕ → ℕ → List ℕ → List ℕ
+back codes m zero p = p
+back codes m (suc j) p = back codes (m - 1) j (swapped p (swapOf (getD codes (m - 1) 0)))
+
+-- What the swaps of a pass start from: gains and locks at 0, room for the swaps, and the cut.
+pub record Started (s : Setting) (p : List ℕ) (gains : List ℤ) (locks : List ℕ) (room limit before : ℕ) : Type 0 where
+  pub fit : Fit (length p) (s .graph)
+  pub gains-are : gains ≡ table (length p) (λ u. pos 0)
+  pub locks-are : locks ≡ table (length p) (λ u. 0)
+  pub room-for : limit ≤ room
+  pub few : limit ≤ 2048
+  pub cut-is : before ≡ cut (s .graph) p
+
+-- What they leave: undoing the swaps from the last down to those kept gives the labels that the pass leaves.
+pub record Ended (s : Setting) (limit : ℕ) (p labels codes : List ℕ) (r : Walked) : Type 0 where
+  pub upto : r .made ≤ limit
+  pub kept-upto : r .kept ≤ r .made
+  pub coded : Coded (length p) (r .made) codes
+  pub long : length labels ≡ length p
+  pub back-is : back codes (r .made) (r .made - r .kept) labels ≡ walk s limit (start s p) .kept
+  pub least-is : r .least ≡ cut (s .graph) (walk s limit (start s p) .kept)
+
+-- What a pass asks of the lists: those lent are as long as is needed.
+pub record Roomy (p : List ℕ) (gains : List ℤ) (locks : List ℕ) (room limit : ℕ) : Type 0 where
+  pub gains-long : length gains ≡ length p
+  pub locks-long : length locks ≡ length p
+  pub room-for : limit ≤ room
+  pub few : limit ≤ 2048

@@ -1,0 +1,7 @@
+// A pass of Kernighan-Lin: coupe's algorithms/kernighan_lin.rs, what its outer loop repeats. Document 01, "KL".
+mod choose;
+mod gain;
+mod pass;
+mod swap;
+
+pub use pass::make_pass;

@@ -1,0 +1,376 @@
+-- What the reader's loops do, a turn at a time, and how they end. Assumes nothing.
+use mathlib.Core.Path.{_≡_, refl, sym, ap, ap₂, _∙_}
+use mathlib.Core.Bool.{Bool, true, false, not, cond, _&&_, _||_}
+use mathlib.Core.List.{List, _++_}
+use Prim.Native.Nat.{ℕ, zero, suc, _+_, _-_, _*_, _/_, _%_, _≤_, _<_}
+use native.Mathlib.Omega.{arith}
+use lib.ListN.{length, getD, set, take, drop, length-set, length-drop}
+use lib.Seq.{length-take-le}
+use lib.Dec.{ltb, eqb}
+use borrow.Author.Tests.{eq-eqb, ne-eqb, lt-ltb, le-ltb, eqb-true, eqb-false, not-false, ltb-false}
+use Rattle.lists.specs.Sum.{sum}
+use Rattle.lists.specs.All.{all, allFrom}
+use Rattle.lists.specs.Fill.{written, table}
+use Rattle.lists.specs.Number.{orElse}
+use Rattle.lists.proofs.Bools.{and-false, or-true, or-none, or-false}
+use Rattle.lists.proofs.Sums.{sum-none, sum-more, sum-step}
+use Rattle.lists.proofs.Totals.{sum-ext, sum-grows}
+use Rattle.lists.proofs.Alls.{all-more, all-fails, from-fails, from-more}
+use Rattle.lists.proofs.Tables.{length-table, table-at, table-ext, written-table}
+use Rattle.lists.proofs.Fills.{written-none, written-more}
+use Rattle.plan_blocks.specs.Word.{wrap, word, over}
+use Rattle.plan_blocks.specs.Block.{opening, checks, laidOut, blocksFor, blocksOf, kindAt, countAt}
+use Rattle.plan_blocks.specs.Plan.{outOfRange, unfitValue}
+use Rattle.plan_blocks.specs.Decode.{inBlock, blocksIn, vertexAt, arcAt, labelAt, degreeAt, badLength, badCheck, badNumbers, laterLaid, badLater, labelled, badRecords, planOf, fileNumber}
+use Rattle.plan_blocks.proofs.WordLaws.{word-part}
+use Rattle.plan_blocks.proofs.Accepts.{InRange, in-range, accepts}
+use Rattle.plan.specs.Read.{startsOf, short, numberFor}
+
+-- block b as a part of the file
+abbrev pub part : List ℕ → ℕ → List ℕ
+part s b = take (512 * b + 512 - 512 * b) (drop (512 * b) s)
+
+pub length-part : (s : List ℕ) (b : ℕ) → 512 * b + 512 ≤ length s → length (part s b) ≡ 512
+length-part s b h =
+    let e : 512 * b + 512 - 512 * b ≡ 512 = omega arith in
+    let d = length-drop (512 * b) s in
+    rw e (length-take-le 512 (drop (512 * b) s) (omega arith))
+
+-- number 10, block by block: r is the sum of block b's words, as summed over that part of the file
+module _ (s : List ℕ) (must b r : ℕ) (summed : r ≡ sum 128 (word (part s b)) % wrap) where
+  block-sum : sum 128 (inBlock s b) % wrap ≡ r
+  block-sum = ap (λ (x : ℕ). x % wrap) (sum-ext 128 (inBlock s b) (word (part s b)) (λ j l. sym (word-part s b j (512 * b + 512 - 512 * b) (512 * b) (omega arith) refl l))) ∙ sym summed
+
+  pub check-more : all b (λ b. checks must (inBlock s b)) ≡ true → r ≡ must → all (b + 1) (λ b. checks must (inBlock s b)) ≡ true
+  unfolding checks
+  check-more h e = all-more b (λ b. checks must (inBlock s b)) h (eq-eqb (sum 128 (inBlock s b) % wrap) must (block-sum ∙ e))
+
+  pub check-fails : b < blocksIn s → (r ≡ must → ⊥) → true ≡ badCheck must s
+  unfolding checks badCheck
+  check-fails l ne = sym (ap not (all-fails (blocksIn s) b (λ b. checks must (inBlock s b)) l (ne-eqb (sum 128 (inBlock s b) % wrap) must (λ e. ne (sym block-sum ∙ e)))))
+
+pub check-all : (s : List ℕ) (must b : ℕ) → b ≡ blocksIn s → all b (λ b. checks must (inBlock s b)) ≡ true → false ≡ badCheck must s
+unfolding badCheck
+check-all s must b e h = sym (ap not (rw e at h))
+
+-- a block's layout, word by word: the words from the first unused place to word j are zero
+abbrev pub restTo : List ℕ → ℕ → ℕ → ℕ → Bool
+restTo s b count j = allFrom (1 + 2 * count) j (λ i. eqb (inBlock s b i) 0)
+
+pub rest-more : (s : List ℕ) (b count j x : ℕ) → 1 + 2 * count ≤ j → x ≡ word s (128 * b + j) → x ≡ 0 → restTo s b count j ≡ true → restTo s b count (j + 1) ≡ true
+rest-more s b count j x l e z h = from-more (1 + 2 * count) j (λ i. eqb (inBlock s b i) 0) l h (eq-eqb (inBlock s b j) 0 (sym e ∙ z))
+
+module _ (s : List ℕ) (b second kind count : ℕ) where
+  pub first-differs : (x y : ℕ) → x ≡ word s (128 * b) → y ≡ x → (y ≡ opening second kind count → ⊥) → false ≡ laidOut second kind count (inBlock s b)
+  unfolding laidOut
+  first-differs x y e q ne =
+      let z : 128 * b + 0 ≡ 128 * b = omega arith in
+      sym (rw (z, ← e, ← q, ne-eqb y (opening second kind count) ne))
+
+  pub rest-differs : (j x : ℕ) → 1 + 2 * count ≤ j → j < 127 → x ≡ word s (128 * b + j) → (x ≡ 0 → ⊥) → false ≡ laidOut second kind count (inBlock s b)
+  unfolding laidOut
+  rest-differs j x l m e ne =
+      sym (ap (λ (t : Bool). eqb (inBlock s b 0) (opening second kind count) && t) (from-fails (1 + 2 * count) 127 (λ i. eqb (inBlock s b i) 0) j l m (ne-eqb (inBlock s b j) 0 (λ q. ne (e ∙ q)))) ∙ and-false (eqb (inBlock s b 0) (opening second kind count)))
+
+  pub laid-whole : (x y j : ℕ) → x ≡ word s (128 * b) → y ≡ x → y ≡ opening second kind count → j ≡ 127 → restTo s b count j ≡ true → true ≡ laidOut second kind count (inBlock s b)
+  unfolding laidOut
+  laid-whole x y j e q o m h =
+      let z : 128 * b + 0 ≡ 128 * b = omega arith in
+      sym (rw (z, ← e, ← q, eq-eqb y (opening second kind count) o) (rw m at h))
+
+-- what an accepted file's numbers are
+pub record Fine (s : List ℕ) : Type 0 where
+  pub sized : length s ≡ 512 * (1 + (word s 1 + 62) / 63 + (word s 2 + 62) / 63)
+  pub few : word s 1 ≤ 4096
+  pub fewArcs : word s 2 ≤ 65535
+  pub rows : sum (word s 1) (degreeAt s) ≡ word s 2
+
+pub fine : (s : List ℕ) → fileNumber s ≡ 0 → Fine s
+unfolding blocksOf blocksFor
+fine s h =
+    let g = accepts s h in
+    let i = in-range (word s 1) (word s 2) (word s 3) (g .ranged) in
+    record { sized = g .sized; few = i .few; fewArcs = i .fewArcs; rows = g .rows }
+
+-- number 14, vertex by vertex
+pub record Passed (s : List ℕ) (n k sum′ v : ℕ) : Type 0 where
+  pub within : v ≤ n
+  pub degrees : sum′ ≡ sum v (degreeAt s)
+  pub small : sum′ ≤ 65535 * v
+  pub labels : all v (λ u. ltb (labelAt s u) k) ≡ true
+
+module _ (s : List ℕ) (n k t v x at : ℕ) (place : at ≡ vertexAt v) (read : x ≡ word s (at + 1)) where
+  is-second : x ≡ word s (vertexAt v + 1)
+  is-second = read ∙ ap (λ (y : ℕ). word s (y + 1)) place
+
+  pub pass-more : Passed s n k t v → v < n → x < wrap → x % 65536 < k → Passed s n k (t + x / 65536) (v + 1)
+  pass-more h l f m =
+      let e = h .degrees in
+      let b = h .small in
+      record {
+        within = omega arith;
+        degrees = sum-step v t (x / 65536) (degreeAt s) (h .degrees) (ap (λ (y : ℕ). y / 65536) is-second);
+        small = omega arith;
+        labels = all-more v (λ u. ltb (labelAt s u) k) (h .labels) (lt-ltb (labelAt s v) k (rw is-second at m));
+      }
+
+  pub label-fails : n ≡ word s 1 → k ≡ word s 3 → v < n → k ≤ x % 65536 → true ≡ badRecords s
+  unfolding badRecords labelled
+  label-fails en ek l m =
+      let f = all-fails (word s 1) v (λ u. ltb (labelAt s u) (word s 3)) (rw en at l) (le-ltb (labelAt s v) (word s 3) (rw (is-second, ek) at m)) in
+      sym (ap (λ (t : Bool). not (eqb (sum (word s 1) (degreeAt s)) (word s 2)) || not t) f ∙ or-true (not (eqb (sum (word s 1) (degreeAt s)) (word s 2))))
+
+pub records-judged : (s : List ℕ) (n k t v a : ℕ) → n ≡ word s 1 → k ≡ word s 3 → a ≡ word s 2 → v ≡ n → Passed s n k t v → not (eqb t a) ≡ badRecords s
+unfolding badRecords labelled
+records-judged s n k t v a en ek ea ev h =
+    let u : v ≡ word s 1 = ev ∙ en in
+    let d : t ≡ sum (word s 1) (degreeAt s) = rw u at (h .degrees) in
+    let f : all (word s 1) (λ u. ltb (labelAt s u) (word s 3)) ≡ true = rw (u, ek) at (h .labels) in
+    rw (d, ea, f) (sym (or-none (not (eqb (sum (word s 1) (degreeAt s)) (word s 2)))))
+
+-- numbers 9, 12 and 13, as far as the later tests lean on them
+pub long-enough : (s : List ℕ) → badLength s ≡ false → 512 ≤ length s
+unfolding badLength
+long-enough s h =
+    let p = or-false (eqb (length s) 0) (not (eqb (length s % 512) 0)) h in
+    let z = eqb-false (length s) 0 (p .0) in
+    let r = eqb-true (length s % 512) 0 (not-false (eqb (length s % 512) 0) (p .1)) in
+    omega (arith, z)
+
+pub in-numbers : (s : List ℕ) → badNumbers s ≡ false → InRange (word s 1) (word s 2) (word s 3)
+unfolding badNumbers
+in-numbers s h = in-range (word s 1) (word s 2) (word s 3) (or-false (outOfRange (word s 1) (word s 2) (word s 3)) (unfitValue (word s 4) (word s 5 + wrap * word s 6)) h .0)
+
+pub sized-by : (s : List ℕ) (second : ℕ) → badLength s ≡ false → badLater second s ≡ false → length s ≡ 512 * blocksOf (word s 1) (word s 2)
+unfolding badLength badLater
+sized-by s second h l =
+    let p = or-false (eqb (length s) 0) (not (eqb (length s % 512) 0)) h in
+    let r = eqb-true (length s % 512) 0 (not-false (eqb (length s % 512) 0) (p .1)) in
+    let q = or-false (not (eqb (blocksIn s) (blocksOf (word s 1) (word s 2)))) (not (laterLaid second (word s 1) (word s 2) s)) l in
+    let b = eqb-true (blocksIn s) (blocksOf (word s 1) (word s 2)) (not-false (eqb (blocksIn s) (blocksOf (word s 1) (word s 2))) (q .0)) in
+    omega arith
+
+-- number 12, by its two tests
+module _ (s : List ℕ) (n a k : ℕ) (r : Bool) (en : n ≡ word s 1) (ea : a ≡ word s 2) (ek : k ≡ word s 3) (er : r ≡ outOfRange n a k) where
+  pub numbers-out : r ≡ true → true ≡ badNumbers s
+  unfolding badNumbers
+  numbers-out t = sym (rw (← en, ← ea, ← ek, ← er, t))
+
+  pub numbers-judged : (u : Bool) (choice value : ℕ) → r ≡ false → choice ≡ word s 4 → value ≡ word s 5 + wrap * word s 6 → u ≡ unfitValue choice value → u ≡ badNumbers s
+  unfolding badNumbers
+  numbers-judged u choice value f ec ev eu = eu ∙ sym (rw (← en, ← ea, ← ek, ← er, f, ← ec, ← ev))
+
+-- number 13, block by block
+abbrev pub laterTo : List ℕ → ℕ → ℕ → ℕ → ℕ → Bool
+laterTo s second n a b = allFrom 1 b (λ b. laidOut second (kindAt n b) (countAt n a b) (inBlock s b))
+
+module _ (s : List ℕ) (second n a b kind count : ℕ) (r : Bool) (ek : kind ≡ kindAt n b) (ec : count ≡ countAt n a b) (er : r ≡ laidOut second kind count (inBlock s b)) where
+  laid-here : laidOut second (kindAt n b) (countAt n a b) (inBlock s b) ≡ r
+  laid-here = sym (er ∙ ap₂ (λ (x y : ℕ). laidOut second x y (inBlock s b)) ek ec)
+
+  pub later-more : 1 ≤ b → r ≡ true → laterTo s second n a b ≡ true → laterTo s second n a (b + 1) ≡ true
+  later-more l t h = from-more 1 b (λ b. laidOut second (kindAt n b) (countAt n a b) (inBlock s b)) l h (laid-here ∙ t)
+
+  pub later-fails : 1 ≤ b → b < blocksIn s → r ≡ false → false ≡ laterLaid second n a s
+  unfolding laterLaid
+  later-fails l m f = sym (from-fails 1 (blocksIn s) (λ b. laidOut second (kindAt n b) (countAt n a b) (inBlock s b)) b l m (laid-here ∙ f))
+
+pub later-all : (s : List ℕ) (second n a b : ℕ) → b ≡ blocksIn s → laterTo s second n a b ≡ true → true ≡ laterLaid second n a s
+unfolding laterLaid
+later-all s second n a b e h = sym (rw e at h)
+
+-- number 13, by its two tests
+module _ (s : List ℕ) (second n a m : ℕ) (en : n ≡ word s 1) (ea : a ≡ word s 2) (em : m ≡ blocksOf n a) where
+  pub blocks-differ : (blocksIn s ≡ m → ⊥) → true ≡ badLater second s
+  unfolding badLater
+  blocks-differ ne = sym (rw (← en, ← ea, ← em, ne-eqb (blocksIn s) m ne))
+
+  pub later-judged : (r : Bool) → blocksIn s ≡ m → r ≡ laterLaid second n a s → not r ≡ badLater second s
+  unfolding badLater
+  later-judged r e er = sym (rw (← en, ← ea, ← em, eq-eqb (blocksIn s) m e, ← er))
+
+-- the reader's number, by its parts
+module _ (s : List ℕ) (labels weights starts neighbours arcWeights : ℕ) where
+  pub number-first : (m : ℕ) → m ≡ fileNumber s → (m ≡ 0 → ⊥) → m ≡ numberFor s labels weights starts neighbours arcWeights
+  unfolding numberFor
+  number-first zero e ne = absurd (ne refl)
+  number-first (suc m) e ne = rw (← e)
+
+  pub number-room : (n a m : ℕ) (r : Bool) → fileNumber s ≡ 0 → n ≡ word s 1 → a ≡ word s 2 → r ≡ short n a labels weights starts neighbours arcWeights → m ≡ cond r 15 0 → m ≡ numberFor s labels weights starts neighbours arcWeights
+  unfolding numberFor planOf
+  number-room n a m r e en ea er em = em ∙ sym (rw (e, ← en, ← ea, ← er))
+
+-- where the reader's number is 0, the file is accepted and the targets are long enough
+pub record Room (s : List ℕ) (l w t n a : ℕ) : Type 0 where
+  pub accepted : fileNumber s ≡ 0
+  pub labels : word s 1 ≤ l
+  pub weights : word s 1 ≤ w
+  pub starts : word s 1 + 1 ≤ t
+  pub neighbours : word s 2 ≤ n
+  pub arcWeights : word s 2 ≤ a
+
+module _ (s : List ℕ) (l w t n a : ℕ) where
+  pub room : numberFor s l w t n a ≡ 0 → Room s l w t n a
+  unfolding numberFor planOf short
+  room h = go (fileNumber s) refl h
+    where
+      fits : (b : Bool) → b ≡ (ltb l (word s 1) || (ltb w (word s 1) || (ltb t (word s 1 + 1) || (ltb n (word s 2) || ltb a (word s 2))))) → _≡_ {A = ℕ} (cond b 15 0) 0 → fileNumber s ≡ 0 → Room s l w t n a
+      fits true e z f = absurd (omega arith)
+      fits false e z f =
+          let p = or-false (ltb l (word s 1)) (ltb w (word s 1) || (ltb t (word s 1 + 1) || (ltb n (word s 2) || ltb a (word s 2)))) (sym e) in
+          let q = or-false (ltb w (word s 1)) (ltb t (word s 1 + 1) || (ltb n (word s 2) || ltb a (word s 2))) (p .1) in
+          let r = or-false (ltb t (word s 1 + 1)) (ltb n (word s 2) || ltb a (word s 2)) (q .1) in
+          let u = or-false (ltb n (word s 2)) (ltb a (word s 2)) (r .1) in
+          record {
+            accepted = f;
+            labels = ltb-false l (word s 1) (p .0);
+            weights = ltb-false w (word s 1) (q .0);
+            starts = ltb-false t (word s 1 + 1) (r .0);
+            neighbours = ltb-false n (word s 2) (u .0);
+            arcWeights = ltb-false a (word s 2) (u .1);
+          }
+
+      go : (m : ℕ) → fileNumber s ≡ m → orElse m (cond (ltb l (word s 1) || (ltb w (word s 1) || (ltb t (word s 1 + 1) || (ltb n (word s 2) || ltb a (word s 2))))) 15 0) ≡ 0 → Room s l w t n a
+      go zero e z = fits _ refl z e
+      go (suc m) e z = absurd (omega arith)
+
+-- the vertices' records, vertex by vertex
+pub record VerticesTo (s labels₀ weights₀ starts₀ : List ℕ) (n : ℕ) (labels weights starts : List ℕ) (row v : ℕ) : Type 0 where
+  pub file : Fine s
+  pub all : n ≡ word s 1
+  pub roomLabels : n ≤ length labels₀
+  pub roomWeights : n ≤ length weights₀
+  pub roomStarts : n + 1 ≤ length starts₀
+  pub within : v ≤ n
+  pub rows : row ≡ sum v (degreeAt s)
+  pub labelled : labels ≡ written (labelAt s) v labels₀
+  pub weighed : weights ≡ written (λ u. word s (vertexAt u)) v weights₀
+  pub started : starts ≡ written (λ u. sum u (degreeAt s)) v starts₀
+  pub longLabels : length labels ≡ length labels₀
+  pub longWeights : length weights ≡ length weights₀
+  pub longStarts : length starts ≡ length starts₀
+
+module _ (s labels₀ weights₀ starts₀ : List ℕ) (n : ℕ) where
+  pub vertices-none : Fine s → n ≡ word s 1 → n ≤ length labels₀ → n ≤ length weights₀ → n + 1 ≤ length starts₀ → VerticesTo s labels₀ weights₀ starts₀ n labels₀ weights₀ starts₀ 0 0
+  vertices-none f e l w t =
+      record {
+        file = f;
+        all = e;
+        roomLabels = l;
+        roomWeights = w;
+        roomStarts = t;
+        within = omega arith;
+        rows = sym (sum-none (degreeAt s));
+        labelled = written-none (labelAt s) labels₀;
+        weighed = written-none (λ u. word s (vertexAt u)) weights₀;
+        started = written-none (λ u. sum u (degreeAt s)) starts₀;
+        longLabels = refl;
+        longWeights = refl;
+        longStarts = refl;
+      }
+
+module _ (s labels₀ weights₀ starts₀ : List ℕ) (n : ℕ) (labels weights starts : List ℕ) (row v : ℕ) (h : VerticesTo s labels₀ weights₀ starts₀ n labels weights starts row v) where
+  -- a row's start and its degree are at most a
+  pub row-most : v < n → (x at : ℕ) → at ≡ vertexAt v → x ≡ word s (at + 1) → row + x / 65536 ≤ 65535
+  row-most l x at p e =
+      let d : x / 65536 ≡ degreeAt s v = ap (λ (y : ℕ). y / 65536) (e ∙ ap (λ (y : ℕ). word s (y + 1)) p) in
+      let m = sum-more v (degreeAt s) in
+      let g = sum-grows (v + 1) (word s 1) (degreeAt s) (let q = h .all in omega arith) in
+      let f = h .file .rows in
+      let k = h .file .fewArcs in
+      let r = h .rows in
+      omega arith
+
+  pub vertices-more : v < n → (x y at : ℕ) → at ≡ vertexAt v → x ≡ word s (at + 1) → y ≡ word s at
+      → VerticesTo s labels₀ weights₀ starts₀ n (set labels v (x % 65536)) (set weights v y) (set starts v row) (row + x / 65536) (v + 1)
+  vertices-more l x y at p ex ey =
+      let e : x ≡ word s (vertexAt v + 1) = ex ∙ ap (λ (y : ℕ). word s (y + 1)) p in
+      record {
+        file = h .file;
+        all = h .all;
+        roomLabels = h .roomLabels;
+        roomWeights = h .roomWeights;
+        roomStarts = h .roomStarts;
+        within = omega arith;
+        rows = sum-step v row (x / 65536) (degreeAt s) (h .rows) (ap (λ (y : ℕ). y / 65536) e);
+        labelled = written-more (labelAt s) v labels₀ labels _ (ap (λ (z : ℕ). set labels v (z % 65536)) e) (h .labelled);
+        weighed = written-more (λ u. word s (vertexAt u)) v weights₀ weights _ (ap (set weights v) (ey ∙ ap (word s) p)) (h .weighed);
+        started = written-more (λ u. sum u (degreeAt s)) v starts₀ starts _ (ap (set starts v) (h .rows)) (h .started);
+        longLabels = length-set labels v (x % 65536) ∙ h .longLabels;
+        longWeights = length-set weights v y ∙ h .longWeights;
+        longStarts = length-set starts v row ∙ h .longStarts;
+      }
+
+-- a list written from the front: a table, and what stood past its end
+handed : (f : ℕ → ℕ) (n : ℕ) (xs ks : List ℕ) → n ≤ length xs → ks ≡ written f n xs → ks ≡ over (table n f) xs
+handed f n xs ks l e = e ∙ written-table f n xs l ∙ ap (λ (m : ℕ). table n f ++ drop m xs) (sym (length-table n f))
+
+-- the starts of the degrees in the file
+starts-are : (s : List ℕ) → table (word s 1 + 1) (λ v. sum v (degreeAt s)) ≡ startsOf (word s 1) (planOf s .degrees)
+unfolding startsOf planOf
+starts-are s =
+    table-ext (word s 1 + 1) (λ v. sum v (degreeAt s)) (λ v. sum v (λ u. getD (table (word s 1) (degreeAt s)) u 0)) (λ v l. sum-ext v (degreeAt s) (λ u. getD (table (word s 1) (degreeAt s)) u 0) (λ u m. sym (table-at (word s 1) u 0 (degreeAt s) (omega arith))))
+
+module _ (s labels₀ weights₀ starts₀ : List ℕ) (n : ℕ) (labels weights starts : List ℕ) (row v : ℕ) (h : VerticesTo s labels₀ weights₀ starts₀ n labels weights starts row v) (e : v ≡ n) where
+  pub vertices-done : (labels ≡ over (planOf s .labels) labels₀) × (weights ≡ over (planOf s .weights) weights₀) × (set starts n row ≡ over (startsOf (word s 1) (planOf s .degrees)) starts₀)
+  unfolding planOf
+  vertices-done =
+      let u : v ≡ word s 1 = e ∙ h .all in
+      let k : set starts n row ≡ written (λ u. sum u (degreeAt s)) (v + 1) starts₀ = written-more (λ u. sum u (degreeAt s)) v starts₀ starts _ (ap₂ (set starts) (sym e) (h .rows)) (h .started) in (
+        handed (labelAt s) (word s 1) labels₀ labels (let q = h .all in let r = h .roomLabels in omega arith) (rw u at (h .labelled)),
+        handed (λ u. word s (vertexAt u)) (word s 1) weights₀ weights (let q = h .all in let r = h .roomWeights in omega arith) (rw u at (h .weighed)),
+        handed (λ u. sum u (degreeAt s)) (word s 1 + 1) starts₀ (set starts n row) (let q = h .all in let r = h .roomStarts in omega arith) (rw u at k) ∙ ap (λ (xs : List ℕ). over xs starts₀) (starts-are s),
+      )
+
+-- the arcs' records, arc by arc
+pub record ArcsTo (s neighbours₀ weights₀ : List ℕ) (a first : ℕ) (neighbours weights : List ℕ) (e : ℕ) : Type 0 where
+  pub file : Fine s
+  pub all : a ≡ word s 2
+  pub from : first ≡ 1 + blocksFor (word s 1)
+  pub roomNeighbours : a ≤ length neighbours₀
+  pub roomWeights : a ≤ length weights₀
+  pub within : e ≤ a
+  pub joined : neighbours ≡ written (λ u. word s (arcAt (word s 1) u)) e neighbours₀
+  pub weighed : weights ≡ written (λ u. word s (arcAt (word s 1) u + 1)) e weights₀
+  pub longNeighbours : length neighbours ≡ length neighbours₀
+  pub longWeights : length weights ≡ length weights₀
+
+pub arcs-none : (s neighbours₀ weights₀ : List ℕ) (a first : ℕ) → Fine s → a ≡ word s 2 → first ≡ 1 + blocksFor (word s 1) → a ≤ length neighbours₀ → a ≤ length weights₀ → ArcsTo s neighbours₀ weights₀ a first neighbours₀ weights₀ 0
+arcs-none s neighbours₀ weights₀ a first f e o n w =
+    record {
+      file = f;
+      all = e;
+      from = o;
+      roomNeighbours = n;
+      roomWeights = w;
+      within = omega arith;
+      joined = written-none (λ u. word s (arcAt (word s 1) u)) neighbours₀;
+      weighed = written-none (λ u. word s (arcAt (word s 1) u + 1)) weights₀;
+      longNeighbours = refl;
+      longWeights = refl;
+    }
+
+module _ (s neighbours₀ weights₀ : List ℕ) (a first : ℕ) (neighbours weights : List ℕ) (e : ℕ) (h : ArcsTo s neighbours₀ weights₀ a first neighbours weights e) where
+  pub arcs-more : e < a → (x y at : ℕ) → at ≡ 128 * (first + e / 63) + 1 + 2 * (e % 63) → x ≡ word s at → y ≡ word s (at + 1) → ArcsTo s neighbours₀ weights₀ a first (set neighbours e x) (set weights e y) (e + 1)
+  arcs-more l x y at p ex ey =
+      let q : at ≡ arcAt (word s 1) e = p ∙ ap (λ (z : ℕ). 128 * (z + e / 63) + 1 + 2 * (e % 63)) (h .from) in
+      record {
+        file = h .file;
+        all = h .all;
+        from = h .from;
+        roomNeighbours = h .roomNeighbours;
+        roomWeights = h .roomWeights;
+        within = omega arith;
+        joined = written-more (λ u. word s (arcAt (word s 1) u)) e neighbours₀ neighbours _ (ap (set neighbours e) (ex ∙ ap (word s) q)) (h .joined);
+        weighed = written-more (λ u. word s (arcAt (word s 1) u + 1)) e weights₀ weights _ (ap (set weights e) (ey ∙ ap (λ (z : ℕ). word s (z + 1)) q)) (h .weighed);
+        longNeighbours = length-set neighbours e x ∙ h .longNeighbours;
+        longWeights = length-set weights e y ∙ h .longWeights;
+      }
+
+  pub arcs-done : e ≡ a → (neighbours ≡ over (planOf s .neighbours) neighbours₀) × (weights ≡ over (planOf s .arcWeights) weights₀)
+  unfolding planOf
+  arcs-done q =
+      let u : e ≡ word s 2 = q ∙ h .all in (
+        handed (λ u. word s (arcAt (word s 1) u)) (word s 2) neighbours₀ neighbours (let q = h .all in let r = h .roomNeighbours in omega arith) (rw u at (h .joined)),
+        handed (λ u. word s (arcAt (word s 1) u + 1)) (word s 2) weights₀ weights (let q = h .all in let r = h .roomWeights in omega arith) (rw u at (h .weighed)),
+      )

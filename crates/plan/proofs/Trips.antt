@@ -1,0 +1,269 @@
+-- THE ROUND TRIPS, over the promises of `read_plan` and `write_plan`. Assumes nothing.
+use mathlib.Core.Path.{_≡_, refl, sym, ap, ap₂, _∙_, subst}
+use mathlib.Core.Bool.{Bool, true, false, cond}
+use mathlib.Core.List.{List}
+use Prim.Native.Nat.{ℕ, _+_, _-_, _/_, _≤_, _<_}
+use native.Mathlib.Omega.{arith}
+use lib.ListN.{length, getD, take, drop, List·getD-eq-default}
+use lib.Seq.{ext-getD, take-at}
+use lib.Dec.{ltb, eqb}
+use lib.Ieee.{binary64, ofBits, toBits}
+use lib.Ieee.Bits.{ofBits-toBits}
+use borrow.Author.Tests.{eqb-true, ne-eqb, ltb-true, ltb-false}
+use Rattle.lists.specs.Sum.{sum}
+use Rattle.lists.specs.Fill.{table}
+use Rattle.lists.proofs.Totals.{sum-ext}
+use Rattle.lists.proofs.Tables.{length-table, table-at}
+use Rattle.imbalance.specs.Ceiling.{zero64}
+use Rattle.plan_blocks.specs.Word.{wrap, word, over}
+use Rattle.plan_blocks.specs.Plan.{Plan, Legal, valueOf}
+use Rattle.plan_blocks.specs.Encode.{encode}
+use Rattle.plan_blocks.specs.Decode.{vertexAt, arcAt, planOf, fileNumber}
+use Rattle.plan_blocks.proofs.WordLaws.{Bytes, word-below, bytes-below}
+use Rattle.plan_blocks.proofs.Accepts.{accepts}
+use Rattle.plan_blocks.proofs.Rewritten.{same-bytes}
+use Rattle.plan_blocks.proofs.Reread.{same-number, same-plan, length-is}
+use Rattle.plan_blocks.proofs.RoundTrips.{legal-places}
+use Rattle.plan_blocks.proofs.Changed.{refused-ten}
+use Rattle.plan.specs.declared.ReadAnswer.{ReadAnswer}
+use Rattle.plan.specs.declared.WriteAnswer.{WriteAnswer}
+use Rattle.plan.specs.Read.{Targets, short, numberFor, readNumber, startsOf, headerOf, refusalOf, handed, readAnswer, readLeft, Read}
+use Rattle.plan.specs.Write.{Given, planWith, planFrom, vertices, arcs, sizeOf, writeNumber, writeAnswer, writeLeft, Written}
+use Rattle.plan.proofs.ReadLaws.{room as file-room}
+use Rattle.plan.proofs.ReadEntry.{same-targets}
+use Rattle.plan.proofs.WriteEntry.{Fits, fits}
+use Rattle.plan.proofs.Givens.{Typed, givenOf, legal-given, plan-given, typed-given, fits-given, fits-number, telescope}
+
+-- what the promises say where the number is 0
+module _ (s : List ℕ) (t u : Targets) (r : ReadAnswer) (h : Read s t r u) where
+  pub read-zero : r .number ≡ 0 → readNumber s t ≡ 0
+  unfolding readAnswer
+  read-zero z = go (eqb (readNumber s t) 0) refl (h .answered)
+    where
+      go : (b : Bool) → eqb (readNumber s t) 0 ≡ b → r ≡ cond b (headerOf (planOf s)) (refusalOf (readNumber s t)) → readNumber s t ≡ 0
+      go true e q = eqb-true (readNumber s t) 0 e
+      go false e q = sym (ap (λ (x : ReadAnswer). x .number) q) ∙ z
+
+  pub read-header : readNumber s t ≡ 0 → r ≡ headerOf (planOf s)
+  unfolding readAnswer
+  read-header z = rw z at (h .answered)
+
+  pub read-lists : readNumber s t ≡ 0 → u ≡ handed (planOf s) t
+  unfolding readLeft
+  read-lists z =
+      same-targets (rw z at (h .labels)) (rw z at (h .weights)) (rw z at (h .starts)) (rw z at (h .neighbours)) (rw z at (h .arcWeights))
+
+module _ (g : Given) (b c : List ℕ) (q : WriteAnswer) (h : Written g b q c) where
+  write-number : q .number ≡ writeNumber g (length b)
+  unfolding writeAnswer
+  write-number = ap (λ (x : WriteAnswer). x .number) (h .answered)
+
+  pub write-zero : q .number ≡ 0 → writeNumber g (length b) ≡ 0
+  write-zero z = sym write-number ∙ z
+
+  pub write-length : writeNumber g (length b) ≡ 0 → q .length ≡ sizeOf (vertices g) (arcs g)
+  unfolding writeAnswer
+  write-length z = ap (λ (x : WriteAnswer). x .length) (rw z at (h .answered))
+
+  pub write-bytes : writeNumber g (length b) ≡ 0 → c ≡ over (encode (planFrom g)) b
+  unfolding writeLeft
+  write-bytes z = rw z at (h .target)
+
+-- the plan of an accepted file, as the writer takes it
+table-below : (m n : ℕ) (f : ℕ → ℕ) → 0 < m → ((i : ℕ) → f i < m) → (i : ℕ) → getD (table n f) i 0 < m
+table-below m n f z h i = go (ltb i n) refl
+  where
+    go : (t : Bool) → ltb i n ≡ t → getD (table n f) i 0 < m
+    go true e = rw (table-at n i 0 f (ltb-true i n e)) (h i)
+    go false e = let l = length-table n f in let k = ltb-false i n e in rw (List·getD-eq-default (table n f) 0 {n = i} (omega arith)) z
+
+module _ (s : List ℕ) (h : Bytes s) (z : fileNumber s ≡ 0) where
+  legal : Legal (planOf s)
+  legal = legal-places s h z
+
+  size-is : sizeOf (planOf s .n) (planOf s .a) ≡ length s
+  unfolding sizeOf planOf
+  size-is = sym (accepts s z .sized)
+
+  typed-places : Typed (givenOf (planOf s))
+  unfolding planOf
+  typed-places =
+      typed-given (planOf s) legal
+      (table-below wrap (word s 1) (λ v. word s (vertexAt v)) (omega arith) (λ v. word-below s h (vertexAt v)))
+      (table-below wrap (word s 2) (λ e. word s (arcAt (word s 1) e)) (omega arith) (λ e. word-below s h (arcAt (word s 1) e)))
+      (table-below wrap (word s 2) (λ e. word s (arcAt (word s 1) e + 1)) (omega arith) (λ e. word-below s h (arcAt (word s 1) e + 1)))
+
+  number-places : (room : ℕ) → length s ≤ room → writeNumber (givenOf (planOf s)) room ≡ 0
+  number-places room l = let e = size-is in fits-number (givenOf (planOf s)) room (fits-given (planOf s) legal room (omega arith))
+
+  bytes-places : encode (planFrom (givenOf (planOf s))) ≡ s
+  bytes-places = ap encode (plan-given (planOf s) legal) ∙ same-bytes s h (accepts s z)
+
+-- APART FROM ROOM (15), THE READER ACCEPTS EXACTLY THE FILES THAT THE WRITER CAN WRITE
+pub accepted-writable : (s : List ℕ) → Bytes s → fileNumber s ≡ 0 → (g : Given) × Typed g × (writeNumber g (length s) ≡ 0) × (encode (planFrom g) ≡ s)
+accepted-writable s h z = (givenOf (planOf s), typed-places s h z, number-places s h z (length s) (omega arith), bytes-places s h z)
+
+pub writable-accepted : (g : Given) (room : ℕ) → Typed g → writeNumber g room ≡ 0 → Bytes (encode (planFrom g)) × (fileNumber (encode (planFrom g)) ≡ 0)
+unfolding encode
+writable-accepted g room t z = (bytes-below _ _, same-number (planFrom g) (legal-given g room t (fits g room z)))
+
+-- what a reader's answer and targets hold of the plan, as the writer takes it
+abbrev pub givenBy : ReadAnswer → Targets → Given
+givenBy r u =
+    record {
+      labels = take (r .n) (u .labels);
+      weights = take (r .n) (u .weights);
+      starts = take (r .n + 1) (u .starts);
+      neighbours = take (r .a) (u .neighbours);
+      arcWeights = take (r .a) (u .arcWeights);
+      k = r .k;
+      choice = r .choice;
+      whole = r .whole;
+      imbalance = r .imbalance;
+    }
+
+given-handed : (p : Plan) → Legal p → (t : Targets) → givenBy (headerOf p) (handed p t) ≡ givenOf p
+unfolding headerOf handed startsOf
+given-handed p l t =
+    λ i. record {
+      labels = take-at (p .labels) (drop (length (p .labels)) (t .labels)) (p .n) (l .labelled) i;
+      weights = take-at (p .weights) (drop (length (p .weights)) (t .weights)) (p .n) (l .weighed) i;
+      starts = take-at starts (drop (length starts) (t .starts)) (p .n + 1) (length-table (p .n + 1) _) i;
+      neighbours = take-at (p .neighbours) (drop (length (p .neighbours)) (t .neighbours)) (p .a) (l .joined) i;
+      arcWeights = take-at (p .arcWeights) (drop (length (p .arcWeights)) (t .arcWeights)) (p .a) (l .paired) i;
+      k = p .k;
+      choice = p .choice;
+      whole = cond (eqb (p .choice) 1) (p .value) 0;
+      imbalance = cond (eqb (p .choice) 2) (ofBits binary64 (p .value)) zero64;
+    }
+  where
+    starts : List ℕ
+    starts = table (p .n + 1) (λ v. sum v (λ u. getD (p .degrees) u 0))
+
+-- AN ACCEPTED FILE READ AND REWRITTEN is the same bytes
+pub read-then-written : (s : List ℕ) (t u : Targets) (r : ReadAnswer) (b c : List ℕ) (q : WriteAnswer) → Bytes s → Read s t r u → r .number ≡ 0 → length s ≤ length b → Written (givenBy r u) b q c
+    → (q .number ≡ 0) × (q .length ≡ length s) × (c ≡ over s b)
+read-then-written s t u r b c q h read z room wrote =
+    let m = read-zero s t u r read z in
+    let f = file-room s _ _ _ _ _ m .accepted in
+    let l = legal s h f in
+    let e : givenBy r u ≡ givenOf (planOf s) = ap₂ givenBy (read-header s t u r read m) (read-lists s t u r read m) ∙ given-handed (planOf s) l t in
+    let w : Written (givenOf (planOf s)) b q c = subst (λ (g : Given). Written g b q c) e wrote in
+    let n = number-places s h f (length b) room in (
+      write-number (givenOf (planOf s)) b c q w ∙ n,
+      write-length (givenOf (planOf s)) b c q w n ∙ ap₂ sizeOf (l .labelled) (l .joined) ∙ size-is s h f,
+      write-bytes (givenOf (planOf s)) b c q w n ∙ ap (λ (x : List ℕ). over x b) (bytes-places s h f),
+    )
+
+-- what the reader is to hand over of what the writer was given; a value that the choice does not use is no part of a plan
+abbrev pub headerGiven : Given → ReadAnswer
+headerGiven g =
+    record {
+      number = 0;
+      n = vertices g;
+      a = arcs g;
+      k = g .k;
+      choice = g .choice;
+      whole = cond (eqb (g .choice) 1) (g .whole) 0;
+      imbalance = cond (eqb (g .choice) 2) (g .imbalance) zero64;
+    }
+
+abbrev pub listsGiven : Given → Targets → Targets
+listsGiven g t =
+    record {
+      labels = over (g .labels) (t .labels);
+      weights = over (g .weights) (t .weights);
+      starts = over (g .starts) (t .starts);
+      neighbours = over (g .neighbours) (t .neighbours);
+      arcWeights = over (g .arcWeights) (t .arcWeights);
+    }
+
+module _ (g : Given) (room : ℕ) (typed : Typed g) (fit : Fits g room) where
+  header-given : headerOf (planFrom g) ≡ headerGiven g
+  unfolding headerOf planWith valueOf
+  header-given =
+      λ i. record {
+        number = 0;
+        n = vertices g;
+        a = arcs g;
+        k = g .k;
+        choice = g .choice;
+        whole = whole-is (eqb (g .choice) 1) i;
+        imbalance = imbalance-is (g .choice) i;
+      }
+    where
+      whole-is : (t : Bool) → cond t (cond t (g .whole) (cond (eqb (g .choice) 2) (toBits binary64 (g .imbalance)) 0)) 0 ≡ cond t (g .whole) 0
+      whole-is true = refl
+      whole-is false = refl
+
+      two : (m : ℕ) → eqb m 2 ≡ true → eqb m 1 ≡ false
+      two m e = let q = eqb-true m 2 e in ne-eqb m 1 (λ z. omega arith)
+
+      imbalance-is : (m : ℕ) → cond (eqb m 2) (ofBits binary64 (cond (eqb m 1) (g .whole) (cond (eqb m 2) (toBits binary64 (g .imbalance)) 0))) zero64 ≡ cond (eqb m 2) (g .imbalance) zero64
+      imbalance-is m = go (eqb m 2) refl
+        where
+          go : (t : Bool) → eqb m 2 ≡ t → cond t (ofBits binary64 (cond (eqb m 1) (g .whole) (cond t (toBits binary64 (g .imbalance)) 0))) zero64 ≡ cond t (g .imbalance) zero64
+          go true e = rw (two m e) (ofBits-toBits binary64 (g .imbalance) (typed .imbalance))
+          go false e = refl
+
+  starts-given : startsOf (vertices g) (planFrom g .degrees) ≡ g .starts
+  unfolding startsOf planWith
+  starts-given =
+      ext-getD 0 (table (vertices g + 1) sums) (g .starts) (length-table (vertices g + 1) sums ∙ sym (fit .started)) (λ v l. at v (let e = length-table (vertices g + 1) sums in omega arith))
+    where
+      rows : ℕ → ℕ
+      rows v = getD (g .starts) (v + 1) 0 - getD (g .starts) v 0
+
+      sums : ℕ → ℕ
+      sums v = sum v (λ u. getD (table (vertices g) rows) u 0)
+
+      at : (v : ℕ) → v < vertices g + 1 → getD (table (vertices g + 1) sums) v 0 ≡ getD (g .starts) v 0
+      at v l =
+          let e = telescope (g .starts) (vertices g) v (fit .rises) (omega arith) in
+          let z = fit .first in
+          table-at (vertices g + 1) v 0 sums l
+          ∙ sum-ext v (λ u. getD (table (vertices g) rows) u 0) rows (λ u m. table-at (vertices g) u 0 rows (omega arith))
+          ∙ (let k : sum v rows ≡ getD (g .starts) v 0 = omega arith in k)
+
+  lists-given : (t : Targets) → handed (planFrom g) t ≡ listsGiven g t
+  unfolding handed planWith
+  lists-given t = same-targets refl refl (ap (λ (x : List ℕ). over x (t .starts)) starts-given) refl refl
+
+-- the file stands first in the target
+file-first : (g : Given) (b : List ℕ) → Legal (planFrom g) → take (sizeOf (vertices g) (arcs g)) (over (encode (planFrom g)) b) ≡ encode (planFrom g)
+unfolding sizeOf planWith
+file-first g b l = take-at (encode (planFrom g)) (drop (length (encode (planFrom g))) b) (sizeOf (vertices g) (arcs g)) (length-is (planFrom g) l)
+
+number-given : (g : Given) → Legal (planFrom g) → (t : Targets) → short (vertices g) (arcs g) (length (t .labels)) (length (t .weights)) (length (t .starts)) (length (t .neighbours)) (length (t .arcWeights)) ≡ false → readNumber (encode (planFrom g)) t ≡ 0
+unfolding numberFor planWith
+number-given g l t roomy = rw (same-number (planFrom g) l, same-plan (planFrom g) l, roomy)
+
+-- a refusal with 10
+read-ten : (s : List ℕ) (t u : Targets) (r : ReadAnswer) → Read s t r u → fileNumber s ≡ 10 → (r ≡ refusalOf 10) × (u ≡ t)
+unfolding numberFor readAnswer readLeft
+read-ten s t u r h e =
+    (rw e at (h .answered), same-targets (rw e at (h .labels)) (rw e at (h .weights)) (rw e at (h .starts)) (rw e at (h .neighbours)) (rw e at (h .arcWeights)))
+
+-- A PLAN WRITTEN AND READ is the same plan: the header, the bits of e among it, and every list
+pub written-then-read : (g : Given) (b c : List ℕ) (q : WriteAnswer) (t u : Targets) (r : ReadAnswer) → Typed g → Written g b q c → q .number ≡ 0
+    → short (vertices g) (arcs g) (length (t .labels)) (length (t .weights)) (length (t .starts)) (length (t .neighbours)) (length (t .arcWeights)) ≡ false
+    → Read (take (q .length) c) t r u → (r ≡ headerGiven g) × (u ≡ listsGiven g t)
+written-then-read g b c q t u r typed wrote z roomy read =
+    let m = write-zero g b c q wrote z in
+    let f = fits g (length b) m in
+    let l = legal-given g (length b) typed f in
+    let s : take (q .length) c ≡ encode (planFrom g) = ap₂ take (write-length g b c q wrote m) (write-bytes g b c q wrote m) ∙ file-first g b l in
+    let d : Read (encode (planFrom g)) t r u = subst (λ (x : List ℕ). Read x t r u) s read in
+    let n = number-given g l t roomy in (
+      read-header (encode (planFrom g)) t u r d n ∙ ap headerOf (same-plan (planFrom g) l) ∙ header-given g (length b) typed f,
+      read-lists (encode (planFrom g)) t u r d n ∙ ap (λ (p : Plan). handed p t) (same-plan (planFrom g) l) ∙ lists-given g (length b) typed f t,
+    )
+
+-- ONE WORD CHANGED: s′ has the bytes of the accepted s but for its word w, and is not s; it is refused with 10, and nothing is written
+pub one-word-changed : (s s′ : List ℕ) (w : ℕ) (t u t′ u′ : Targets) (r r′ : ReadAnswer) → Bytes s → Bytes s′ → length s′ ≡ length s
+    → ((i : ℕ) → (i / 4 ≡ w → ⊥) → getD s′ i 0 ≡ getD s i 0) → (s′ ≡ s → ⊥)
+    → Read s t r u → r .number ≡ 0 → Read s′ t′ r′ u′ → (r′ ≡ refusalOf 10) × (u′ ≡ t′)
+one-word-changed s s′ w t u t′ u′ r r′ h h′ long rest differ read z read′ =
+    let m = read-zero s t u r read z in
+    let f = file-room s _ _ _ _ _ m .accepted in
+    read-ten s′ t′ u′ r′ read′ (refused-ten s s′ w h h′ long rest differ f)

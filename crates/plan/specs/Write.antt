@@ -1,0 +1,124 @@
+-- What the writer answers and leaves in its target, for every input (document 01, "Plan blocks").
+use mathlib.Core.Path.{_≡_}
+use mathlib.Core.Bool.{Bool, not, cond, _||_}
+use mathlib.Core.List.{List}
+use Prim.Native.Nat.{ℕ, _+_, _-_, _*_, _/_, _%_, _≤_, _<_}
+use lib.ListN.{length, getD}
+use lib.Dec.{leb, ltb, eqb}
+use lib.Ieee.{Float}
+use Rattle.lists.specs.Sum.{sum}
+use Rattle.lists.specs.All.{all}
+use Rattle.lists.specs.Fill.{table}
+use Rattle.imbalance.specs.Ceiling.{unfitChoice}
+use Rattle.imbalance.specs.Limit.{mostVertices, mostArcs}
+use Rattle.plan.specs.declared.WriteAnswer.{WriteAnswer}
+use Rattle.plan_blocks.specs.Word.{wrap, over}
+use Rattle.plan_blocks.specs.Block.{blocksOf}
+use Rattle.plan_blocks.specs.Plan.{Plan, outOfRange, valueOf}
+use Rattle.plan_blocks.specs.Encode.{bodyWord, encode}
+
+-- what the writer is given
+pub record Given : Type 0 where
+  pub labels : List ℕ
+  pub weights : List ℕ
+  pub starts : List ℕ
+  pub neighbours : List ℕ
+  pub arcWeights : List ℕ
+  pub k : ℕ
+  pub choice : ℕ
+  pub whole : ℕ
+  pub imbalance : Float
+
+-- n is the count of labels, a the count of neighbours
+abbrev pub vertices : Given → ℕ
+vertices g = length (g .labels)
+
+abbrev pub arcs : Given → ℕ
+arcs g = length (g .neighbours)
+
+-- the plan of these lists, numbers and value: a vertex's degree is the length of its row
+unfoldable pub planWith : List ℕ → List ℕ → List ℕ → List ℕ → List ℕ → ℕ → ℕ → ℕ → Plan
+planWith labels weights starts neighbours arcWeights k choice value =
+    record {
+      n = length labels;
+      a = length neighbours;
+      k = k;
+      choice = choice;
+      value = value;
+      weights = weights;
+      labels = labels;
+      degrees = table (length labels) (λ v. getD starts (v + 1) 0 - getD starts v 0);
+      neighbours = neighbours;
+      arcWeights = arcWeights;
+    }
+
+-- the plan that is given
+abbrev pub planFrom : Given → Plan
+planFrom g =
+    planWith (g .labels) (g .weights) (g .starts) (g .neighbours) (g .arcWeights) (g .k) (g .choice) (valueOf (g .choice) (g .whole) (g .imbalance))
+
+-- 12: "a header number out of range", "value fitting its choice"
+unfoldable pub unfit : Given → Bool
+unfit g = outOfRange (vertices g) (arcs g) (g .k) || unfitChoice (g .choice) (g .imbalance)
+
+-- 1: "weights not n, starts not n+1, or neighbours and arc weights differ in count"
+unfoldable pub miscounted : Given → Bool
+miscounted g =
+    not (eqb (length (g .weights)) (vertices g))
+    || (not (eqb (length (g .starts)) (vertices g + 1))
+    || not (eqb (length (g .neighbours)) (length (g .arcWeights))))
+
+-- no start is above the next
+unfoldable pub rising : ℕ → List ℕ → Bool
+rising n starts = all n (λ v. leb (getD starts v 0) (getD starts (v + 1) 0))
+
+-- 3, starts only: not "Starts begin at 0, never fall and end at a."
+unfoldable pub badStarts : ℕ → ℕ → List ℕ → Bool
+badStarts n a starts =
+    not (eqb (getD starts 0 0) 0) || (not (eqb (getD starts n 0) a) || not (rising n starts))
+
+-- 14: "a label is not below k"; the degrees of starts that are in order sum to a
+unfoldable pub badLabels : ℕ → List ℕ → Bool
+badLabels k labels = not (all (length labels) (λ v. ltb (getD labels v 0) k))
+
+-- how many bytes the plan's file has
+unfoldable pub sizeOf : ℕ → ℕ → ℕ
+sizeOf n a = 512 * blocksOf n a
+
+-- "The writer refuses by 12, 1, 3 (starts only), 14, 15, in that order": of what is given, and the target's length
+unfoldable pub writeNumber : Given → ℕ → ℕ
+writeNumber g room =
+    cond (unfit g) 12
+    (cond (miscounted g) 1
+    (cond (badStarts (vertices g) (arcs g) (g .starts)) 3
+    (cond (badLabels (g .k) (g .labels)) 14
+    (cond (ltb room (sizeOf (vertices g) (arcs g))) 15 0))))
+
+-- THE ANSWER: the number, and the length that was written, 0 on a refusal
+unfoldable pub writeAnswer : Given → List ℕ → WriteAnswer
+writeAnswer g target =
+    record { number = writeNumber g (length target); length = cond (eqb (writeNumber g (length target)) 0) (sizeOf (vertices g) (arcs g)) 0 }
+
+-- THE TARGET: the plan's file, and what stood past its end; a refusal writes nothing
+unfoldable pub writeLeft : Given → List ℕ → List ℕ
+writeLeft g target = cond (eqb (writeNumber g (length target)) 0) (over (encode (planFrom g)) target) target
+
+-- the words of its block before word w of the file, summed, wrapping
+unfoldable pub summed : Plan → ℕ → ℕ
+summed p w = sum (w % 128) (bodyWord 0 p (w / 128)) % wrap
+
+-- What the writer's inner functions ask of the lists: their counts, starts in order, and labels that two bytes hold.
+pub record Writable (labels weights starts neighbours arcWeights : List ℕ) : Type 0 where
+  pub few : length labels ≤ mostVertices
+  pub fewArcs : length neighbours ≤ mostArcs
+  pub weighed : length weights ≡ length labels
+  pub started : length starts ≡ length labels + 1
+  pub paired : length arcWeights ≡ length neighbours
+  pub rises : (v : ℕ) → v < length labels → getD starts v 0 ≤ getD starts (v + 1) 0
+  pub within : (v : ℕ) → v ≤ length labels → getD starts v 0 ≤ mostArcs
+  pub named : (v : ℕ) → v < length labels → getD labels v 0 < 65536
+
+-- THE PROMISE: of what is given, the target t at entry, an answer r and the target u at exit
+pub record Written (g : Given) (t : List ℕ) (r : WriteAnswer) (u : List ℕ) : Type 0 where
+  pub answered : r ≡ writeAnswer g t
+  pub target : u ≡ writeLeft g t

@@ -1,0 +1,104 @@
+// The plan file: its reader and its writer. Document 01, "Plan blocks".
+ghost use Rattle.plan.specs.Read.{Read};
+ghost use Rattle.plan.specs.Write.{Written};
+
+mod reader; // reader.rt: the numbers that refuse a file, and the records
+mod writer; // writer.rt: the numbers that refuse a plan, and the words
+
+// What the reader answers: document 01's number, and where that is 0 the header. A value that the choice does not use is 0.
+#[repr(C)]
+pub struct ReadAnswer {
+    pub number: u32,
+    pub n: u32,
+    pub a: u32,
+    pub k: u32,
+    pub choice: u32,
+    pub whole: u32,
+    pub imbalance: f64,
+}
+
+// What the writer answers: document 01's number, and the length that it wrote, 0 on a refusal.
+#[repr(C)]
+pub struct WriteAnswer {
+    pub number: u32,
+    pub length: u64,
+}
+
+// Reads a plan into the five targets. A refusal writes nothing; targets keep what stood past the plan's end.
+pub fn read_plan(
+    bytes: &[u8],
+    labels: &mut [u32],
+    weights: &mut [u32],
+    starts: &mut [u32],
+    neighbours: &mut [u32],
+    arc_weights: &mut [u32],
+) -> ReadAnswer
+    ensures { λ r. ⌜ Read
+        (now (bytes .entry))
+        (record { labels = now (labels .entry); weights = now (weights .entry); starts = now (starts .entry); neighbours = now (neighbours .entry); arcWeights = now («arc_weights» .entry) })
+        r
+        (record { labels = now (labels .exit); weights = now (weights .exit); starts = now (starts .exit); neighbours = now (neighbours .exit); arcWeights = now («arc_weights» .exit) }) ⌝ }
+{
+    let number = reader::read_number(
+        bytes,
+        labels.len(),
+        weights.len(),
+        starts.len(),
+        neighbours.len(),
+        arc_weights.len(),
+    );
+    if number != 0 {
+        return reader::refusal(number);
+    }
+    reader::read_vertices(bytes, labels, weights, starts);
+    reader::read_arcs(bytes, neighbours, arc_weights);
+    reader::header(bytes)
+}
+
+// Writes a plan into the target. A refusal writes nothing; the target keeps what stood past the plan's end.
+pub fn write_plan(
+    labels: &[u32],
+    weights: &[u32],
+    starts: &[u32],
+    neighbours: &[u32],
+    arc_weights: &[u32],
+    k: u32,
+    choice: u32,
+    whole: u32,
+    imbalance: f64,
+    target: &mut [u8],
+) -> WriteAnswer
+    ensures { λ r. ⌜ Written
+        (record { labels = now (labels .entry); weights = now (weights .entry); starts = now (starts .entry); neighbours = now (neighbours .entry); arcWeights = now («arc_weights» .entry); k = k; choice = choice; whole = whole; imbalance = imbalance })
+        (now (target .entry))
+        r
+        (now (target .exit)) ⌝ }
+{
+    let number = writer::write_number(
+        labels,
+        weights,
+        starts,
+        neighbours,
+        arc_weights,
+        k,
+        choice,
+        imbalance,
+        target.len(),
+    );
+    if number != 0 {
+        return WriteAnswer { number, length: 0 };
+    }
+    let value = plan_blocks::ceiling::value_of(choice, whole, imbalance);
+    let length = writer::write_words(
+        labels,
+        weights,
+        starts,
+        neighbours,
+        arc_weights,
+        k,
+        choice,
+        value,
+        target,
+    );
+    WriteAnswer { number: 0, length }
+}

@@ -1,0 +1,292 @@
+// The reader: the numbers that refuse a file, and the records of one that is accepted.
+use crate::ReadAnswer;
+use plan_blocks::ceiling;
+use plan_blocks::layout;
+use plan_blocks::words;
+ghost use mathlib.Core.Path.{_≡_};
+ghost use mathlib.Core.Bool.{true, false};
+ghost use Prim.Native.Nat.{_+_, _*_, _/_, _≤_, _<_};
+ghost use lib.ListN.{length};
+ghost use Rattle.lists.specs.Sum.{sum};
+ghost use Rattle.plan_blocks.specs.Word.{word, over};
+ghost use Rattle.plan_blocks.specs.Block.{laidOut, blocksOf};
+ghost use Rattle.plan_blocks.specs.Decode.{inBlock, blocksIn, badLength, badCheck, badNumbers, laterLaid, badLater, badRecords, planOf, fileNumber};
+ghost use Rattle.plan.specs.Read.{short, numberFor, startsOf, headerOf, refusalOf};
+
+// Number 9's test.
+fn bad_length(bytes: &[u8]) -> bool
+    ensures { λ r. ⌜ r ≡ badLength (now (bytes .entry)) ⌝ }
+{
+    if bytes.len() == 0 {
+        return true;
+    }
+    bytes.len() % 512 != 0
+}
+
+// Number 10's test: one walk over the file.
+fn bad_check(bytes: &[u8], must: u32) -> bool
+    ensures { λ r. ⌜ r ≡ badCheck must (now (bytes .entry)) ⌝ }
+{
+    let blocks = bytes.len() / 512;
+    let mut b: usize = 0;
+    while b < blocks {
+        let at = 512 * b;
+        let end = at + 512;
+        if words::block_sum(&bytes[at..end]) != must {
+            return true;
+        }
+        b += 1;
+    }
+    false
+}
+
+// Whether block b is laid out as its kind and its count ask.
+fn laid_out(bytes: &[u8], b: usize, second: usize, kind: usize, count: usize) -> bool
+    requires { ⌜ (512 * b + 512 ≤ length (now bytes)) × (second < 256) × (kind < 256) × (count ≤ 63) ⌝ }
+    ensures { λ r. ⌜ r ≡ laidOut second kind count (inBlock (now (bytes .entry)) b) ⌝ }
+{
+    let first = 128 * b;
+    if lists::index(words::word_at(bytes, first)) != kind + 256 * second + 65536 * count {
+        return false;
+    }
+    let mut j = 1 + 2 * count;
+    while j < 127 {
+        if words::word_at(bytes, first + j) != 0 {
+            return false;
+        }
+        j += 1;
+    }
+    true
+}
+
+// Number 12's test.
+fn bad_numbers(bytes: &[u8]) -> bool
+    requires { ⌜ 512 ≤ length (now bytes) ⌝ }
+    ensures { λ r. ⌜ r ≡ badNumbers (now (bytes .entry)) ⌝ }
+{
+    let n = words::word_at(bytes, 1);
+    let a = words::word_at(bytes, 2);
+    let k = words::word_at(bytes, 3);
+    if layout::out_of_range(lists::index(n), lists::index(a), k) {
+        return true;
+    }
+    let value = ceiling::paired(words::word_at(bytes, 5), words::word_at(bytes, 6));
+    ceiling::unfit_value(words::word_at(bytes, 4), value)
+}
+
+// Whether each later block is laid out as n and a ask.
+fn later_laid(bytes: &[u8], second: usize, n: usize, a: usize) -> bool
+    requires { ⌜ (second < 256) × (n ≤ 65535) × (a ≤ 65535) × (blocksIn (now bytes) ≡ blocksOf n a) ⌝ }
+    ensures { λ r. ⌜ r ≡ laterLaid second n a (now (bytes .entry)) ⌝ }
+{
+    let blocks = bytes.len() / 512;
+    let mut b: usize = 1;
+    while b < blocks {
+        let kind = layout::kind_at(n, b);
+        let count = layout::count_at(n, a, b);
+        if !laid_out(bytes, b, second, kind, count) {
+            return false;
+        }
+        b += 1;
+    }
+    true
+}
+
+// Number 13's test.
+fn bad_later(bytes: &[u8], second: usize) -> bool
+    requires { ⌜ (512 ≤ length (now bytes)) × (badNumbers (now bytes) ≡ false) × (second < 256) ⌝ }
+    ensures { λ r. ⌜ r ≡ badLater second (now (bytes .entry)) ⌝ }
+{
+    let n = lists::index(words::word_at(bytes, 1));
+    let a = lists::index(words::word_at(bytes, 2));
+    if bytes.len() / 512 != layout::blocks_of(n, a) {
+        return true;
+    }
+    if later_laid(bytes, second, n, a) {
+        return false;
+    }
+    true
+}
+
+// Number 14's test: one walk over the vertices' records.
+fn bad_records(bytes: &[u8]) -> bool
+    requires { ⌜ (length (now bytes) ≡ 512 * blocksOf (word (now bytes) 1) (word (now bytes) 2)) × (word (now bytes) 1 ≤ 4096) ⌝ }
+    ensures { λ r. ⌜ r ≡ badRecords (now (bytes .entry)) ⌝ }
+{
+    let n = lists::index(words::word_at(bytes, 1));
+    let k = words::word_at(bytes, 3);
+    let mut sum: u32 = 0;
+    let mut v: usize = 0;
+    while v < n {
+        let x = words::word_at(bytes, layout::place(1, v) + 1);
+        if x % 65536 >= k {
+            return true;
+        }
+        sum += x / 65536;
+        v += 1;
+    }
+    sum != words::word_at(bytes, 2)
+}
+
+// The smallest of 9 to 14 that applies, 0 if none does.
+fn file_number(bytes: &[u8]) -> u32
+    ensures { λ r. ⌜ r ≡ fileNumber (now (bytes .entry)) ⌝ }
+{
+    if bad_length(bytes) {
+        return 9;
+    }
+    if bad_check(bytes, 0) {
+        return 10;
+    }
+    if !laid_out(bytes, 0, 0, 1, 3) {
+        return 11;
+    }
+    if bad_numbers(bytes) {
+        return 12;
+    }
+    if bad_later(bytes, 0) {
+        return 13;
+    }
+    if bad_records(bytes) {
+        return 14;
+    }
+    0
+}
+
+// Number 15's test, on the lengths of the targets.
+fn short_of(
+    n: usize,
+    a: usize,
+    labels: usize,
+    weights: usize,
+    starts: usize,
+    neighbours: usize,
+    arc_weights: usize,
+) -> bool
+    requires { ⌜ n ≤ 4096 ⌝ }
+    ensures { λ r. ⌜ r ≡ short n a labels weights starts neighbours «arc_weights» ⌝ }
+{
+    if labels < n {
+        return true;
+    }
+    if weights < n {
+        return true;
+    }
+    if starts < n + 1 {
+        return true;
+    }
+    if neighbours < a {
+        return true;
+    }
+    arc_weights < a
+}
+
+// The number of a call of the reader.
+pub(crate) fn read_number(
+    bytes: &[u8],
+    labels: usize,
+    weights: usize,
+    starts: usize,
+    neighbours: usize,
+    arc_weights: usize,
+) -> u32
+    ensures { λ r. ⌜ r ≡ numberFor (now (bytes .entry)) labels weights starts neighbours «arc_weights» ⌝ }
+{
+    let number = file_number(bytes);
+    if number != 0 {
+        return number;
+    }
+    let n = lists::index(words::word_at(bytes, 1));
+    let a = lists::index(words::word_at(bytes, 2));
+    if short_of(n, a, labels, weights, starts, neighbours, arc_weights) {
+        return 15;
+    }
+    0
+}
+
+// A refusal: the number, and zero in every other field.
+pub(crate) fn refusal(number: u32) -> ReadAnswer
+    ensures { λ r. ⌜ r ≡ refusalOf number ⌝ }
+{
+    ReadAnswer {
+        number,
+        n: 0,
+        a: 0,
+        k: 0,
+        choice: 0,
+        whole: 0,
+        imbalance: 0.0,
+    }
+}
+
+// The header of an accepted file.
+pub(crate) fn header(bytes: &[u8]) -> ReadAnswer
+    requires { ⌜ fileNumber (now bytes) ≡ 0 ⌝ }
+    ensures { λ r. ⌜ r ≡ headerOf (planOf (now (bytes .entry))) ⌝ }
+{
+    let n = words::word_at(bytes, 1);
+    let a = words::word_at(bytes, 2);
+    let k = words::word_at(bytes, 3);
+    let choice = words::word_at(bytes, 4);
+    let value = ceiling::paired(words::word_at(bytes, 5), words::word_at(bytes, 6));
+    let whole = ceiling::whole_of(choice, value);
+    let imbalance = ceiling::imbalance_of(choice, value);
+    ReadAnswer {
+        number: 0,
+        n,
+        a,
+        k,
+        choice,
+        whole,
+        imbalance,
+    }
+}
+
+// The records of the vertices: degrees become starts.
+pub(crate) fn read_vertices(
+    bytes: &[u8],
+    labels: &mut [u32],
+    weights: &mut [u32],
+    starts: &mut [u32],
+)
+    requires { ⌜ (fileNumber (now bytes) ≡ 0)
+        × (word (now bytes) 1 ≤ length (now labels))
+        × (word (now bytes) 1 ≤ length (now weights))
+        × (word (now bytes) 1 + 1 ≤ length (now starts)) ⌝ }
+    ensures { λ _. ⌜ (now (labels .exit) ≡ over (planOf (now (bytes .entry)) .labels) (now (labels .entry)))
+        × (now (weights .exit) ≡ over (planOf (now (bytes .entry)) .weights) (now (weights .entry)))
+        × (now (starts .exit) ≡ over (startsOf (word (now (bytes .entry)) 1) (planOf (now (bytes .entry)) .degrees)) (now (starts .entry))) ⌝ }
+{
+    let n = lists::index(words::word_at(bytes, 1));
+    let mut row: u32 = 0;
+    let mut v: usize = 0;
+    while v < n {
+        let at = layout::place(1, v);
+        let x = words::word_at(bytes, at + 1);
+        weights[v] = words::word_at(bytes, at);
+        labels[v] = x % 65536;
+        starts[v] = row;
+        row += x / 65536;
+        v += 1;
+    }
+    starts[n] = row;
+}
+
+// The records of the arcs.
+pub(crate) fn read_arcs(bytes: &[u8], neighbours: &mut [u32], arc_weights: &mut [u32])
+    requires { ⌜ (fileNumber (now bytes) ≡ 0)
+        × (word (now bytes) 2 ≤ length (now neighbours))
+        × (word (now bytes) 2 ≤ length (now «arc_weights»)) ⌝ }
+    ensures { λ _. ⌜ (now (neighbours .exit) ≡ over (planOf (now (bytes .entry)) .neighbours) (now (neighbours .entry)))
+        × (now («arc_weights» .exit) ≡ over (planOf (now (bytes .entry)) .arcWeights) (now («arc_weights» .entry))) ⌝ }
+{
+    let a = lists::index(words::word_at(bytes, 2));
+    let first = 1 + layout::blocks_for(lists::index(words::word_at(bytes, 1)));
+    let mut e: usize = 0;
+    while e < a {
+        let at = layout::place(first, e);
+        neighbours[e] = words::word_at(bytes, at);
+        arc_weights[e] = words::word_at(bytes, at + 1);
+        e += 1;
+    }
+}

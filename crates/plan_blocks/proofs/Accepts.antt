@@ -1,0 +1,101 @@
+-- What it takes for a file to be accepted: no test of 9 to 14 holds. Assumes nothing.
+use mathlib.Core.Path.{_≡_, refl}
+use mathlib.Core.Bool.{Bool, true, false, not, cond, _||_}
+use mathlib.Core.List.{List}
+use Prim.Native.Nat.{ℕ, _+_, _*_, _%_, _≤_, _<_}
+use native.Mathlib.Omega.{arith}
+use lib.ListN.{length}
+use lib.Dec.{ltb, eqb}
+use borrow.Author.Tests.{eq-eqb, eqb-true, eqb-false, not-false, ltb-false, ne-eqb}
+use Rattle.lists.specs.Sum.{sum}
+use Rattle.lists.specs.All.{all}
+use Rattle.lists.proofs.Bools.{or-false}
+use Rattle.imbalance.specs.Limit.{mostVertices, mostArcs}
+use Rattle.plan_blocks.specs.Word.{wrap, word}
+use Rattle.plan_blocks.specs.Block.{checks, laidOut, blocksOf}
+use Rattle.plan_blocks.specs.Plan.{outOfRange, unfitValue}
+use Rattle.plan_blocks.specs.Decode.{inBlock, blocksIn, degreeAt, badLength, badCheck, badHeader, badNumbers, laterLaid, badLater, labelled, badRecords, fileNumber}
+
+-- what an accepted file is, where its header says n, a, k, the choice and the value
+pub record Accepted (s : List ℕ) (n a k choice value : ℕ) : Type 0 where
+  pub sized : length s ≡ 512 * blocksOf n a
+  pub checked : all (blocksIn s) (λ b. checks 0 (inBlock s b)) ≡ true
+  pub header : laidOut 0 1 3 (inBlock s 0) ≡ true
+  pub ranged : outOfRange n a k ≡ false
+  pub fit : unfitValue choice value ≡ false
+  pub later : laterLaid 0 n a s ≡ true
+  pub rows : sum n (degreeAt s) ≡ a
+  pub named : labelled n k s ≡ true
+
+-- the numbers in range
+pub record InRange (n a k : ℕ) : Type 0 where
+  pub some : 0 < n
+  pub few : n ≤ 4096
+  pub fewArcs : a ≤ 65535
+  pub two : 2 ≤ k
+  pub most : k ≤ 16
+
+pub in-range : (n a k : ℕ) → outOfRange n a k ≡ false → InRange n a k
+unfolding outOfRange
+in-range n a k h =
+    let p = or-false (eqb n 0) (ltb mostVertices n || (ltb mostArcs a || (ltb k 2 || ltb 16 k))) h in
+    let q = or-false (ltb mostVertices n) (ltb mostArcs a || (ltb k 2 || ltb 16 k)) (p .1) in
+    let r = or-false (ltb mostArcs a) (ltb k 2 || ltb 16 k) (q .1) in
+    let t = or-false (ltb k 2) (ltb 16 k) (r .1) in
+    let z = eqb-false n 0 (p .0) in
+    record {
+      some = omega (arith, z);
+      few = ltb-false 4096 n (q .0);
+      fewArcs = ltb-false 65535 a (r .0);
+      two = ltb-false k 2 (t .0);
+      most = ltb-false 16 k (t .1);
+    }
+
+-- a number that is not given leaves the next
+not-given : (t : Bool) (c x : ℕ) → 0 < c → cond t c x ≡ 0 → (t ≡ false) × (x ≡ 0)
+not-given true c x l e = absurd (omega arith)
+not-given false c x l e = (refl, e)
+
+-- the counts of blocks and of bytes
+counted : (s : List ℕ) (m : ℕ) → badLength s ≡ false → blocksIn s ≡ m → length s ≡ 512 * m
+unfolding badLength
+counted s m h e =
+    let r = eqb-true (length s % 512) 0 (not-false (eqb (length s % 512) 0) (or-false (eqb (length s) 0) (not (eqb (length s % 512) 0)) h .1)) in
+    omega arith
+
+module _ (s : List ℕ) where
+  pub good-length : fileNumber s ≡ 0 → badLength s ≡ false
+  unfolding fileNumber
+  good-length h = not-given (badLength s) 9 _ (omega arith) h .0
+
+  pub accepts : fileNumber s ≡ 0 → Accepted s (word s 1) (word s 2) (word s 3) (word s 4) (word s 5 + wrap * word s 6)
+  unfolding fileNumber badCheck badHeader badNumbers badLater badRecords
+  accepts h =
+      let p = not-given (badLength s) 9 _ (omega arith) h in
+      let q = not-given (badCheck 0 s) 10 _ (omega arith) (p .1) in
+      let r = not-given (badHeader 0 s) 11 _ (omega arith) (q .1) in
+      let t = not-given (badNumbers s) 12 _ (omega arith) (r .1) in
+      let u = not-given (badLater 0 s) 13 _ (omega arith) (t .1) in
+      let v = not-given (badRecords s) 14 0 (omega arith) (u .1) in
+      let numbers = or-false (outOfRange (word s 1) (word s 2) (word s 3)) (unfitValue (word s 4) (word s 5 + wrap * word s 6)) (t .0) in
+      let later = or-false (not (eqb (blocksIn s) (blocksOf (word s 1) (word s 2)))) (not (laterLaid 0 (word s 1) (word s 2) s)) (u .0) in
+      let records = or-false (not (eqb (sum (word s 1) (degreeAt s)) (word s 2))) (not (labelled (word s 1) (word s 3) s)) (v .0) in
+      record {
+        sized = counted s _ (p .0) (eqb-true _ _ (not-false _ (later .0)));
+        checked = not-false _ (q .0);
+        header = not-false _ (r .0);
+        ranged = numbers .0;
+        fit = numbers .1;
+        later = not-false _ (later .1);
+        rows = eqb-true _ _ (not-false _ (records .0));
+        named = not-false _ (records .1);
+      }
+
+  -- and where nothing applies, the number is 0
+  pub accepted-number : (n a k choice value : ℕ) → word s 1 ≡ n → word s 2 ≡ a → word s 3 ≡ k → word s 4 ≡ choice → word s 5 + wrap * word s 6 ≡ value → Accepted s n a k choice value → fileNumber s ≡ 0
+  unfolding fileNumber badLength badCheck badHeader badNumbers badLater badRecords blocksOf
+  accepted-number n a k choice value en ea ek ec ev g =
+      let r : length s % 512 ≡ 0 = (let z = g .sized in omega arith) in
+      let b : blocksIn s ≡ blocksOf n a = (let z = g .sized in omega arith) in
+      let z : (length s ≡ 0 → ⊥) = (λ e. let z = g .sized in omega arith) in
+      rw (en, ea, ek, ec, ev) (simp (ne-eqb (length s) 0 z, eq-eqb (length s % 512) 0 r, g .checked, g .header, g .ranged, g .fit, eq-eqb _ _ b, g .later, eq-eqb _ _ (g .rows), g .named))

@@ -1,0 +1,37 @@
+-- A legal e and its bits: a legal e is no NaN, and a value that fits its choice is what its choice asks. Assumes nothing.
+use mathlib.Core.Path.{_≡_, refl, sym, subst}
+use mathlib.Core.Bool.{Bool, false, not}
+use Prim.Native.Nat.{ℕ, _<_}
+use lib.Dec.{T}
+use lib.Ieee.{Float, nan, inf, fin, binary64, ofBits, nanBits, isNan, le}
+use lib.Ieee.Bits.{nanBits-is}
+use borrow.Author.Tests.{not-false, leb-false}
+use Rattle.imbalance.specs.Ceiling.{legalE}
+use Rattle.plan_blocks.specs.Word.{wrap}
+use Rattle.plan_blocks.specs.Plan.{unfitValue}
+
+pub legal-number : (e : Float) → T (legalE e) → T (not (isNan e))
+unfolding isNan legalE le
+legal-number nan h = absurd h
+legal-number (inf s) h = tt
+legal-number (fin s m e) h = tt
+
+pub nan-illegal : (e : Float) → T (isNan e) → legalE e ≡ false
+unfolding isNan legalE le
+nan-illegal nan h = refl
+nan-illegal (inf s) h = absurd h
+nan-illegal (fin s m e) h = absurd h
+
+-- the bits of a legal e are no NaN's
+pub legal-bits : (n : ℕ) → T (legalE (ofBits binary64 n)) → T (not (nanBits binary64 n))
+legal-bits n h = subst (λ (t : Bool). T (not t)) (sym (nanBits-is binary64 n)) (legal-number (ofBits binary64 n) h)
+
+-- choice 1: a whole u32
+pub fit-whole : (choice value : ℕ) → unfitValue choice value ≡ false → choice ≡ 1 → value < wrap
+unfolding unfitValue
+fit-whole choice value h e = leb-false wrap value (rw e at h)
+
+-- choice 2: the bits of a legal e
+pub fit-bits : (choice value : ℕ) → unfitValue choice value ≡ false → choice ≡ 2 → T (legalE (ofBits binary64 value))
+unfolding unfitValue
+fit-bits choice value h e = subst T (sym (not-false (legalE (ofBits binary64 value)) (rw e at h))) tt

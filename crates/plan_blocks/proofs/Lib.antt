@@ -1,0 +1,9 @@
+-- The laws of words, blocks and plans.
+pub mod Bits
+pub mod WordLaws
+pub mod Places
+pub mod Accepts
+pub mod Rewritten
+pub mod Reread
+pub mod Changed
+pub mod RoundTrips

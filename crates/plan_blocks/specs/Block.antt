@@ -1,0 +1,44 @@
+-- A block, as its 128 words (document 01, "Plan blocks"), and how many blocks of each kind there are.
+-- The sum that a block must have and the byte that must stand second are parameters; both are 0 today.
+use mathlib.Core.Bool.{Bool, cond, _&&_}
+use Prim.Native.Nat.{ℕ, _+_, _-_, _*_, _/_, _%_}
+use lib.Dec.{leb, ltb, eqb}
+use Rattle.lists.specs.Sum.{sum}
+use Rattle.lists.specs.All.{allFrom}
+use Rattle.plan_blocks.specs.Word.{wrap}
+
+-- "kind, a zero byte, record count u16": a block's first word
+abbrev pub opening : ℕ → ℕ → ℕ → ℕ
+opening second kind count = kind + 256 * second + 65536 * count
+
+-- "the sum of its 128 words, wrapping, is zero"
+unfoldable pub checks : ℕ → (ℕ → ℕ) → Bool
+checks must w = eqb (sum 128 w % wrap) must
+
+-- a block is laid out as its kind and its count ask: the first word is right, and "Unused places are zero"
+unfoldable pub laidOut : ℕ → ℕ → ℕ → (ℕ → ℕ) → Bool
+laidOut second kind count w = eqb (w 0) (opening second kind count) && allFrom (1 + 2 * count) 127 (λ j. eqb (w j) 0)
+
+-- the word that makes the sum of the 128 words, wrapping, what it must be
+unfoldable pub checkWord : ℕ → (ℕ → ℕ) → ℕ
+checkWord must w = (must + (wrap - sum 127 w % wrap)) % wrap
+
+-- how many blocks so many records fill, 63 to a block; "none if a is 0"
+unfoldable pub blocksFor : ℕ → ℕ
+blocksFor records = (records + 62) / 63
+
+-- "all of a later kind hold 63 records but its last, which holds the rest": the records in block i of those
+unfoldable pub heldBy : ℕ → ℕ → ℕ
+heldBy records i = cond (ltb 63 (records - 63 * i)) 63 (records - 63 * i)
+
+-- the blocks of a plan of n vertices and a arcs: one of kind 1, then kind 2, then kind 3
+unfoldable pub blocksOf : ℕ → ℕ → ℕ
+blocksOf n a = 1 + blocksFor n + blocksFor a
+
+-- "Blocks stand by kind, 1, 2, 3": block b's kind
+unfoldable pub kindAt : ℕ → ℕ → ℕ
+kindAt n b = cond (eqb b 0) 1 (cond (leb b (blocksFor n)) 2 3)
+
+-- block b's record count: "Kind 1, once, first, 3 records"
+unfoldable pub countAt : ℕ → ℕ → ℕ → ℕ
+countAt n a b = cond (eqb b 0) 3 (cond (leb b (blocksFor n)) (heldBy n (b - 1)) (heldBy a (b - 1 - blocksFor n)))

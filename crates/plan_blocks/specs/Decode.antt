@@ -1,0 +1,97 @@
+-- The plan that a file holds, or the number that refuses it (document 01, "Plan blocks" and numbers 9 to 14).
+use mathlib.Core.Bool.{Bool, not, cond, _||_}
+use mathlib.Core.List.{List}
+use Prim.Native.Nat.{ℕ, _+_, _*_, _/_, _%_}
+use lib.ListN.{length}
+use lib.Dec.{ltb, eqb}
+use Rattle.lists.specs.Sum.{sum}
+use Rattle.lists.specs.All.{all, allFrom}
+use Rattle.lists.specs.Fill.{table}
+use Rattle.plan_blocks.specs.Word.{wrap, word}
+use Rattle.plan_blocks.specs.Block.{checks, laidOut, blocksFor, blocksOf, kindAt, countAt}
+use Rattle.plan_blocks.specs.Plan.{Plan, Decoded, accepted, refused, outOfRange, unfitValue}
+
+-- word j of block b
+abbrev pub inBlock : List ℕ → ℕ → ℕ → ℕ
+inBlock s b j = word s (128 * b + j)
+
+-- the file's blocks
+abbrev pub blocksIn : List ℕ → ℕ
+blocksIn s = length s / 512
+
+-- the first word of vertex v's record: vertices stand 63 to a block, from block 1 on
+abbrev pub vertexAt : ℕ → ℕ
+vertexAt v = 128 * (1 + v / 63) + 1 + 2 * (v % 63)
+
+-- the first word of arc e's record: arcs stand 63 to a block, after the vertices' blocks
+abbrev pub arcAt : ℕ → ℕ → ℕ
+arcAt n e = 128 * (1 + blocksFor n + e / 63) + 1 + 2 * (e % 63)
+
+-- "label u16, degree u16": the two halves of the second word of vertex v's record
+abbrev pub labelAt : List ℕ → ℕ → ℕ
+labelAt s v = word s (vertexAt v + 1) % 65536
+
+abbrev pub degreeAt : List ℕ → ℕ → ℕ
+degreeAt s v = word s (vertexAt v + 1) / 65536
+
+-- what stands in the file's places, by "n and a; k and ceiling choice; ceiling value as 8 bytes", "weight u32, label u16, degree u16" and "neighbour u32, weight u32"
+unfoldable pub planOf : List ℕ → Plan
+planOf s =
+    record {
+      n = word s 1;
+      a = word s 2;
+      k = word s 3;
+      choice = word s 4;
+      value = word s 5 + wrap * word s 6;
+      weights = table (word s 1) (λ v. word s (vertexAt v));
+      labels = table (word s 1) (labelAt s);
+      degrees = table (word s 1) (degreeAt s);
+      neighbours = table (word s 2) (λ e. word s (arcAt (word s 1) e));
+      arcWeights = table (word s 2) (λ e. word s (arcAt (word s 1) e + 1));
+    }
+
+-- 9: "plan length not a positive multiple of 512"
+unfoldable pub badLength : List ℕ → Bool
+badLength s = eqb (length s) 0 || not (eqb (length s % 512) 0)
+
+-- 10: "a block's check fails"
+unfoldable pub badCheck : ℕ → List ℕ → Bool
+badCheck must s = not (all (blocksIn s) (λ b. checks must (inBlock s b)))
+
+-- 11: "header block laid out wrongly"
+unfoldable pub badHeader : ℕ → List ℕ → Bool
+badHeader second s = not (laidOut second 1 3 (inBlock s 0))
+
+-- 12: "a header number out of range"
+unfoldable pub badNumbers : List ℕ → Bool
+badNumbers s = outOfRange (word s 1) (word s 2) (word s 3) || unfitValue (word s 4) (word s 5 + wrap * word s 6)
+
+-- each later block is laid out as n and a ask
+unfoldable pub laterLaid : ℕ → ℕ → ℕ → List ℕ → Bool
+laterLaid second n a s = allFrom 1 (blocksIn s) (λ b. laidOut second (kindAt n b) (countAt n a b) (inBlock s b))
+
+-- 13: "a later block laid out wrongly, or block count wrong"
+unfoldable pub badLater : ℕ → List ℕ → Bool
+badLater second s = not (eqb (blocksIn s) (blocksOf (word s 1) (word s 2))) || not (laterLaid second (word s 1) (word s 2) s)
+
+-- every vertex's label is below k
+unfoldable pub labelled : ℕ → ℕ → List ℕ → Bool
+labelled n k s = all n (λ v. ltb (labelAt s v) k)
+
+-- 14: "degrees do not sum to a, or a label is not below k"
+unfoldable pub badRecords : List ℕ → Bool
+badRecords s = not (eqb (sum (word s 1) (degreeAt s)) (word s 2)) || not (labelled (word s 1) (word s 3) s)
+
+-- the smallest number that applies, 0 if none does
+unfoldable pub fileNumber : List ℕ → ℕ
+fileNumber s =
+    cond (badLength s) 9
+    (cond (badCheck 0 s) 10
+    (cond (badHeader 0 s) 11
+    (cond (badNumbers s) 12
+    (cond (badLater 0 s) 13
+    (cond (badRecords s) 14 0)))))
+
+-- THE PLAN of a file
+unfoldable pub decode : List ℕ → Decoded
+decode s = cond (eqb (fileNumber s) 0) (accepted (planOf s)) (refused (fileNumber s))

@@ -1,0 +1,6 @@
+-- The plan file (document 01, "Plan blocks"): what a plan is, the bytes that stand for it, and the plan that bytes hold.
+pub mod Word
+pub mod Block
+pub mod Plan
+pub mod Encode
+pub mod Decode

@@ -1,0 +1,89 @@
+// How many blocks there are, and their kinds and record counts.
+ghost use mathlib.Core.Path.{_≡_};
+ghost use Prim.Native.Nat.{_+_, _*_, _/_, _%_, _≤_, _<_};
+ghost use Rattle.plan_blocks.specs.Block.{blocksFor, blocksOf, heldBy, kindAt, countAt};
+ghost use Rattle.plan_blocks.specs.Plan.{outOfRange};
+
+// The blocks that so many records fill.
+pub fn blocks_for(records: usize) -> usize
+    requires { ⌜ records ≤ 65535 ⌝ }
+    ensures { λ r. ⌜ r ≡ blocksFor records ⌝ }
+{
+    (records + 62) / 63
+}
+
+// The blocks of a plan of n vertices and a arcs.
+pub fn blocks_of(n: usize, a: usize) -> usize
+    requires { ⌜ (n ≤ 65535) × (a ≤ 65535) ⌝ }
+    ensures { λ r. ⌜ r ≡ blocksOf n a ⌝ }
+{
+    1 + blocks_for(n) + blocks_for(a)
+}
+
+// The records in block i of a later kind.
+fn held_by(records: usize, i: usize) -> usize
+    requires { ⌜ (i < 65536) × (63 * i ≤ records) ⌝ }
+    ensures { λ r. ⌜ r ≡ heldBy records i ⌝ }
+{
+    let rest = records - 63 * i;
+    if 63 < rest {
+        return 63;
+    }
+    rest
+}
+
+// Block b's kind.
+pub fn kind_at(n: usize, b: usize) -> usize
+    requires { ⌜ n ≤ 65535 ⌝ }
+    ensures { λ r. ⌜ r ≡ kindAt n b ⌝ }
+{
+    if b == 0 {
+        return 1;
+    }
+    if b <= blocks_for(n) {
+        return 2;
+    }
+    3
+}
+
+// Block b's record count.
+pub fn count_at(n: usize, a: usize, b: usize) -> usize
+    requires { ⌜ (n ≤ 65535) × (a ≤ 65535) × (b < blocksOf n a) ⌝ }
+    ensures { λ r. ⌜ r ≡ countAt n a b ⌝ }
+{
+    if b == 0 {
+        return 3;
+    }
+    let vertices = blocks_for(n);
+    if b <= vertices {
+        return held_by(n, b - 1);
+    }
+    held_by(a, b - 1 - vertices)
+}
+
+// Whether n, a or k is out of its range.
+pub fn out_of_range(n: usize, a: usize, k: u32) -> bool
+    ensures { λ r. ⌜ r ≡ outOfRange n a k ⌝ }
+{
+    if n == 0 {
+        return true;
+    }
+    if 4096 < n {
+        return true;
+    }
+    if 65535 < a {
+        return true;
+    }
+    if k < 2 {
+        return true;
+    }
+    16 < k
+}
+
+// The first word of record i of a kind, where the blocks of that kind start at block `first`.
+pub fn place(first: usize, i: usize) -> usize
+    requires { ⌜ (first ≤ 65535) × (i ≤ 65535) ⌝ }
+    ensures { λ r. ⌜ r ≡ 128 * (first + i / 63) + 1 + 2 * (i % 63) ⌝ }
+{
+    128 * (first + i / 63) + 1 + 2 * (i % 63)
+}

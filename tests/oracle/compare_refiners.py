@@ -1,0 +1,130 @@
+#!/usr/bin/env python3
+"""Compares FM and KL, called from C, with coupe on random graphs: builds the oracle and the driver of the C entry points, puts
+the same cases to both, and prints for each seed the cases that were run and those that differ. Ends with 1 where one differs,
+after the smallest such case and both answers.
+
+    compare_refiners.py [--seeds 1 2 3 4] [--graphs 6000] [--exhaustive] [--limits] [--archive FILE]
+
+Each seed gives its own graphs (make_cases.py: n up to 12, and a fiftieth of n up to 600). --exhaustive adds every graph of up to
+four vertices, and for those of up to three every limit from 0 to 3; --limits the largest graphs. --archive names an archive that
+is there; else it is made. Compared are the number, end, passes, cuts and labels, for FM the loads and the rows too. `FM` is held
+to coupe with ties to the lowest vertex, `FM without ties` to coupe unchanged.
+"""
+
+import argparse
+import itertools
+import random
+import sys
+from collections import Counter
+
+from make_cases import SPARSE_FAMILIES, at_limits, drawn, exhaustive, small
+from programs import build_driver, build_oracle, driver_answers
+from refiners import CARRIED, FM, IMBALANCE, KL, Answer, fm_answers, fm_asks, kl_answers, kl_asks, tie_free
+
+
+def graphs_of(seed, count):
+    """As make_cases.py's, with lighter arcs in the larger graphs: coupe's table is as large as a row's sum."""
+    rng = random.Random(seed)
+    for _ in range(count):
+        yield small(rng)
+    for _ in range(count // 50):
+        yield drawn(rng, SPARSE_FAMILIES, rng.randint(13, 600), most=30)
+
+
+def all_limits():
+    """FM's and KL's cases of every graph of up to three vertices under every limit from 0 to 3."""
+    fm, kl = [], []
+    for graph in exhaustive():
+        if graph.n > 3 or max(graph.labels, default=0) > 1:
+            continue
+        for limits in itertools.product(range(4), repeat=3):
+            fm += [FM(graph, *limits, CARRIED), FM(graph, *limits, IMBALANCE, imbalance=0.5)]
+            kl.append(KL(graph, *limits))
+    return fm, kl
+
+
+def largest(seed):
+    """FM's and KL's cases of the largest graphs. coupe's FM scans a table as large as a row's sum, so they are short."""
+    fm, kl = [], []
+    for graph in at_limits(random.Random(seed)):
+        two = graph.labelled(label % 2 for label in graph.labels)
+        fm += [FM(two, 2, 9, 1, CARRIED), FM(two, 3, 5, 0, IMBALANCE, imbalance=0.25)]
+        kl += [KL(two, 2, 5, 1), KL(two, 3, 9, 0)]
+    return fm, kl
+
+
+class Comparison:
+    def __init__(self):
+        self.run, self.differ, self.smallest = Counter(), Counter(), None
+
+    def add(self, label, name, asks, wanted, note=""):
+        """Puts cases to the driver, holds its answers to those wanted, and prints the count."""
+        pairs = [(ask, want) for ask, want in zip(asks, wanted) if want is not None]
+        differing = 0
+        for (ask, want), line in zip(pairs, driver_answers([ask.driver_line() for ask, _ in pairs])):
+            got = Answer.of_driver(line)
+            if got != want:
+                differing += 1
+                self.keep(name, ask, want, got)
+        self.run[name] += len(pairs)
+        self.differ[name] += differing
+        ends = Counter(want.end if want.number == 0 else f"number {want.number}" for _, want in pairs)
+        told = ", ".join(f"{'' if isinstance(end, str) else 'end '}{end}: {ends[end]}" for end in sorted(ends, key=str))
+        left_out = len(asks) - len(pairs)
+        print(f"{label}: {name}: {len(pairs)} runs, {differing} differ ({told}{note}"
+              f"{f'; {left_out} too large for coupe' if left_out else ''})", flush=True)
+
+    def keep(self, name, ask, want, got):
+        size = (ask.graph.n, len(ask.graph.arcs), len(ask.driver_line()))
+        if self.smallest is None or size < self.smallest[0]:
+            self.smallest = size, name, ask, want, got
+
+    def compare(self, label, graphs, seed):
+        rng = random.Random(seed)
+        graphs = list(graphs)
+        fm = [ask for graph in graphs for ask in fm_asks(rng, graph)]
+        self.compare_asks(label, fm, [ask for graph in graphs for ask in kl_asks(rng, graph)])
+
+    def compare_asks(self, label, fm, kl):
+        self.add(label, "FM", fm, fm_answers(fm))
+        self.add(label, "FM without ties", *tie_free([ask for ask in fm if ask.graph.n <= 12]))
+        wanted, sites = kl_answers(kl)
+        panics = Counter(site for site in sites if site)
+        note = "; coupe panics at " + ", ".join(f"{site}: {panics[site]}" for site in sorted(panics)) if panics else ""
+        self.add(label, "KL", kl, wanted, note)
+
+    def tell(self):
+        for name in self.run:
+            print(f"{name}: {self.run[name]} runs, {self.differ[name]} differ")
+        if self.smallest:
+            _, name, ask, want, got = self.smallest
+            print(f"the smallest that differs, {name}:\n  oracle: {ask.oracle_line()}\n  driver: {ask.driver_line()}"
+                  f"\n  coupe asks {want}\n  the library {got}")
+        return self.smallest is not None or not all(self.run.values())
+
+
+def main():
+    parser = argparse.ArgumentParser(description=__doc__, formatter_class=argparse.RawDescriptionHelpFormatter)
+    parser.add_argument("--seeds", type=int, nargs="+", default=[1, 2, 3, 4])
+    parser.add_argument("--graphs", type=int, default=6000, help="small graphs a seed")
+    parser.add_argument("--exhaustive", action="store_true")
+    parser.add_argument("--limits", action="store_true")
+    parser.add_argument("--archive")
+    options = parser.parse_args()
+
+    build_oracle()
+    build_driver(options.archive)
+    comparison = Comparison()
+    if options.exhaustive:
+        comparison.compare("exhaustive", exhaustive(), 0)
+        comparison.compare_asks("every limit", *all_limits())
+    for seed in options.seeds:
+        comparison.compare(f"seed {seed}", graphs_of(seed, options.graphs), seed)
+    if options.limits:
+        for seed in options.seeds:
+            comparison.compare_asks(f"largest {seed}", *largest(seed))
+    sys.exit(1 if comparison.tell() else 0)
+
+
+if __name__ == "__main__":
+    main()

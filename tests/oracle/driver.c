@@ -1,0 +1,134 @@
+/* Puts cases to the C entry points of FM and KL: one case a line of standard input, one answer a line of standard output.
+ *
+ *   fm P M B CHOICE WHOLE E n a  weights[n] starts[n+1] neighbours[a] arcs[a] labels[n]
+ *   kl P M B n a  weights[n] starts[n+1] neighbours[a] arcs[a] labels[n]
+ *
+ * all separated by blanks. P pass limit, M move or swap limit, B bad limit; E the imbalance's bits, a decimal number. The lent
+ * lists are painted, and just as long as is needed. Answers: `number=v end=v passes=v cut=first,last labels=v,v,..`, and for FM
+ * `loads=v,v rows=made/rewound,..` too. Ends with 1 at a line that is not a case. */
+#include "../c/check.h"
+
+int getchar(void);
+
+static struct lists l;
+static int64_t gains[DAUNSREVIT_MOST_VERTICES + 1];
+static struct daunsrevit_move moves[DAUNSREVIT_MOST_VERTICES + 1];
+static uint8_t locks[DAUNSREVIT_MOST_VERTICES + 1];
+static uint32_t swaps[DAUNSREVIT_MOST_VERTICES + 1];
+static uint32_t made[DAUNSREVIT_MOST_PASSES + 1], rewound[DAUNSREVIT_MOST_PASSES + 1];
+
+static int next; /* the character to be read */
+static int unreadable;
+
+static void skip_blanks(void)
+{
+    while (next == ' ')
+        next = getchar();
+}
+
+static uint64_t read_number(void)
+{
+    uint64_t value = 0;
+    skip_blanks();
+    if (next < '0' || next > '9')
+        unreadable = 1;
+    for (; next >= '0' && next <= '9'; next = getchar())
+        value = value * 10 + (uint64_t)(next - '0');
+    return value;
+}
+
+static void read_list(uint32_t *list, size_t count)
+{
+    for (size_t i = 0; i < count; i++)
+        list[i] = (uint32_t)read_number();
+}
+
+static int read_graph(void)
+{
+    size_t n = read_number(), a = read_number();
+    paint(&l);
+    if (unreadable || n > DAUNSREVIT_MOST_VERTICES || a > DAUNSREVIT_MOST_ARCS)
+        return 0;
+    set_counts(&l, n, a);
+    read_list(l.weights, n);
+    read_list(l.starts, n + 1);
+    read_list(l.neighbours, a);
+    read_list(l.arc_weights, a);
+    read_list(l.labels, n);
+    skip_blanks();
+    return !unreadable && (next == '\n' || next < 0);
+}
+
+static void print_labels(void)
+{
+    printf(" labels=");
+    for (size_t v = 0; v < l.labels_count; v++)
+        printf(v ? ",%u" : "%u", l.labels[v]);
+}
+
+static int fiduccia_mattheyses(void)
+{
+    struct daunsrevit_fiduccia_mattheyses_settings s;
+    s.passes = (uint32_t)read_number();
+    s.moves = (uint32_t)read_number();
+    s.bad = (uint32_t)read_number();
+    s.choice = (uint32_t)read_number();
+    s.whole = (uint32_t)read_number();
+    s.imbalance = of_bits(read_number());
+    if (!read_graph() || s.passes > DAUNSREVIT_MOST_PASSES)
+        return 0;
+    size_t n = l.labels_count;
+    memset(gains, 0xa5, sizeof gains);
+    memset(moves, 0xa5, sizeof moves);
+    memset(made, 0xa5, sizeof made);
+    memset(rewound, 0xa5, sizeof rewound);
+    struct daunsrevit_fiduccia_mattheyses_report r = daunsrevit_fiduccia_mattheyses(l.starts, l.starts_count,
+        l.neighbours, l.neighbours_count, l.arc_weights, l.arc_weights_count, l.weights, l.weights_count,
+        l.labels, l.labels_count, gains, n, moves, n, made, s.passes, rewound, s.passes, s);
+    printf("number=%u end=%u passes=%u cut=%lu,%lu", r.number, r.end, r.passes, r.first, r.last);
+    print_labels();
+    printf(" loads=%lu,%lu rows=", r.loads.at[0], r.loads.at[1]);
+    for (uint32_t i = 0; i < r.passes; i++)
+        printf(i ? ",%u/%u" : "%u/%u", made[i], rewound[i]);
+    printf("\n");
+    return 1;
+}
+
+static int kernighan_lin(void)
+{
+    struct daunsrevit_kernighan_lin_settings s;
+    s.passes = (uint32_t)read_number();
+    s.swaps = (uint32_t)read_number();
+    s.bad = (uint32_t)read_number();
+    if (!read_graph())
+        return 0;
+    size_t n = l.labels_count;
+    memset(gains, 0xa5, sizeof gains);
+    memset(locks, 0xa5, sizeof locks);
+    memset(swaps, 0xa5, sizeof swaps);
+    struct daunsrevit_kernighan_lin_report r = daunsrevit_kernighan_lin(l.starts, l.starts_count,
+        l.neighbours, l.neighbours_count, l.arc_weights, l.arc_weights_count, l.weights, l.weights_count,
+        l.labels, l.labels_count, gains, n, locks, n, swaps, n / 2, s);
+    printf("number=%u end=%u passes=%u cut=%lu,%lu", r.number, r.end, r.passes, r.first, r.last);
+    print_labels();
+    printf("\n");
+    return 1;
+}
+
+/* Reads the case's first word and puts the rest to its algorithm. */
+static int one_case(void)
+{
+    int first = next, second = getchar();
+    next = getchar();
+    if (first == 'f' && second == 'm')
+        return fiduccia_mattheyses();
+    return first == 'k' && second == 'l' && kernighan_lin();
+}
+
+int main(void)
+{
+    for (next = getchar(); next >= 0; next = getchar())
+        if (!one_case())
+            return 1;
+    return 0;
+}
