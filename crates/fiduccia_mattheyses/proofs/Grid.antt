@@ -10,29 +10,13 @@ use Rattle.lists.specs.Best.{best}
 use Rattle.lists.specs.Fill.{table}
 use Rattle.imbalance.specs.Load.{load}
 use Rattle.imbalance.specs.Ceiling.{ceilings, ceiling, ceilingOf, limitOf, largest}
-use Rattle.topology.specs.Graph.{Graph, inRows, arcs, into, gain}
+use Rattle.topology.specs.Graph.{arcs, into, gain}
 use Rattle.topology.specs.Cut.{cut}
+use Rattle.topology.specs.EightBlockGrid.{grid, ones, A, B}
 use Rattle.fiduccia_mattheyses_pass.specs.Choice.{flip, member, worth, after, fits, allowed, better, choice}
 use Rattle.fiduccia_mattheyses_pass.specs.Pass.{flips, moveOn, next, walk, pass}
 use Rattle.fiduccia_mattheyses.specs.Run.{run}
 use Rattle.fiduccia_mattheyses.specs.Entry.{Plan, Lent, settingOf, runOf}
-
--- 0-1-2-3, 4-5-6-7, 0-4, 1-5, 2-6, 3-7, weights 1
-abbrev grid : Graph
-grid =
-    inRows
-    (0 ∷ 2 ∷ 5 ∷ 8 ∷ 10 ∷ 12 ∷ 15 ∷ 18 ∷ 20 ∷ [])
-    (1 ∷ 4 ∷ 0 ∷ 2 ∷ 5 ∷ 1 ∷ 3 ∷ 6 ∷ 2 ∷ 7 ∷ 0 ∷ 5 ∷ 1 ∷ 4 ∷ 6 ∷ 2 ∷ 5 ∷ 7 ∷ 3 ∷ 6 ∷ [])
-    (1 ∷ 1 ∷ 1 ∷ 1 ∷ 1 ∷ 1 ∷ 1 ∷ 1 ∷ 1 ∷ 1 ∷ 1 ∷ 1 ∷ 1 ∷ 1 ∷ 1 ∷ 1 ∷ 1 ∷ 1 ∷ 1 ∷ 1 ∷ [])
-
-abbrev ones : List ℕ
-ones = 1 ∷ 1 ∷ 1 ∷ 1 ∷ 1 ∷ 1 ∷ 1 ∷ 1 ∷ []
-
-abbrev A : List ℕ
-A = 0 ∷ 0 ∷ 1 ∷ 1 ∷ 0 ∷ 1 ∷ 0 ∷ 1 ∷ []
-
-abbrev B : List ℕ
-B = 0 ∷ 0 ∷ 1 ∷ 1 ∷ 0 ∷ 0 ∷ 1 ∷ 1 ∷ []
 
 -- FM on the grid: P = 64, moves 8, and the ceiling by a choice with e = 0.25
 abbrev plan : ℕ → ℕ → Plan
@@ -41,7 +25,7 @@ plan choice bad =
       starts = grid .starts;
       neighbours = grid .neighbours;
       arcs = grid .weights;
-      weights = 1 ∷ 1 ∷ 1 ∷ 1 ∷ 1 ∷ 1 ∷ 1 ∷ 1 ∷ [];
+      weights = ones;
       settings = record { passes = 64; moves = 8; bad = bad; choice = choice; whole = 0; imbalance = fin false 1 (negsuc 1) };
     }
 

@@ -15,3 +15,4 @@ pub mod Boards
 pub mod Single
 pub mod Demands
 pub mod Grid
+pub mod Counts

@@ -1,15 +1,15 @@
 -- Demand 3, in its own words: what a run of two-part FM leaves (document 01, "FM").
 use mathlib.Core.Path.{_≡_}
-use mathlib.Core.Bool.{true, cond}
+use mathlib.Core.Bool.{Bool, true, cond, _&&_}
 use mathlib.Core.List.{List, [], _∷_, _++_}
 use mathlib.Core.Option.{Option, none, some}
 use Prim.Native.Nat.{ℕ, zero, suc, max, _≤_, _<_}
 use lib.ListN.{length, getD}
-use lib.Dec.{ltb}
+use lib.Dec.{ltb, leb}
 use Rattle.imbalance.specs.Load.{load}
 use Rattle.topology.specs.Cut.{cut}
 use Rattle.fiduccia_mattheyses_pass.specs.Choice.{Setting, flip, fits}
-use Rattle.fiduccia_mattheyses_pass.specs.Pass.{State, start, next, pass}
+use Rattle.fiduccia_mattheyses_pass.specs.Pass.{State, start, next, Pass, pass}
 use Rattle.fiduccia_mattheyses.specs.declared.Report.{Report}
 use Rattle.fiduccia_mattheyses.specs.Entry.{Plan, Lent, settingOf}
 
@@ -43,6 +43,11 @@ module _ (s : Setting) where
   -- "No board ends above the larger of the ceiling and its starting load."
   abbrev pub NoBoardAbove : List ℕ → List ℕ → Type 0
   NoBoardAbove p left = (t : ℕ) → t < 2 → load (s .weights) left t ≤ max (getD (s .ceilings) t 0) (load (s .weights) p t)
+
+-- no pass makes more than n moves, or rewinds more than it made
+unfoldable pub counted : ℕ → List Pass → Bool
+counted n [] = true
+counted n (r ∷ rows) = leb (r .made) n && leb (r .rewound) (r .made) && counted n rows
 
 -- Demand 3 of a call that is done: of a plan p, the lists l at entry, the report r and the lists k at exit. Number 0 says that the graph is symmetric and without loops.
 pub record DemandThree (p : Plan) (l : Lent) (r : Report) (k : Lent) : Type 0 where

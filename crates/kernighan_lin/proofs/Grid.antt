@@ -6,25 +6,12 @@ use Prim.Native.Nat.{ℕ}
 use Rattle.lists.specs.Sum.{sum, between}
 use Rattle.lists.specs.Best.{best}
 use Rattle.lists.specs.Fill.{table}
-use Rattle.topology.specs.Graph.{Graph, inRows, arcs, into, joins}
+use Rattle.topology.specs.Graph.{arcs, into, joins}
 use Rattle.topology.specs.Cut.{cut}
+use Rattle.topology.specs.EightBlockGrid.{grid, A, B}
 use Rattle.kernighan_lin_pass.specs.Gain.{fresh, added, told, largest}
 use Rattle.kernighan_lin_pass.specs.Pass.{Setting, swapped, start, pair, after, next, walk, pass}
 use Rattle.kernighan_lin.specs.Run.{run}
-
--- 0-1-2-3, 4-5-6-7, 0-4, 1-5, 2-6, 3-7, weights 1
-abbrev grid : Graph
-grid =
-    inRows
-    (0 ∷ 2 ∷ 5 ∷ 8 ∷ 10 ∷ 12 ∷ 15 ∷ 18 ∷ 20 ∷ [])
-    (1 ∷ 4 ∷ 0 ∷ 2 ∷ 5 ∷ 1 ∷ 3 ∷ 6 ∷ 2 ∷ 7 ∷ 0 ∷ 5 ∷ 1 ∷ 4 ∷ 6 ∷ 2 ∷ 5 ∷ 7 ∷ 3 ∷ 6 ∷ [])
-    (1 ∷ 1 ∷ 1 ∷ 1 ∷ 1 ∷ 1 ∷ 1 ∷ 1 ∷ 1 ∷ 1 ∷ 1 ∷ 1 ∷ 1 ∷ 1 ∷ 1 ∷ 1 ∷ 1 ∷ 1 ∷ 1 ∷ 1 ∷ [])
-
-abbrev A : List ℕ
-A = 0 ∷ 0 ∷ 1 ∷ 1 ∷ 0 ∷ 1 ∷ 0 ∷ 1 ∷ []
-
-abbrev B : List ℕ
-B = 0 ∷ 0 ∷ 1 ∷ 1 ∷ 0 ∷ 0 ∷ 1 ∷ 1 ∷ []
 
 abbrev by : ℕ → Setting
 by badLimit = record { graph = grid; movable = λ v. true; first = 0; badLimit = badLimit }

@@ -134,6 +134,12 @@ module _ (a b : ℕ) (f : ℕ → Bool) where
       let s : a + (b - a) ≡ b = omega arith in
       rw r (rw s)
 
+  pub some-from-holds : (e : ℕ) → a ≤ e → e < b → f e ≡ true → someFrom a b f ≡ true
+  unfolding someFrom
+  some-from-holds e l k t =
+      let s : a + (e - a) ≡ e = omega arith in
+      some-holds (b - a) (e - a) (λ i. f (a + i)) (omega arith) (rw s t)
+
   pub some-from-none : ((e : ℕ) → a ≤ e → e < b → f e ≡ false) → someFrom a b f ≡ false
   unfolding someFrom
   some-from-none h = some-nowhere (b - a) (λ i. f (a + i)) (λ i l. h (a + i) (omega arith) (omega arith))

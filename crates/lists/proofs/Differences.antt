@@ -1,15 +1,17 @@
 -- Whole numbers as differences: `subℕ a b` is a - b, and each operation and test on whole numbers is one on the two naturals, so that `omega` serves. Assumes nothing.
-use mathlib.Core.Path.{_≡_, refl, sym, ap, _∙_}
+use mathlib.Core.Path.{_≡_, refl, sym, ap, ap₂, _∙_}
 use mathlib.Core.Bool.{Bool, true, false, not, cond}
 use Prim.Native.Nat.{ℕ, zero, suc, _+_, _-_, _*_, _^_, _≤_, _<_}
 use native.Mathlib.Omega.{arith}
 use lib.Dec.{T, ltb, leb, ltb→lt, nltb→le, lt→ltb}
-use borrow.Author.Tests.{lt-ltb, le-ltb, ltb-true, ltb-false}
+use native.Mathlib.Nat.{add-zero, zero-add}
+use borrow.Author.Tests.{lt-ltb, le-ltb, le-leb, lt-leb, ltb-true, ltb-false}
 use lib.IntN.{ℤ, pos, negsuc, negℤ, subℕ, _+ℤ_, _-ℤ_, _*ℤ_}
 use lib.Signed.{mag, ltZ, leZ}
 use mir.Syntax.{w64}
 use mir.Val.{SFits, toZ, ofZ}
 use mir.ValLaws.{toZ-ofZ}
+use Rattle.lists.proofs.Orders.{lt-not-le, not-lt-le}
 
 -- the two cases of a - b
 at-least : (a b : ℕ) → b ≤ a → subℕ a b ≡ pos (a - b)
@@ -117,6 +119,17 @@ order a b c d =
     by-sign (λ (z : ℤ). ltZ z (subℕ c d) ≡ ltb (a + d) (c + b)) a b
     (λ h. lt-pos (a - b) c d ∙ alike (a - b + d) c (a + d) (c + b) (λ l. omega arith) (λ l. omega arith))
     (λ h. lt-negsuc (b - suc a) c d ∙ alike d (c + suc (b - suc a)) (a + d) (c + b) (λ l. omega arith) (λ l. omega arith))
+
+pub at-most : (a b c d : ℕ) → leZ (subℕ a b) (subℕ c d) ≡ leb (a + d) (c + b)
+at-most a b c d = go (ltb (c + b) (a + d)) refl
+  where
+    go : (t : Bool) → ltb (c + b) (a + d) ≡ t → leZ (subℕ a b) (subℕ c d) ≡ leb (a + d) (c + b)
+    go true e = lt-not-le (subℕ a b) (subℕ c d) (order c d a b ∙ e) ∙ sym (lt-leb (a + d) (c + b) (ltb-true (c + b) (a + d) e))
+    go false e = not-lt-le (subℕ c d) (subℕ a b) (order c d a b ∙ e) ∙ sym (le-leb (a + d) (c + b) (ltb-false (c + b) (a + d) e))
+
+-- a difference that is not above 0
+pub at-most-none : (a b : ℕ) → leZ (subℕ a b) (pos 0) ≡ leb a b
+at-most-none a b = ap (leZ (subℕ a b)) (pos-is 0) ∙ at-most a b 0 0 ∙ ap₂ leb (add-zero a) (zero-add b)
 
 -- ---- the range
 pub fits : (a b : ℕ) → a < 2 ^ 63 → b ≤ 2 ^ 63 → SFits w64 (subℕ a b)

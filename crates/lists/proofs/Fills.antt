@@ -38,3 +38,11 @@ pub written-past : {A : Type 0} (f : ℕ → A) (d : A) (n : ℕ) (xs : List A) 
 unfolding written
 written-past f d zero xs k l = refl
 written-past f d (suc n) xs k l = getD-set-other (written f n xs) n k (f n) d (λ q. omega arith) ∙ written-past f d n xs k (omega arith)
+
+-- a whole list filled is the same whatever stood in it
+pub filled-whole : {A : Type 0} (x : A) (xs ys : List A) → length xs ≡ length ys → filled x (length xs) xs ≡ filled x (length ys) ys
+filled-whole x xs ys e =
+    let a = length-written (λ i. x) (length xs) xs in
+    let b = length-written (λ i. x) (length ys) ys in
+    ext-getD x (filled x (length xs) xs) (filled x (length ys) ys) (a ∙ e ∙ sym b)
+    (λ i l. written-below (λ i. x) x (length xs) xs (omega arith) i (omega arith) ∙ sym (written-below (λ i. x) x (length ys) ys (omega arith) i (omega arith)))

@@ -10,3 +10,4 @@ pub mod Rowsums
 pub mod Pairs
 pub mod Moves
 pub mod Unique
+pub mod Grid

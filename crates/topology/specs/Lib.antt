@@ -4,3 +4,4 @@ pub mod Rule
 pub mod Lookup
 pub mod Cut
 pub mod Number
+pub mod EightBlockGrid

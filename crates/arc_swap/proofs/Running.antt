@@ -1,0 +1,145 @@
+-- Pass after pass: the code stands where the definition does, and the definition's passes last, as each but the last lowers the cut. Assumes nothing.
+use mathlib.Core.Path.{_≡_, refl, sym, ap, _∙_}
+use mathlib.Core.Bool.{Bool, true, false, not, cond}
+use mathlib.Core.List.{List, []}
+use Prim.Native.Nat.{ℕ, zero, suc, _+_, _-_, _*_, _≤_, _<_}
+use native.Mathlib.Omega.{arith}
+use native.Mathlib.Numerals.{add-one}
+use lib.ListN.{length}
+use lib.Dec.{ltb}
+use lib.IntN.{ℤ}
+use borrow.Author.Tests.{lt-ltb, le-ltb}
+use Rattle.topology.specs.Cut.{cut}
+use Rattle.arc_swap_attempt.specs.Inner.{held}
+use Rattle.arc_swap_attempt.specs.declared.Standing.{Standing}
+use Rattle.arc_swap_attempt.proofs.Stacks.{held-none}
+use Rattle.arc_swap.specs.declared.RunRecord.{RunRecord}
+use Rattle.arc_swap.specs.declared.Drained.{Drained}
+use Rattle.arc_swap.specs.declared.Ended.{Ended}
+use Rattle.arc_swap.specs.Run.{Setting, State, Run, sweep, run}
+use Rattle.arc_swap.specs.Entry.{noCounts}
+use Rattle.arc_swap.specs.Inner.{Ready, at, spent, TurnAsked, Done, PassesDone}
+
+-- ---- the definition, pass by pass
+module _ (s : Setting) (f i : ℕ) (st : State) where
+  abbrev by-pass : State → Run
+  by-pass t =
+      cond (t .full) (record { end = 2; passes = i + 1; state = t })
+      (cond (ltb (cut (s .graph) (t .labels)) (cut (s .graph) (st .labels))) (run s f (i + 1) t)
+      (record { end = 1; passes = i + 1; state = t }))
+
+  run-pass : (t : State) → sweep s (length (st .labels)) st ≡ t → run s (suc f) i st ≡ by-pass t
+  unfolding run
+  run-pass t e = ap by-pass e
+
+-- where the run stands after i passes
+pub record Running (s : Setting) (p₀ : List ℕ) (cut₀ i : ℕ) (p stack : List ℕ) (c : Standing) (counts : RunRecord) : Type 0 where
+  pub none : c .top ≡ 0
+  pub fit : c .fits ≡ true
+  pub ready : Ready s (length p₀) p stack (c .top) (c .cut) (c .loads .at) counts
+  pub bounded : spent counts 0 (c .cut) ≤ 65535 * cut₀ + 4096 * i
+  pub falling : i + c .cut ≤ cut₀
+  pub rest : (hs : List ℤ) × (f : ℕ) × (run s (cut (s .graph) p₀ + 1) 0 (at p₀ [] noCounts [] false) ≡ run s f i (at p [] counts hs false)) × (c .cut < f)
+
+module _ (s : Setting) (p₀ stack₀ : List ℕ) (c₀ : Standing) (counts₀ : RunRecord) (ask : TurnAsked s p₀ stack₀ c₀ counts₀ 0) (none₀ : counts₀ ≡ noCounts) (light : c₀ .cut ≤ 2147483647) where
+  pub running : Running s p₀ (c₀ .cut) 0 p₀ stack₀ c₀ counts₀
+  running =
+      let z : counts₀ .attempts ≡ 0 = ap (λ (r : RunRecord). r .attempts) none₀ in
+      let k = ask .asked .ready .stood .cut-is in
+      record {
+        none = ask .none;
+        fit = ask .fit;
+        ready = ask .asked .ready;
+        bounded = omega arith;
+        falling = omega arith;
+        rest = ([], cut (s .graph) p₀ + 1, rw none₀, omega arith);
+      }
+
+  module _ (i : ℕ) (p stack : List ℕ) (c : Standing) (counts : RunRecord) (inv : Running s p₀ (c₀ .cut) i p stack c counts) where
+    few : length p ≤ 4096
+    few = let a = ask .asked .fixed .rows .few in let b = inv .ready .long in omega arith
+
+    -- a pass more can be counted
+    pub room : i ≤ 2147483647
+    room = let a = inv .falling in omega arith
+
+    pub pass-asked : TurnAsked s p stack c counts (length p)
+    pass-asked = record {
+      asked = record {
+        fixed = rw (inv .ready .long) (ask .asked .fixed);
+        ready = rw (inv .ready .long) (inv .ready);
+        modest = (let a = inv .bounded in let b = inv .falling in let d = few in let z = inv .none in omega arith);
+      };
+      none = inv .none;
+      fit = inv .fit;
+    }
+
+    module _ (p′ stack′ : List ℕ) (d : Drained) (done : Done (sweep s (length p)) s p stack 0 (c .cut) counts (length p) p′ stack′ d) where
+      -- the definition, after this pass
+      passed : (hs : List ℤ) × (f : ℕ) × (run s (cut (s .graph) p₀ + 1) 0 (at p₀ [] noCounts [] false) ≡ by-pass s f i (at p [] counts (inv .rest .0) false) (at p′ (held stack′ (d .st .top)) (d .run) hs (not (d .st .fits)))) × (c .cut ≤ f)
+      passed =
+          let a = inv .rest in
+          let l = a .3 in
+          let q : a .1 ≡ suc (a .1 - 1) = omega arith in
+          let b = done .leads (a .0) in (
+            b .0,
+            a .1 - 1,
+            a .2
+                ∙ ap (λ (n : ℕ). run s n i (at p [] counts (a .0) false)) q
+                ∙ run-pass s (a .1 - 1) i (at p [] counts (a .0) false) (at p′ (held stack′ (d .st .top)) (d .run) (b .0) (not (d .st .fits))) (ap (λ (k : List ℕ). sweep s (length p) (at p k counts (a .0) false)) (sym (held-none stack)) ∙ b .1),
+            omega arith,
+          )
+
+      cut-before : c .cut ≡ cut (s .graph) p
+      cut-before = inv .ready .stood .cut-is
+
+      cut-after : d .st .cut ≡ cut (s .graph) p′
+      cut-after = done .ready .stood .cut-is
+
+      -- the pushes of a move did not fit
+      pub ends-full : d .st .fits ≡ false → PassesDone s p₀ p′ stack′ (record { end = 2; passes = i + 1; st = d .st; run = d .run })
+      ends-full e = record {
+        leads = (passed .0, passed .2 ∙ go (d .st .fits) e);
+        stood = done .ready .stood;
+      }
+        where
+          go : (b : Bool) → b ≡ false → by-pass s (passed .1) i (at p [] counts (inv .rest .0) false) (at p′ (held stack′ (d .st .top)) (d .run) (passed .0) (not b)) ≡ record { end = 2; passes = i + 1; state = at p′ (held stack′ (d .st .top)) (d .run) (passed .0) (not b) }
+          go false q = refl
+          go true q = let o : _≡_ {A = ℕ} 0 1 = cc in absurd (omega arith)
+
+      module _ (e : d .st .fits ≡ true) where
+        -- the pass has a gain
+        pub next-pass : d .st .cut < c .cut → Running s p₀ (c₀ .cut) (i + 1) p′ stack′ (d .st) (d .run)
+        next-pass l =
+            let z = done .emptied e in
+            let a = passed in
+            let m = a .3 in
+            record {
+              none = z;
+              fit = e;
+              ready = rw (inv .ready .long) at (done .ready);
+              bounded = (let x = done .bounded in let y = inv .bounded in let w = few in omega arith);
+              falling = (let x = inv .falling in omega arith);
+              rest = (a .0, a .1, a .2 ∙ go (d .st .fits) e (held stack′ (d .st .top)) (ap (held stack′) z ∙ held-none stack′), omega arith);
+            }
+          where
+            go : (b : Bool) → b ≡ true → (k : List ℕ) → k ≡ [] → by-pass s (passed .1) i (at p [] counts (inv .rest .0) false) (at p′ k (d .run) (passed .0) (not b)) ≡ run s (passed .1) (i + 1) (at p′ [] (d .run) (passed .0) false)
+            go false q k r = let o : _≡_ {A = ℕ} 0 1 = cc in absurd (omega arith)
+            go true q k r =
+                let x = cut-before in
+                let y = cut-after in
+                rw (lt-ltb (cut (s .graph) p′) (cut (s .graph) p) (omega arith), r)
+
+        -- it has none
+        pub ends-gainless : c .cut ≤ d .st .cut → PassesDone s p₀ p′ stack′ (record { end = 1; passes = i + 1; st = d .st; run = d .run })
+        ends-gainless l = record {
+          leads = (passed .0, passed .2 ∙ go (d .st .fits) e);
+          stood = done .ready .stood;
+        }
+          where
+            go : (b : Bool) → b ≡ true → by-pass s (passed .1) i (at p [] counts (inv .rest .0) false) (at p′ (held stack′ (d .st .top)) (d .run) (passed .0) (not b)) ≡ record { end = 1; passes = i + 1; state = at p′ (held stack′ (d .st .top)) (d .run) (passed .0) (not b) }
+            go false q = let o : _≡_ {A = ℕ} 0 1 = cc in absurd (omega arith)
+            go true q =
+                let x = cut-before in
+                let y = cut-after in
+                rw (le-ltb (cut (s .graph) p′) (cut (s .graph) p) (omega arith))

@@ -1,0 +1,133 @@
+-- A pass, turn by turn, and pass after pass: the code stands where the definition does, and the definition's fuel lasts. Assumes nothing.
+use mathlib.Core.Path.{_≡_, refl, sym, ap, _∙_}
+use mathlib.Core.Bool.{Bool, true, false, not, cond}
+use mathlib.Core.List.{List, []}
+use Prim.Native.Nat.{ℕ, zero, suc, _+_, _-_, _*_, _≤_, _<_}
+use native.Mathlib.Omega.{arith}
+use native.Mathlib.Numerals.{add-one}
+use lib.ListN.{length}
+use lib.Dec.{ltb}
+use lib.IntN.{ℤ}
+use borrow.Author.Tests.{lt-ltb, le-ltb}
+use Rattle.topology.specs.Cut.{cut}
+use Rattle.arc_swap_attempt.specs.Inner.{held, Stood}
+use Rattle.arc_swap_attempt.specs.declared.Standing.{Standing}
+use Rattle.arc_swap_attempt.proofs.Stacks.{held-none}
+use Rattle.arc_swap.specs.declared.RunRecord.{RunRecord}
+use Rattle.arc_swap.specs.declared.Drained.{Drained}
+use Rattle.arc_swap.specs.declared.Ended.{Ended}
+use Rattle.arc_swap.specs.Run.{Setting, State, Run, turn, sweep, run}
+use Rattle.arc_swap.specs.Entry.{noCounts}
+use Rattle.arc_swap.specs.Inner.{Fixed, Ready, at, Leads, spent, Asked, TurnAsked, Done, PassesDone}
+
+-- ---- the definition, step by step
+module _ (s : Setting) where
+  sweep-turn : (v : ℕ) (st : State) → sweep s v st .full ≡ false → sweep s (suc v) st ≡ turn s (sweep s v st) v
+  unfolding sweep
+  sweep-turn v st e = ap (λ (b : Bool). cond b (sweep s v st) (turn s (sweep s v st) v)) e
+
+  -- a pass whose pushes do not fit is over
+  sweep-over : (v d : ℕ) (st : State) → sweep s v st .full ≡ true → sweep s (d + v) st ≡ sweep s v st
+  unfolding sweep
+  sweep-over v zero st e = let q : 0 + v ≡ v = omega arith in rw q
+  sweep-over v (suc d) st e =
+      let q : suc d + v ≡ suc (d + v) = omega arith in
+      let h = sweep-over v d st e in
+      rw q (rw (h, e) refl)
+
+-- where a pass stands before v's turn
+pub record Sweeping (s : Setting) (p₀ stack₀ : List ℕ) (cut₀ : ℕ) (counts₀ : RunRecord) (v : ℕ) (p stack : List ℕ) (c : Standing) (counts : RunRecord) : Type 0 where
+  pub none : c .top ≡ 0
+  pub fit : c .fits ≡ true
+  pub ready : Ready s (length p₀) p stack (c .top) (c .cut) (c .loads .at) counts
+  pub bounded : spent counts (c .top) (c .cut) ≤ spent counts₀ 0 cut₀ + v
+  pub upto : v ≤ length p₀
+  pub so-far : Leads (sweep s v) p₀ [] counts₀ p [] counts false
+
+module _ (s : Setting) (p₀ stack₀ : List ℕ) (c₀ : Standing) (counts₀ : RunRecord) (ask : TurnAsked s p₀ stack₀ c₀ counts₀ (length p₀)) where
+  pub sweeping : Sweeping s p₀ stack₀ (c₀ .cut) counts₀ 0 p₀ stack₀ c₀ counts₀
+  unfolding sweep
+  sweeping = record {
+    none = ask .none;
+    fit = ask .fit;
+    ready = ask .asked .ready;
+    bounded = rw (ask .none) (omega arith);
+    upto = omega arith;
+    so-far = λ gs. (gs, refl);
+  }
+
+  modest₀ : spent counts₀ 0 (c₀ .cut) + length p₀ ≤ 4611686018427387904
+  modest₀ = rw (ask .none) at (ask .asked .modest)
+
+  module _ (v : ℕ) (p stack : List ℕ) (c : Standing) (counts : RunRecord) (inv : Sweeping s p₀ stack₀ (c₀ .cut) counts₀ v p stack c counts) where
+    -- v's turn
+    module _ (l : v < length p) where
+      inside : v < length p₀
+      inside = let a = inv .ready .long in omega arith
+
+      pub turn-asked : TurnAsked s p stack c counts 1 × (v < length p)
+      turn-asked = (
+        record {
+          asked = record {
+            fixed = rw (inv .ready .long) (ask .asked .fixed);
+            ready = rw (inv .ready .long) (inv .ready);
+            modest = (let a = inv .bounded in let b = modest₀ in let d = inside in omega arith);
+          };
+          none = inv .none;
+          fit = inv .fit;
+        },
+        l,
+      )
+
+      module _ (p′ stack′ : List ℕ) (d : Drained) (done : Done (λ x. turn s x v) s p stack 0 (c .cut) counts 1 p′ stack′ d) where
+        bounded′ : spent (d .run) (d .st .top) (d .st .cut) ≤ spent counts₀ 0 (c₀ .cut) + (v + 1)
+        bounded′ = let a = done .bounded in let b = inv .bounded in let z = inv .none in omega arith
+
+        ready′ : Ready s (length p₀) p′ stack′ (d .st .top) (d .st .cut) (d .st .loads .at) (d .run)
+        ready′ = rw (inv .ready .long) at (done .ready)
+
+        one-on : Leads (sweep s (v + 1)) p₀ [] counts₀ p′ (held stack′ (d .st .top)) (d .run) (not (d .st .fits))
+        one-on gs =
+            let a = inv .so-far gs in
+            let b = done .leads (a .0) in (
+              b .0,
+              ap (λ (n : ℕ). sweep s n (at p₀ [] counts₀ gs false)) (add-one v)
+                  ∙ sweep-turn s v (at p₀ [] counts₀ gs false) (ap (λ (x : State). x .full) (a .1))
+                  ∙ ap (λ (x : State). turn s x v) (a .1 ∙ ap (λ (k : List ℕ). at p k counts (a .0) false) (sym (held-none stack)))
+                  ∙ b .1,
+            )
+
+        pub next-turn : d .st .fits ≡ true → Sweeping s p₀ stack₀ (c₀ .cut) counts₀ (v + 1) p′ stack′ (d .st) (d .run)
+        next-turn e =
+            let z = done .emptied e in
+            record {
+              none = z;
+              fit = e;
+              ready = ready′;
+              bounded = bounded′;
+              upto = (let a = inside in omega arith);
+              so-far = λ gs. (let a = one-on gs in (a .0, a .1 ∙ ap (λ (b : Bool). at p′ (held stack′ (d .st .top)) (d .run) (a .0) (not b)) e ∙ ap (λ (n : ℕ). at p′ (held stack′ n) (d .run) (a .0) false) z ∙ ap (λ (k : List ℕ). at p′ k (d .run) (a .0) false) (held-none stack′)));
+            }
+
+        pub stopped : d .st .fits ≡ false → Done (sweep s (length p₀)) s p₀ stack₀ 0 (c₀ .cut) counts₀ (length p₀) p′ stack′ d
+        stopped e = record {
+          leads = λ gs. (let a = one-on gs in
+              let q : length p₀ ≡ (length p₀ - (v + 1)) + (v + 1) = (let a = inside in omega arith) in
+              let f : sweep s (v + 1) (at p₀ (held stack₀ 0) counts₀ gs false) ≡ at p′ (held stack′ (d .st .top)) (d .run) (a .0) (not (d .st .fits)) = ap (λ (k : List ℕ). sweep s (v + 1) (at p₀ k counts₀ gs false)) (held-none stack₀) ∙ a .1 in
+              (a .0, ap (λ (n : ℕ). sweep s n (at p₀ (held stack₀ 0) counts₀ gs false)) q ∙ sweep-over s (v + 1) (length p₀ - (v + 1)) (at p₀ (held stack₀ 0) counts₀ gs false) (ap (λ (x : State). x .full) f ∙ ap not e) ∙ f));
+          emptied = λ q. (let o : _≡_ {A = ℕ} 0 1 = cc in absurd (omega arith));
+          ready = ready′;
+          bounded = (let a = bounded′ in let b = inside in omega arith);
+        }
+
+    -- every vertex had its turn
+    pub swept : length p ≤ v → Done (sweep s (length p₀)) s p₀ stack₀ 0 (c₀ .cut) counts₀ (length p₀) p stack (record { st = c; run = counts })
+    swept l =
+        let a = inv .upto in
+        let q : v ≡ length p₀ = omega (arith, inv .ready .long) in
+        record {
+          leads = λ gs. (let b = inv .so-far gs in (b .0, ap (λ (n : ℕ). sweep s n (at p₀ (held stack₀ 0) counts₀ gs false)) (sym q) ∙ ap (λ (k : List ℕ). sweep s v (at p₀ k counts₀ gs false)) (held-none stack₀) ∙ b .1 ∙ rw (inv .none, inv .fit, held-none)));
+          emptied = λ e. inv .none;
+          ready = inv .ready;
+          bounded = (let a = inv .bounded in omega arith);
+        }

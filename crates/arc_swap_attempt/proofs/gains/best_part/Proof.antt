@@ -1,0 +1,83 @@
+use mathlib.Core.Path.{_≡_, refl, _∙_}
+use mathlib.Core.Logic.{⊎-elim}
+use Prim.Native.Nat.{ℕ, _≤_, _-_}
+use native.Mathlib.Omega.{arith}
+use lib.ListN.{getD}
+use Rattle.arc_swap_attempt.specs.declared.Target.{Target}
+use Rattle.arc_swap_attempt.specs.Inner.{picked, bestBy}
+use Rattle.arc_swap_attempt.proofs.Aims.{none-passed, pass-own, pass-take, pass-by}
+use borrow.Author.Needs.{needs}
+use Rattle.arc_swap_attempt.proofs.gains.best_part.Statement.{statement}
+use Rattle.arc_swap_attempt.proofs.gains.best_part.Tie as tie
+use Rattle.arc_swap_attempt.proofs.gains.best_part.Reads as reads
+use Rattle.arc_swap_attempt.proofs.gains.best_part.Lts as lts
+
+abbrev Inv-loop : tie.InvT-loop
+Inv-loop own parts at part₀ sum₀ t₀ part sum t = (t ≤ parts) × (_≡_ {A = Target} (record { part = part; sum = sum }) (picked own (λ u. getD at u 0) (bestBy (λ u. getD at u 0) own t)))
+
+abbrev μ-loop : tie.MeasureT-loop
+μ-loop own parts at part₀ sum₀ t₀ part sum t = parts - t
+
+-- src/gains.rt:46:5
+loop-holds : tie.Need-loop-holds Inv-loop μ-loop
+loop-holds c = (search needs, none-passed (λ u. getD (c .before .args .sums .at) u 0) (c .before .args .own))
+
+-- src/gains.rt:48:23
+mul-if2 : tie.Need-mul-if2 Inv-loop μ-loop
+mul-if2 c = search needs
+
+-- src/gains.rt:48:23
+array-read-if2 : tie.Need-array-read-if2 Inv-loop μ-loop
+array-read-if2 c = search needs
+
+-- src/gains.rt:50:23
+mul-sum : tie.Need-mul-sum Inv-loop μ-loop
+mul-sum c = search needs
+
+-- src/gains.rt:50:23
+array-read-sum : tie.Need-array-read-sum Inv-loop μ-loop
+array-read-sum c = search needs
+
+-- src/gains.rt:53:9
+add-t : tie.Need-add-t Inv-loop μ-loop
+add-t c = search needs
+
+-- src/gains.rt:46:5
+loop-less : tie.Need-loop-less Inv-loop μ-loop
+loop-less c = search needs
+
+-- src/gains.rt:46:5
+loop-again : tie.Need-loop-again Inv-loop μ-loop
+loop-again c =
+    let e = c .before .before .loop .inv .1 in
+    let sums : ℕ → ℕ = λ u. getD (c .before .before .before .before .args .sums .at) u 0 in
+    let own = c .before .before .before .before .args .own in
+    let t = c .before .before .loop .t in (
+      search needs,
+      ⊎-elim
+          (λ w. rw (w .2, w .3) (pass-take sums own t _ e (w .0 .taken) (w .1 .taken)))
+          (λ x. ⊎-elim (λ w. rw (w .2, w .3) (pass-by sums own t _ e (w .0 .taken) (w .1 .left))) (λ w. rw (w .1, w .2) (pass-own sums own t _ e (w .0 .left))) x)
+          (c .if1 .came),
+    )
+
+-- src/gains.rt:38:1
+returns : tie.Need-returns Inv-loop μ-loop
+returns c =
+    let e : c .before .loop .t ≡ c .before .before .before .args .parts = omega arith in
+    rw e at (c .before .loop .inv .1)
+
+pub best-part-spec : {M : Type 1} → statement M
+best-part-spec =
+    tie.close
+    (tie.spec
+    Inv-loop
+    μ-loop
+    loop-holds
+    mul-if2
+    array-read-if2
+    mul-sum
+    array-read-sum
+    add-t
+    loop-less
+    loop-again
+    returns)

@@ -1,0 +1,55 @@
+use native.Mathlib.Omega.{arith}
+use Rattle.arc_swap_attempt.proofs.Tried.{own-below, glad-by}
+use borrow.Author.Needs.{needs}
+use Rattle.arc_swap_attempt.proofs.gains.glad.Statement.{statement}
+use Rattle.arc_swap_attempt.proofs.gains.glad.Tie as tie
+use Rattle.arc_swap_attempt.proofs.gains.glad.Reads as reads
+use Rattle.arc_swap_attempt.proofs.gains.glad.Lts as lts
+use Rattle.arc_swap_attempt.proofs.gains.best_part.Reads as best-part-reads
+use Rattle.arc_swap_attempt.proofs.gains.sums_of.Reads as sums-of-reads
+use Rattle.lists.proofs.index.Reads as index-reads
+
+-- src/gains.rt:70:28
+mul-index : tie.Need-mul-index
+mul-index c = search needs
+
+-- src/gains.rt:70:28
+shared-slice-read-index : tie.Need-shared-slice-read-index
+shared-slice-read-index c = search needs
+
+-- src/gains.rt:70:9
+index-requires : tie.Need-index-requires
+index-requires c κs = search needs
+
+-- src/gains.rt:71:16
+sums-of-requires : tie.Need-sums-of-requires
+sums-of-requires c κs = search needs
+
+-- src/gains.rt:72:9
+best-part-requires : tie.Need-best-part-requires
+best-part-requires c κs = search needs
+
+-- src/gains.rt:73:5
+mul-result : tie.Need-mul-result
+mul-result c = omega (arith, own-below _ _ _ _ (c .before .before .before .before .before .before .before .before .pre .0) (c .before .before .before .before .before .before .before .before .pre .1) _ _ _ (c .before .before .index .ensures) (c .before .sums-of .ensures) (c .best-part .ensures))
+
+-- src/gains.rt:73:5
+element-copy-out-result : tie.Need-element-copy-out-result
+element-copy-out-result c = own-below _ _ _ _ (c .before .before .before .before .before .before .before .before .pre .0) (c .before .before .before .before .before .before .before .before .pre .1) _ _ _ (c .before .before .index .ensures) (c .before .sums-of .ensures) (c .best-part .ensures)
+
+-- src/gains.rt:59:1
+returns : tie.Need-returns
+returns c = glad-by _ _ _ _ (c .before .before .before .before .before .before .before .before .before .before .pre .0) (c .before .before .before .before .before .before .before .before .before .before .pre .1) _ _ _ (c .before .before .before .before .index .ensures) (c .before .before .before .sums-of .ensures) (c .before .before .best-part .ensures)
+
+pub glad-spec : {M : Type 1} → statement M
+glad-spec =
+    tie.close
+    (tie.spec
+    mul-index
+    shared-slice-read-index
+    index-requires
+    sums-of-requires
+    best-part-requires
+    mul-result
+    element-copy-out-result
+    returns)

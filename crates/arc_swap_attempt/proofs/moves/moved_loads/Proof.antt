@@ -1,0 +1,91 @@
+use mathlib.Core.Path.{_≡_, refl, ap}
+use Prim.Native.Nat.{ℕ}
+use native.Mathlib.Omega.{arith}
+use lib.ListN.{getD}
+use borrow.Author.Needs.{needs}
+use Rattle.arc_swap_attempt.proofs.moves.moved_loads.Statement.{statement}
+use Rattle.arc_swap_attempt.proofs.moves.moved_loads.Tie as tie
+use Rattle.arc_swap_attempt.proofs.moves.moved_loads.Reads as reads
+use Rattle.arc_swap_attempt.proofs.moves.moved_loads.Lts as lts
+use Rattle.lists.proofs.index.Reads as index-reads
+use Rattle.lists.proofs.wide.Reads as wide-reads
+
+-- src/moves.rt:18:9
+index-requires : tie.Need-index-requires
+index-requires c κs = search needs
+
+-- src/moves.rt:19:9
+index-requires-2 : tie.Need-index-requires-2
+index-requires-2 c κs = search needs
+
+-- src/moves.rt:22:21
+mul-next : tie.Need-mul-next
+mul-next c = search needs
+
+-- src/moves.rt:22:21
+array-read-next : tie.Need-array-read-next
+array-read-next c = search needs
+
+-- src/moves.rt:22:32
+wide-requires : tie.Need-wide-requires
+wide-requires c κs = search needs
+
+-- src/moves.rt:22:21
+sub-next : tie.Need-sub-next
+sub-next c = rw (c .wide .ensures, c .before .before .before .index .ensures) (c .before .before .before .before .pre .3)
+
+-- src/moves.rt:22:5
+mul-next-2 : tie.Need-mul-next-2
+mul-next-2 c = search needs
+
+-- src/moves.rt:22:5
+element-write-next : tie.Need-element-write-next
+element-write-next c = search needs
+
+-- src/moves.rt:23:19
+mul-next-3 : tie.Need-mul-next-3
+mul-next-3 c = search needs
+
+-- src/moves.rt:23:19
+array-read-next-2 : tie.Need-array-read-next-2
+array-read-next-2 c = search needs
+
+-- src/moves.rt:23:28
+wide-requires-2 : tie.Need-wide-requires-2
+wide-requires-2 c κs = search needs
+
+-- src/moves.rt:23:19
+add-next : tie.Need-add-next
+add-next c = let e = ap (λ (i : ℕ). getD (c .before .before .before .before .before .args .loads .at) i 0) (c .before .before .before .index2 .ensures) in omega (arith, e, c .before .before .before .before .before .pre .4, c .wide2 .ensures, c .before .before .before .before .before .fits .w)
+
+-- src/moves.rt:23:5
+mul-next-4 : tie.Need-mul-next-4
+mul-next-4 c = search needs
+
+-- src/moves.rt:23:5
+element-write-next-2 : tie.Need-element-write-next-2
+element-write-next-2 c = search needs
+
+-- src/moves.rt:14:1
+returns : tie.Need-returns
+returns c = rw (c .before .wide .ensures, c .wide2 .ensures, c .before .before .before .before .index .ensures, c .before .before .before .index2 .ensures) refl
+
+pub moved-loads-spec : {M : Type 1} → statement M
+moved-loads-spec =
+    tie.close
+    (tie.spec
+    index-requires
+    index-requires-2
+    mul-next
+    array-read-next
+    wide-requires
+    sub-next
+    mul-next-2
+    element-write-next
+    mul-next-3
+    array-read-next-2
+    wide-requires-2
+    add-next
+    mul-next-4
+    element-write-next-2
+    returns)

@@ -1,0 +1,82 @@
+-- What the functions of an attempt ask and answer: the stack as a list, the best part by sixteen sums, the pushes, the move.
+use mathlib.Core.Path.{_≡_}
+use mathlib.Core.Bool.{Bool, true, not, cond}
+use mathlib.Core.List.{List, [], _∷_, _++_}
+use mathlib.Core.Option.{Option, none, some}
+use Prim.Native.Nat.{ℕ, zero, suc, _+_, _-_, _≤_, _<_}
+use lib.ListN.{length, getD, set}
+use lib.Dec.{leb, eqb}
+use Rattle.lists.specs.Best.{best}
+use Rattle.lists.specs.Fill.{table}
+use Rattle.lists.specs.Sum.{total}
+use Rattle.imbalance.specs.Limit.{mostWeight}
+use Rattle.imbalance.specs.Load.{part, load}
+use Rattle.topology.specs.Graph.{Graph, first, past, into}
+use Rattle.topology.specs.Rule.{Rows, Symmetric}
+use Rattle.topology.specs.Cut.{cut}
+use Rattle.arc_swap_attempt.specs.Trial.{pushed}
+use Rattle.arc_swap_attempt.specs.declared.Target.{Target}
+use Rattle.arc_swap_attempt.specs.declared.Standing.{Standing}
+
+-- what stands in the first n places of the lent stack, the top first
+unfoldable pub held : List ℕ → ℕ → List ℕ
+held stack zero = []
+held stack (suc n) = getD stack n 0 ∷ held stack n
+
+-- the chosen part with its sum, or where there is none the own part with nothing
+abbrev pub picked : ℕ → (ℕ → ℕ) → Option ℕ → Target
+picked own sums none = record { part = own; sum = 0 }
+picked own sums (some t) = record { part = t; sum = sums t }
+
+-- of the parts below k other than the own, the one of the largest sum, the highest among equals
+abbrev pub bestBy : (ℕ → ℕ) → ℕ → ℕ → Option ℕ
+bestBy sums own k = best (λ t. not (eqb t own)) (λ t u. leb (sums u) (sums t)) k
+
+-- What every function of an attempt asks: rows in order, and labels below k, which is at most 16.
+pub record Named (g : Graph) (k : ℕ) (p : List ℕ) : Type 0 where
+  pub rows : Rows (length p) g
+  pub few : k ≤ 16
+  pub named : (v : ℕ) → v < length p → part p v < k
+
+-- What trying v asks besides: the weights, and the loads of the labels.
+pub record Tryable (g : Graph) (k : ℕ) (weights ceilings loads p : List ℕ) (v : ℕ) : Type 0 where
+  pub ok : Named g k p
+  pub here : v < length p
+  pub weighed : length weights ≡ length p
+  pub light : total weights ≤ mostWeight
+  pub capped : length ceilings ≡ 16
+  pub loaded : loads ≡ table 16 (load weights p)
+
+-- What the pushes leave of a stack s₀ of which n places were held: "do not all fit, none is pushed".
+pub record PushDone (new s₀ : List ℕ) (n : ℕ) (s : List ℕ) (fits : Bool) (top : ℕ) : Type 0 where
+  pub fits-is : fits ≡ leb (length new + n) (length s₀)
+  pub held-is : held s top ≡ cond fits (new ++ held s₀ n) (held s₀ n)
+  pub within : top ≤ length s₀
+
+-- v's neighbours that are pushed once v has moved
+abbrev pub fresh : Graph → ℕ → List ℕ → ℕ → List ℕ
+fresh g k p v = pushed g k (λ u. true) p v (past g v - first g v)
+
+-- Where the code stands: the cut and the loads of the labels.
+pub record Stood (g : Graph) (weights p : List ℕ) (cut₀ : ℕ) (loads : List ℕ) : Type 0 where
+  pub cut-is : cut₀ ≡ cut g p
+  pub loaded : loads ≡ table 16 (load weights p)
+
+-- What a move of v to part t, with the gain x, asks: all in order, n places of the stack s₀ held, another part, and the gain of that move.
+pub record MoveAsked (g : Graph) (k : ℕ) (weights p s₀ : List ℕ) (n cut₀ : ℕ) (loads : List ℕ) (v t x : ℕ) : Type 0 where
+  pub ok : Named g k p
+  pub symmetric : Symmetric (length p) g
+  pub weighed : length weights ≡ length p
+  pub light : total weights ≤ mostWeight
+  pub stood : Stood g weights p cut₀ loads
+  pub room : n ≤ length s₀
+  pub here : v < length p
+  pub target : t < k
+  pub apart : part p v ≡ t → ⊥
+  pub gain-is : into g p v t ≡ x + into g p v (part p v)
+
+-- What it leaves: the label, the cut and the loads after it, and the pushes.
+pub record MoveDone (g : Graph) (k : ℕ) (weights p s₀ : List ℕ) (n v t : ℕ) (p′ s : List ℕ) (c : Standing) : Type 0 where
+  pub labelled : p′ ≡ set p v t
+  pub stood : Stood g weights p′ (c .cut) (c .loads .at)
+  pub pushes : PushDone (fresh g k p′ v) s₀ n s (c .fits) (c .top)

@@ -1,0 +1,3 @@
+-- An attempt of arc-swap: the part that a vertex is tried for, what comes of it, and what is pushed after a move (document 01, "Arc-swap").
+pub mod Trial
+pub mod Inner

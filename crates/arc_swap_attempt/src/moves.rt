@@ -1,0 +1,105 @@
+// A move: the label, the loads, the cut and the stack follow. Document 01, "Else it moves, and its neighbours whose largest gain is now positive are pushed in row order".
+ghost use mathlib.Core.Path.{_≡_};
+ghost use Prim.Native.Nat.{_+_, _-_, _≤_, _<_};
+ghost use lib.ListN.{length, getD, set};
+ghost use Rattle.lists.specs.Sum.{weigh};
+ghost use Rattle.imbalance.specs.Limit.{mostWeight};
+ghost use Rattle.topology.specs.Graph.{inRows};
+ghost use Rattle.arc_swap_attempt.specs.Inner.{Named, fresh, PushDone, MoveAsked, MoveDone};
+use crate::Pushed;
+use crate::Standing;
+use imbalance::Loads;
+
+// The loads after a vertex of weight w left one part for another: one place down and one up.
+fn moved_loads(loads: Loads, old: u32, new: u32, w: u32) -> Loads
+    requires { ⌜ (old < 16) × (new < 16) × (length (loads .at) ≡ 16) × (w ≤ getD (loads .at) old 0) × (getD (loads .at) new 0 ≤ mostWeight) ⌝ }
+    ensures { λ r. ⌜ r .at ≡ set (set (loads .at) old (getD (loads .at) old 0 - w)) new (getD (loads .at) new 0 + w) ⌝ }
+{
+    let from = lists::index(old);
+    let to = lists::index(new);
+    let at = loads.at;
+    let mut next = loads;
+    next.at[from] = at[from] - lists::wide(w);
+    next.at[to] = at[to] + lists::wide(w);
+    next
+}
+
+// The neighbours of v that gain by a move now, on top of the places held, in row order. Where one does not fit, the places held stay as they were.
+fn push_neighbours(
+    starts: &[u32],
+    neighbours: &[u32],
+    arc_weights: &[u32],
+    labels: &[u32],
+    stack: &mut [u32],
+    parts: usize,
+    held: usize,
+    v: usize,
+) -> Pushed
+    requires { ⌜ Named (inRows (now starts) (now neighbours) (now «arc_weights»)) parts (now labels) × (v < length (now labels)) × (held ≤ length (now stack)) ⌝ }
+    ensures { λ r. ⌜ PushDone (fresh (inRows (now (starts .entry)) (now (neighbours .entry)) (now («arc_weights» .entry))) parts (now (labels .entry)) v) (now (stack .entry)) held (now (stack .exit)) (r .fits) (r .top) ⌝ }
+{
+    let end = lists::index(starts[v + 1]);
+    let mut e = lists::index(starts[v]);
+    let mut top = held;
+    while e < end {
+        let u = neighbours[e];
+        if crate::gains::glad(
+            starts,
+            neighbours,
+            arc_weights,
+            labels,
+            parts,
+            lists::index(u),
+        ) {
+            if top == stack.len() {
+                return Pushed {
+                    fits: false,
+                    top: held,
+                };
+            }
+            stack[top] = u;
+            top += 1;
+        }
+        e += 1;
+    }
+    Pushed { fits: true, top }
+}
+
+// v moves to part t with the gain given.
+pub fn move_vertex(
+    starts: &[u32],
+    neighbours: &[u32],
+    arc_weights: &[u32],
+    weights: &[u32],
+    labels: &mut [u32],
+    stack: &mut [u32],
+    st: Standing,
+    parts: usize,
+    held: usize,
+    v: usize,
+    t: u32,
+    gain: u64,
+) -> Standing
+    requires { ⌜ MoveAsked (inRows (now starts) (now neighbours) (now «arc_weights»)) parts (now weights) (now labels) (now stack) held (st .cut) (st .loads .at) v t gain ⌝ }
+    ensures { λ r. ⌜ MoveDone (inRows (now (starts .entry)) (now (neighbours .entry)) (now («arc_weights» .entry))) parts (now (weights .entry)) (now (labels .entry)) (now (stack .entry)) held v t (now (labels .exit)) (now (stack .exit)) r ⌝ }
+{
+    let before = st.loads;
+    let loads = moved_loads(before, labels[v], t, weights[v]);
+    labels[v] = t;
+    let p = push_neighbours(
+        starts,
+        neighbours,
+        arc_weights,
+        labels,
+        stack,
+        parts,
+        held,
+        v,
+    );
+    Standing {
+        fits: p.fits,
+        top: p.top,
+        cut: st.cut - gain,
+        loads,
+    }
+}
