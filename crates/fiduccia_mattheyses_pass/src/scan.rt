@@ -58,7 +58,7 @@ fn opposite(p: u32, zero: u64, one: u64) -> u64
     if p == 0 { one } else { zero }
 }
 
-// The scan. The loads and ceilings of the two parts stand in plain locals, and the gain is tested first, so that a vertex costs few instructions.
+// The scan. The loads and ceilings of the two parts stand in plain locals, the gain is tested first and the ceiling last, as few vertices come to it, so that a vertex costs few instructions.
 pub fn choose(
     gains: &[i64],
     labels: &[u32],
@@ -88,13 +88,12 @@ pub fn choose(
         }
         let p = labels[v];
         let l = opposite(p, load_0, load_1) + lists::wide(weights[v]);
-        if opposite(p, most_0, most_1) < l {
-            continue;
-        }
         if outranks(g, l, best_gain, best_load) {
-            best = v;
-            best_gain = g;
-            best_load = l;
+            if l <= opposite(p, most_0, most_1) {
+                best = v;
+                best_gain = g;
+                best_load = l;
+            }
         }
     }
     if below(LOCKED, best_gain) {

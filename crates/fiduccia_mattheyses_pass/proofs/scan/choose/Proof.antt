@@ -86,32 +86,32 @@ add-l c =
     let m = opposed-most (part (c .before .before .before .before .before .before .before .before .before .before .before .before .before .args .labels .now) (c .before .before .before .before .before .before .before .before .loop .next)) _ _ _ a b in
     omega (arith, c .before .before .opposite .ensures, m, c .wide .ensures, c .before .shared-slice-known4 .given (c .before .before .before .before .before .before .before .before .loop .next))
 
+outranks-requires : tie.Need-outranks-requires Inv-loop μ-loop
+outranks-requires c κs = search needs
+
 opposite-requires-2 : tie.Need-opposite-requires-2 Inv-loop μ-loop
-opposite-requires-2 c κs = c .before .before .before .before .before .before .before .before .before .before .before .before .before .pre .0 .two (c .before .before .before .before .before .before .before .before .loop .next)
+opposite-requires-2 c κs = c .before .before .before .before .before .before .before .before .before .before .before .before .before .before .before .pre .0 .two (c .before .before .before .before .before .before .before .before .before .before .loop .next)
 
 loop-less-2 : tie.Need-loop-less-2 Inv-loop μ-loop
 loop-less-2 c = search needs
 
 loop-again-2 : tie.Need-loop-again-2 Inv-loop μ-loop
 loop-again-2 c =
-    (search needs, scan-heavy _ _ _ _ _ _ _ (c .before .before .before .before .before .before .before .before .before .before .loop .inv .1) _ _ (ap₂ _+_ (c .before .before .before .before .opposite .ensures) (c .before .before .wide .ensures)) (c .before .opposite2 .ensures) (c .if2 .taken))
-
-outranks-requires : tie.Need-outranks-requires Inv-loop μ-loop
-outranks-requires c κs = search needs
+    (search needs, scan-take _ _ _ _ _ _ _ (c .before .before .before .before .before .before .before .before .before .before .before .before .loop .inv .1) _ _ _ _ (toZ-ofZ w64 _ (record { sfits = c .before .before .before .before .before .before .before .before .before .before .g .given })) (ap₂ _+_ (c .before .before .before .before .before .before .opposite .ensures) (c .before .before .before .before .wide .ensures)) (c .before .opposite2 .ensures) (c .before .before .before .outranks .ensures) (c .before .before .if2 .taken) (c .if3 .taken))
 
 loop-less-3 : tie.Need-loop-less-3 Inv-loop μ-loop
 loop-less-3 c = search needs
 
 loop-again-3 : tie.Need-loop-again-3 Inv-loop μ-loop
 loop-again-3 c =
-    (search needs, scan-take _ _ _ _ _ _ _ (c .before .before .before .before .before .before .before .before .before .before .before .before .loop .inv .1) _ _ _ _ (toZ-ofZ w64 _ (record { sfits = c .before .before .before .before .before .before .before .before .before .before .g .given })) (ap₂ _+_ (c .before .before .before .before .before .before .opposite .ensures) (c .before .before .before .before .wide .ensures)) (c .before .before .before .opposite2 .ensures) (c .before .outranks .ensures) (c .if3 .taken) (c .before .before .if2 .left))
+    (search needs, scan-heavy _ _ _ _ _ _ _ (c .before .before .before .before .before .before .before .before .before .before .before .before .loop .inv .1) _ _ (ap₂ _+_ (c .before .before .before .before .before .before .opposite .ensures) (c .before .before .before .before .wide .ensures)) (c .before .opposite2 .ensures) (c .if3 .left))
 
 loop-less-4 : tie.Need-loop-less-4 Inv-loop μ-loop
 loop-less-4 c = search needs
 
 loop-again-4 : tie.Need-loop-again-4 Inv-loop μ-loop
 loop-again-4 c =
-    (search needs, scan-not _ _ _ _ _ _ _ (c .before .before .before .before .before .before .before .before .before .before .before .before .loop .inv .1) _ _ _ (toZ-ofZ w64 _ (record { sfits = c .before .before .before .before .before .before .before .before .before .before .g .given })) (ap₂ _+_ (c .before .before .before .before .before .before .opposite .ensures) (c .before .before .before .before .wide .ensures)) (c .before .outranks .ensures) (c .if3 .left))
+    (search needs, scan-not _ _ _ _ _ _ _ (c .before .before .before .before .before .before .before .before .before .before .loop .inv .1) _ _ _ (toZ-ofZ w64 _ (record { sfits = c .before .before .before .before .before .before .before .before .g .given })) (ap₂ _+_ (c .before .before .before .before .opposite .ensures) (c .before .before .wide .ensures)) (c .before .outranks .ensures) (c .if2 .left))
 
 below-requires-2 : tie.Need-below-requires-2 Inv-loop μ-loop
 below-requires-2 c κs = search needs
@@ -154,10 +154,10 @@ choose-spec =
     shared-slice-read-wide
     wide-requires
     add-l
+    outranks-requires
     opposite-requires-2
     loop-less-2
     loop-again-2
-    outranks-requires
     loop-less-3
     loop-again-3
     loop-less-4
