@@ -1,5 +1,5 @@
-/* Daunsrevit: measures a partition of a graph into parts, refines one of two parts, and reads and writes plans, the files that
- * hold a graph, its labels and a ceiling. For x86-64 with the System V calling convention.
+/* Daunsrevit: measures a partition of a graph into parts, refines one of two parts or of up to sixteen, and reads and writes plans,
+ * the files that hold a graph, its labels and a ceiling. For x86-64 with the System V calling convention.
  *
  * THE GRAPH. n vertices with a weight and a label each, in rows: row u's arcs are those from starts[u] up to, not including,
  * starts[u + 1]; arc e goes to vertex neighbours[e] and weighs arc_weights[e]. n is the length of `labels`, a that of
@@ -13,9 +13,9 @@
  * equal weight. The weights sum to at most DAUNSREVIT_MOST_WEIGHT, and so do the arc weights. A weight of 0 is legal everywhere.
  * Labels name parts and are below DAUNSREVIT_PARTS.
  *
- * WHAT IS WRITTEN. A pointer without const is to a lent list: the labels of a refiner, its working lists and row lists, and the
- * targets of the reader and the writer. A lent list other than the labels may be longer than is needed, and is unchanged past
- * the needed length. After a refiner's done call the working lists hold zeros up to the needed length.
+ * WHAT IS WRITTEN. A pointer without const is to a lent list or record: the labels of a refiner, its working lists and row lists,
+ * arc-swap's run record, and the targets of the reader and the writer. A lent list other than the labels may be longer than is
+ * needed, and is unchanged past the needed length. After a refiner's done call the working lists hold zeros up to the needed length.
  *
  * WHAT IS PROMISED. Every function answers every input: where one of these rules is broken, the answer has its number (below)
  * and zeros, and nothing is written anywhere. Each promise is proved of the library's source, which states it in full.
@@ -65,8 +65,8 @@ extern "C" {
 #define DAUNSREVIT_NO_OPPOSITE 4      /* an arc has no equal opposite */
 #define DAUNSREVIT_TOO_HEAVY 5        /* a weight sum over its limit */
 #define DAUNSREVIT_LABEL 6            /* a label above 15; FM: above 1; KL: also not exactly two different labels */
-#define DAUNSREVIT_SETTING 7          /* pass limit above 1,024; FM: also choice above 2, or 2 with e NaN, below 0 or above 64 */
-#define DAUNSREVIT_SHORT_LIST 8       /* a lent working list or row list is too short */
+#define DAUNSREVIT_SETTING 7          /* FM, KL: pass limit above 1,024; FM, arc-swap: choice above 2, or 2 with e NaN, below 0 or above 64 */
+#define DAUNSREVIT_SHORT_LIST 8       /* a lent working list or row list is too short; arc-swap's stack never is */
 #define DAUNSREVIT_PLAN_LENGTH 9      /* plan length not a positive multiple of 512 */
 #define DAUNSREVIT_BLOCK_CHECK 10     /* a block's check fails */
 #define DAUNSREVIT_HEADER 11          /* header block laid out wrongly */
@@ -78,7 +78,7 @@ extern "C" {
 /* How a run ended. */
 #define DAUNSREVIT_PASS_LIMIT 0       /* the pass limit */
 #define DAUNSREVIT_GAINLESS 1         /* a pass that did not lower the cut, also when it was the last allowed */
-#define DAUNSREVIT_STACK_FULL 2       /* a full stack: neither FM nor KL ends so */
+#define DAUNSREVIT_STACK_FULL 2       /* arc-swap: a push had no place on the stack */
 #define DAUNSREVIT_EMPTY 3            /* no vertices */
 
 /* The ceiling: no move brings a part's load above it. There are three choices; what the choice does not use is not looked at. In
@@ -170,6 +170,31 @@ struct daunsrevit_kernighan_lin_report {
     uint64_t last;
 };
 
+/* The ceiling's choice and its two values. */
+struct daunsrevit_arc_swap_settings {
+    uint32_t choice;
+    uint32_t whole;
+    double imbalance;
+};
+
+/* The number; where it is 0 the run's end, its passes, the cut before and after, and the loads after. */
+struct daunsrevit_arc_swap_report {
+    uint32_t number;
+    uint32_t end;
+    uint32_t passes;
+    uint64_t first;
+    uint64_t last;
+    struct daunsrevit_loads loads;
+};
+
+/* Arc-swap's counts: attempts, and what came of them: moves, attempts without a gain, and attempts at a part that is too heavy. */
+struct daunsrevit_run_record {
+    uint64_t attempts;
+    uint64_t moves;
+    uint64_t no_gain;
+    uint64_t bad_balance;
+};
+
 /* The number; where it is 0 the plan's header: its vertices, arcs and parts, the ceiling's choice, and its value. The value that
  * the choice does not use is 0. */
 struct daunsrevit_read_answer {
@@ -231,6 +256,28 @@ struct daunsrevit_kernighan_lin_report daunsrevit_kernighan_lin(
     uint32_t *swaps, size_t swaps_count,
     struct daunsrevit_kernighan_lin_settings settings);
 
+/* Arc-swap refines the labels of k parts, k being the largest label + 1 and at least 2, by moves under the ceiling, each of which
+ * lowers the cut. What is needed of each lent list:
+ *
+ *     labels                      n elements
+ *     stack                       any length: a working list, which a done call zeroes whole
+ *     run                         one record, not null
+ *
+ * Done: number 0, the labels are refined, and the run record holds the counts. Where the vertices to be pushed have no place on the
+ * stack the run ends with 2, with the labels reached so far, none of which raised the cut: lend more, and call again. A stack as long
+ * as there are arcs is seldom too short. Without vertices, whatever the other lists and the settings: number 0, end 3, all else 0, and
+ * nothing is written but the run record, which is zeroed. Else number is the smallest of 1 to 7 that applies (5 for either weight
+ * sum), and the report is otherwise 0. */
+struct daunsrevit_arc_swap_report daunsrevit_arc_swap(
+    const uint32_t *starts, size_t starts_count,
+    const uint32_t *neighbours, size_t neighbours_count,
+    const uint32_t *arc_weights, size_t arc_weights_count,
+    const uint32_t *weights, size_t weights_count,
+    uint32_t *labels, size_t labels_count,
+    uint32_t *stack, size_t stack_count,
+    struct daunsrevit_arc_swap_settings settings,
+    struct daunsrevit_run_record *run);
+
 /* A PLAN is a file of blocks of 512 bytes, little-endian: the kind, a zero byte, the record count in 2 bytes, 63 places of 8
  * bytes, unused ones zero, and a word by which the block's 128 words sum to 0, wrapping. Blocks stand by kind; all blocks of
  * kind 2 and 3 hold 63 records but the last of the kind, which holds the rest.
@@ -269,6 +316,11 @@ struct daunsrevit_write_answer daunsrevit_write_plan(
     const uint32_t *arc_weights, size_t arc_weights_count,
     uint32_t k, uint32_t choice, uint32_t whole, double imbalance,
     uint8_t *target, size_t target_count);
+
+/* The self-test: runs loads, cuts, gains, FM, KL and arc-swap on a grid of eight blocks and compares ten rows of known results.
+ * Answers the number of the first row that differs, else 0. It is proved to answer 0: another answer tells of a machine or a
+ * build that does not run the proved code. */
+uint32_t daunsrevit_self_test(void);
 
 #ifdef __cplusplus
 }

@@ -1,14 +1,14 @@
 #!/usr/bin/env python3
-"""Makes the machine-made part of the proofs of functions that pass a reference to a list of records on.
+"""Makes the machine-made part of the proofs of functions that pass a reference to a record, or to a list of records, on.
 
     tools/walkgen.py CRATE
 
 The checker writes the walk of a function's code (its typing derivation) only where no reference to a struct is in it. So an
 analogue of the crate is made in a temporary folder, in which the record behind the reference is a plain number (`Move` an
-i8) and every contract says nothing; the checker's own derivation of that analogue is then taken over with the record's type
-put back: proofs/walk/F/{Kinds,Reads}.antt and proofs/F/Proof/{Lts,Tie}.antt for each function F below. The checker judges
-these files as any other; nothing here is trusted. A missing proofs/F/Proof.antt is written with a hole for each need; one
-that is there is kept. Run it after each change of such a function's code or signature.
+i8, `RunRecord` an i16) and every contract says nothing; the checker's own derivation of that analogue is then taken over
+with the record's type put back: proofs/walk/F/{Kinds,Reads}.antt and proofs/F/Proof/{Lts,Tie}.antt for each function F
+below. The checker judges these files as any other; nothing here is trusted. A missing proofs/F/Proof.antt is written with a
+hole for each need; one that is there is kept. Run it after each change of such a function's code or signature.
 """
 import os, re, shutil, subprocess, sys, tempfile
 
@@ -38,19 +38,33 @@ def joined(text):
 # The record types, and the number that stands for each in the analogue.
 TYPES = {'Move': ('i8', 'w8'), 'RunRecord': ('i16', 'w16')}
 OWN_WIDTHS = ['w16']
+# The record that lies past the end of a local array, of which an element is lent.
+PAST = {'Move': 'record { vertex = 0; part = 0 }', 'RunRecord': 'record { attempts = 0; moves = 0; «no_gain» = 0; «bad_balance» = 0 }'}
+# A body for a function that answers a report.
+NO_REPORT = 'Report { number: 0, end: 0, passes: 0, first: 0, last: 0, loads: Loads { at: [0; 16] } }'
 # For each crate: the functions of its own over the record that are proved by hand (own); those whose analogue needs no code but this
 # body (leaves); those that are walked; the crate where each record is declared (home); of a crate below with such functions, their
-# analogue's bodies (below); and the crates that stand in the analogue as they are (real).
+# analogue's bodies (below); the crates that stand in the analogue as they are (real); of each record, the walked functions
+# that lend an element of a local array of it (lends); and whether the analogue has the walked functions only (only).
 CONF = {
   'fiduccia_mattheyses': dict(
       own=['put_move', 'move_at', 'clear'],
       leaves={'put_move': '', 'move_at': 'Move { vertex: 0, part: 0 }', 'clear': '', 'narrow': '0', 'first_standing': 'Standing { loads, cut: 0, least: 0, kept: 0, bad: 0 }', 'pass_answer': 'Passed { made, kept, cut: 0, loads }', 'unfit_settings': 'false', 'too_short': 'false', 'number_of': '0'},
       walked=['walk_moves', 'rewind', 'pass', 'make_passes', 'refine', 'fiduccia_mattheyses'], home={'Move': 'fiduccia_mattheyses'},
       real=['lists', 'imbalance', 'topology', 'fiduccia_mattheyses_pass']),
-  'daunsrevit': dict(
-      leaves={}, walked=['daunsrevit_fiduccia_mattheyses'], home={'Move': 'fiduccia_mattheyses'},
-      below={'fiduccia_mattheyses': ({'fiduccia_mattheyses': 'Report { number: 0, end: 0, passes: 0, first: 0, last: 0, loads: Loads { at: [0; 16] } }'}, ['fiduccia_mattheyses'])},
+  'fiduccia_mattheyses_moves': dict(
+      leaves={'blank_8': '[0; 8]', 'blank_512': '[0; 512]'}, walked=['with_8_moves', 'with_512_moves'], home={'Move': 'fiduccia_mattheyses'},
+      below={'fiduccia_mattheyses': ({'fiduccia_mattheyses': NO_REPORT}, ['fiduccia_mattheyses'])},
       real=['lists', 'imbalance', 'topology', 'fiduccia_mattheyses_pass']),
+  'arc_swap': dict(
+      own=['note', 'zero_run'],
+      leaves={'note': '', 'zero_run': '', 'next_run': 'run', 'attempt': 'Attempted { st, trial: Trial::NoGain }', 'on_cut': 'false', 'push_first': 'st', 'end_of': '1', 'number_of': '0', 'parts_of': '2', 'begin_run': 'Begun { parts: 2, ceilings: Ceilings { at: [0; 16] }, st: Standing { fits: true, top: 0, cut: 0, loads: Loads { at: [0; 16] } } }', 'blank_runs': '[0]', 'with_counts': 'Answered { report, run: RunRecord { attempts: 0, moves: 0, no_gain: 0, bad_balance: 0 } }'},
+      walked=['drain_stack', 'sweep_all', 'run_passes', 'swap_all', 'arc_swap', 'arc_swap_counted'], home={'RunRecord': 'arc_swap'}, lends={'RunRecord': ['arc_swap_counted']},
+      real=['lists', 'imbalance', 'topology', 'arc_swap_attempt']),
+  'daunsrevit': dict(
+      leaves={}, walked=['daunsrevit_fiduccia_mattheyses', 'daunsrevit_arc_swap'], home={'Move': 'fiduccia_mattheyses', 'RunRecord': 'arc_swap'},
+      below={'fiduccia_mattheyses': ({'fiduccia_mattheyses': NO_REPORT}, ['fiduccia_mattheyses']), 'arc_swap': ({'arc_swap': NO_REPORT}, ['arc_swap'])},
+      real=['lists', 'imbalance', 'topology', 'fiduccia_mattheyses_pass', 'arc_swap_attempt'], only=True),
 }[CRATE]
 LEAVES, WALKED, BELOW = CONF['leaves'], CONF['walked'], CONF.get('below', {})
 OWN_LEAVES = CONF.get('own', [])     # those that take the type; the rest keep their own Reads
@@ -90,6 +104,10 @@ def analogue(s, leaves, crate, only=None):
     for t, (a, _) in TYPES.items():
         s = s.replace(f'[{t}; ', f'[{a}; ').replace(f'[{t}]', f'[{a}]').replace(f'&mut {t}', f'&mut {a}').replace(f'&{t}', f'&{a}')
         s = re.sub(rf'^use \w+::{t};\n', '', s, flags=re.M)
+    if only is not None:                                     # what is then not used any more
+        s = re.sub(r'^mod \w+;\n', '', s, flags=re.M)
+        for u in re.findall(r'^use \w+::\w+;\n', s, flags=re.M):
+            if len(re.findall(r'\b%s\b' % u.split('::')[1][:-2], s)) == 1: s = s.replace(u, '')
     return f'ghost use Rattle.{crate}.specs.Any.{{Any}};\n' + s
 
 def sh(*a):
@@ -144,19 +162,22 @@ def real(t, F):
         t = re.sub(rf"\(Array'*\.eSInt Syntax\.{w}\)", f'{ty}.element', t)
         t = re.sub(rf"\(Array'*\.eSInt-laws Syntax\.{w}\)", f'{ty}.element-laws', t)
         if w in OWN_WIDTHS: t = t.replace(f'(Syntax.tyInt Syntax.{w})', f'{ty}.by-value')
+        if t != n and F in CONF.get('lends', {}).get(T, []): t = t.replace('(IntN.pos 0)', f'{ty}.past')
         home = P if CONF['home'][T] == CRATE else f"Rattle.{CONF['home'][T]}.proofs"
         if t != n: t = t.replace('use ', f'use {home}.{ty}\nuse ', 1)
     return MADE + joined(t)
 
 os.makedirs(WORK)
-lines = [l for l in open(f'{REPO}/crates.txt').read().split('\n') if l.split(':')[0] in [CRATE] + list(BELOW) + REAL]
+crates = [CRATE] + list(BELOW) + REAL
+lines = [l.split(':')[0] + ': ' + ' '.join(d for d in l.split(':')[1].split() if d in crates) for l in open(f'{REPO}/crates.txt').read().split('\n') if l.split(':')[0] in crates]
 open(f'{WORK}/crates.txt', 'w').write('\n'.join(lines) + '\n')
 for c in [CRATE] + list(BELOW):
     emit(f'{WORK}/crates/{c}/specs/Lib.antt', 'pub mod Any\n')
     emit(f'{WORK}/crates/{c}/specs/Any.antt', 'abbrev pub Any : Type 0\nAny = Unit {0}\n')
-    for f in os.listdir(f'{REPO}/crates/{c}/src'):
+    only = BELOW[c][1] if c in BELOW else WALKED if CONF.get('only') else None
+    for f in os.listdir(f'{REPO}/crates/{c}/src') if only is None else ['lib.rt']:
         t = open(f'{REPO}/crates/{c}/src/{f}').read()
-        emit(f'{WORK}/crates/{c}/src/{f}', analogue(t, LEAVES, c) if c == CRATE else analogue(t, BELOW[c][0], c, BELOW[c][1]))
+        emit(f'{WORK}/crates/{c}/src/{f}', analogue(t, LEAVES if c == CRATE else BELOW[c][0], c, only))
 for c in REAL:
     shutil.copytree(f'{REPO}/crates/{c}', f'{WORK}/crates/{c}')
 if os.path.isdir(f'{REPO}/target'):
@@ -187,6 +208,7 @@ for F in OWN_LEAVES + WALKED:
 emit(f'{SRC}/proofs/walk.antt', MADE + ''.join(f'pub mod {F}\n' for F in there))
 for T in TYPES:
     if CONF['home'].get(T) != CRATE: continue
+    past = f'abbrev pub past : R .Denot\npast = {PAST[T]}\n\n' if T in CONF.get('lends', {}) else ''
     emit(f'{SRC}/proofs/{T}Ty.antt', MADE + f'''-- `{T}` as what a reference refers to: its row, and its MIR type behind a reference and by value.
 use mir.Syntax.{{Ty}}
 use denote.RattleType.{{RattleType}}
@@ -205,7 +227,7 @@ behind = pointee (T.the-row .written)
 abbrev pub by-value : Ty
 by-value = T′.mir
 
-abbrev pub copies : Cp R
+{past}abbrev pub copies : Cp R
 copies = cStruct T.the-type T′.the-laws T′.the-copy
 
 abbrev pub element : Elem

@@ -1,4 +1,5 @@
-/* The eight-block grid of document 01: labelling A has cut 6, lambda cut 6 and loads 4 and 4; B has cut 2 and lambda cut 4. */
+/* The eight-block grid of document 01: labelling A has cut 6, lambda cut 6 and loads 4 and 4; B has cut 2 and lambda cut 4.
+ * The self-test runs all ten rows. */
 #include "check.h"
 
 static const uint32_t a[8] = {0, 0, 1, 1, 0, 1, 0, 1}, b[8] = {0, 0, 1, 1, 0, 0, 1, 1};
@@ -24,5 +25,6 @@ int main(void)
 {
     check_grid(a, 6, 6);
     check_grid(b, 2, 4);
+    CHECK(daunsrevit_self_test() == 0);
     return finish("grid");
 }

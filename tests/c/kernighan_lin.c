@@ -71,6 +71,7 @@ static void check_refusal(uint32_t number, int line)
     check(memcmp(&c, &wanted, sizeof c) == 0, "nothing is written", __FILE__, line);
 }
 #define REFUSED(number) check_refusal(number, __LINE__)
+#include "refiner.h"
 
 /* The call is done, with these labels, and every lent list is as it should be to its last byte. */
 static void check_run(const uint32_t *labels, uint32_t end, uint32_t passes, uint64_t first, uint64_t last, int line)
@@ -170,33 +171,10 @@ static void no_vertices(void)
     CHECK(r.end == 0 && r.passes == 0 && r.first == 0 && r.last == 0);
 }
 
-#define AFTER(fault, number) \
-    do { \
-        on_path(5); \
-        fault; \
-        REFUSED(number); \
-    } while (0)
-
 static void refusals(void)
 {
-    AFTER(c.l.weights_count--, 1);
-    AFTER(c.l.weights_count++, 1);
-    AFTER(c.l.starts_count--, 1);
-    AFTER(c.l.starts_count = 0, 1);
-    AFTER(c.l.neighbours_count--, 1);
-    AFTER(c.l.arc_weights_count++, 1);
-    on_path(4097);
-    REFUSED(2);
-    AFTER(c.l.starts[0] = 1, 3);
-    AFTER(c.l.neighbours[0] = 0, 3);
-    AFTER(c.l.neighbours[0] = 5, 3);
-    AFTER((c.l.starts[2] = 5, c.l.starts[3] = 3), 3);
-    AFTER(c.l.arc_weights[0] = 2, 4);
-    AFTER(c.l.neighbours[7] = 0, 4);
-    AFTER(c.l.weights[0] = 2147483648u, 5);
-    AFTER((c.l.arc_weights[0] = c.l.arc_weights[1] = 1073741824), 5);
+    graph_refusals();
     AFTER((c.l.labels[1] = c.l.labels[3] = 16), 6);
-    AFTER(c.l.labels[0] = 4294967295u, 6);
     AFTER(c.l.labels[4] = 2, 6);
     AFTER((c.l.labels[1] = c.l.labels[3] = 0), 6);
     AFTER(c.s.passes = 1025, 7);
@@ -207,30 +185,15 @@ static void refusals(void)
     AFTER((c.gains_count = c.locks_count = c.swaps_count = 0), 8);
 }
 
-/* The smallest number that applies: every choice of faults 1 to 8, where fault i alone gives the number i. */
-static void order(void)
+/* The faults 6 to 8. */
+static void own_faults(unsigned faults)
 {
-    for (unsigned faults = 2; faults < 512; faults += 2) {
-        uint32_t smallest = 1;
-        while (!has(faults, smallest))
-            smallest++;
-        on_path(has(faults, 2) ? 4097 : 5);
-        if (has(faults, 1))
-            c.l.weights_count--;
-        if (has(faults, 3))
-            c.l.starts[0] = 1;
-        if (has(faults, 5))
-            c.l.weights[0] = 2147483648u;
-        if (has(faults, 4))
-            c.l.arc_weights[3]++;
-        if (has(faults, 6))
-            c.l.labels[2] = 2;
-        if (has(faults, 7))
-            c.s.passes = 1025;
-        if (has(faults, 8))
-            c.swaps_count--;
-        REFUSED(smallest);
-    }
+    if (has(faults, 6))
+        c.l.labels[2] = 2;
+    if (has(faults, 7))
+        c.s.passes = 1025;
+    if (has(faults, 8))
+        c.swaps_count--;
 }
 
 int main(void)
@@ -240,6 +203,6 @@ int main(void)
     odd();
     no_vertices();
     refusals();
-    order();
+    order(8, own_faults);
     return finish("kernighan_lin");
 }

@@ -23,6 +23,11 @@ void *raw_swap(void *report, const uint32_t *starts, size_t starts_count, const 
     uint32_t *labels, size_t labels_count, int64_t *gains, size_t gains_count, uint8_t *locks, size_t locks_count,
     uint32_t *swaps, size_t swaps_count, struct daunsrevit_kernighan_lin_settings settings)
     __asm__("daunsrevit_kernighan_lin");
+void *raw_arc_swap(void *report, const uint32_t *starts, size_t starts_count, const uint32_t *neighbours, size_t neighbours_count,
+    const uint32_t *arc_weights, size_t arc_weights_count, const uint32_t *weights, size_t weights_count,
+    uint32_t *labels, size_t labels_count, uint32_t *stack, size_t stack_count, struct daunsrevit_arc_swap_settings settings,
+    void *run)
+    __asm__("daunsrevit_arc_swap");
 void *raw_read(void *answer, const uint8_t *bytes, size_t bytes_count, uint32_t *labels, size_t labels_count,
     uint32_t *weights, size_t weights_count, uint32_t *starts, size_t starts_count,
     uint32_t *neighbours, size_t neighbours_count, uint32_t *arc_weights, size_t arc_weights_count)
@@ -74,6 +79,22 @@ static void sizes(void)
     CHECK(OFFSET(daunsrevit_kernighan_lin_report, passes) == 8);
     CHECK(OFFSET(daunsrevit_kernighan_lin_report, first) == 16);
     CHECK(OFFSET(daunsrevit_kernighan_lin_report, last) == 24);
+    CHECK(sizeof(struct daunsrevit_arc_swap_settings) == 16);
+    CHECK(OFFSET(daunsrevit_arc_swap_settings, choice) == 0);
+    CHECK(OFFSET(daunsrevit_arc_swap_settings, whole) == 4);
+    CHECK(OFFSET(daunsrevit_arc_swap_settings, imbalance) == 8);
+    CHECK(sizeof(struct daunsrevit_arc_swap_report) == 160);
+    CHECK(OFFSET(daunsrevit_arc_swap_report, number) == 0);
+    CHECK(OFFSET(daunsrevit_arc_swap_report, end) == 4);
+    CHECK(OFFSET(daunsrevit_arc_swap_report, passes) == 8);
+    CHECK(OFFSET(daunsrevit_arc_swap_report, first) == 16);
+    CHECK(OFFSET(daunsrevit_arc_swap_report, last) == 24);
+    CHECK(OFFSET(daunsrevit_arc_swap_report, loads) == 32);
+    CHECK(sizeof(struct daunsrevit_run_record) == 32);
+    CHECK(OFFSET(daunsrevit_run_record, attempts) == 0);
+    CHECK(OFFSET(daunsrevit_run_record, moves) == 8);
+    CHECK(OFFSET(daunsrevit_run_record, no_gain) == 16);
+    CHECK(OFFSET(daunsrevit_run_record, bad_balance) == 24);
     CHECK(sizeof(struct daunsrevit_read_answer) == 32);
     CHECK(OFFSET(daunsrevit_read_answer, number) == 0);
     CHECK(OFFSET(daunsrevit_read_answer, n) == 4);
@@ -177,6 +198,37 @@ static void reports_as_bytes(void)
     CHECK(refined[1] == 0);
 }
 
+/* The same two vertices, and two more on their own board: both of those are on the cut of weight 0, and have no gain. */
+static void run_record_as_bytes(void)
+{
+    const uint32_t four_starts[5] = {0, 1, 2, 3, 4}, four_neighbours[4] = {1, 0, 3, 2}, four_arcs[4] = {5, 5, 0, 0};
+    const uint32_t four_weights[4] = {7, 9, 1, 30};
+    uint32_t refined[4] = {0, 1, 2, 3}, stack[3];
+    _Alignas(16) unsigned char bytes[192], run[48];
+    struct daunsrevit_arc_swap_settings s = {1, 16, 99.0};
+    memset(bytes, 0xa5, sizeof bytes);
+    memset(run, 0xa5, sizeof run);
+    CHECK(raw_arc_swap(bytes, four_starts, 5, four_neighbours, 4, four_arcs, 4, four_weights, 4, refined, 4, stack, 3, s, run)
+        == bytes);
+    CHECK(half_at(bytes, 0) == 0);
+    CHECK(half_at(bytes, 4) == 1);
+    CHECK(half_at(bytes, 8) == 2);
+    CHECK(word_at(bytes, 16) == 5);
+    CHECK(word_at(bytes, 24) == 0);
+    for (size_t t = 0; t < 16; t++)
+        CHECK(word_at(bytes, 32 + 8 * t) == (t == 1 ? 16 : t == 2 ? 1 : t == 3 ? 30 : 0));
+    past(bytes, 160, sizeof bytes);
+    CHECK(word_at(run, 0) == 5);
+    CHECK(word_at(run, 8) == 1);
+    CHECK(word_at(run, 16) == 4);
+    CHECK(word_at(run, 24) == 0);
+    past(run, 32, sizeof run);
+    CHECK(refined[0] == 1);
+    CHECK(refined[1] == 1);
+    CHECK(refined[2] == 2);
+    CHECK(refined[3] == 3);
+}
+
 /* The writer's numbers and its float stand between lists, and the target comes last. */
 static void plan_answers(void)
 {
@@ -220,6 +272,7 @@ int main(void)
     loads_as_bytes();
     cut_as_registers();
     reports_as_bytes();
+    run_record_as_bytes();
     plan_answers();
     return finish("layout");
 }

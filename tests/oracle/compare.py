@@ -1,11 +1,14 @@
 #!/usr/bin/env python3
-"""Compares the library with coupe on random graphs: builds the oracle and the proved replay program, puts the same cases
-to both, and prints for each algorithm the cases that were run and those that differ. Ends with 1 where one differs.
+"""Compares the library with coupe on random graphs: builds the oracle, the proved replay program and the driver of the C entry
+points, puts the same cases to both sides, and prints for each algorithm the cases that were run and those that differ. Ends with 1
+where one differs. Loads and cuts go through the replay program, the refiners through the C entry points (compare_refiners.py).
 
-    compare.py [--seeds 1 2 3] [--graphs 5000] [--only "edge cut" ..] [--exhaustive] [--limits]
+    compare.py [--seeds 1 2 3 4] [--graphs 6000] [--exhaustive] [--limits] [--archive FILE] [--refiners]
 
-Each seed gives its own graphs (make_cases.py). --exhaustive adds every graph of up to four vertices, --limits the largest.
-The replayed text of each seed is kept in target/compare/, so that a line that differs can be looked at.
+Each seed gives its own graphs (make_cases.py: n up to 12, and a fiftieth of n up to 600). --exhaustive adds every graph of up to
+four vertices, and for those of up to three every limit from 0 to 3; --limits the largest graphs. --archive names an archive of the
+C entry points that is there; else it is made. --refiners leaves the loads and cuts out. The replayed text of each seed is kept in
+target/compare/, so that a line that differs can be looked at.
 """
 
 import argparse
@@ -13,6 +16,7 @@ import random
 import sys
 from collections import Counter
 
+import compare_refiners
 from algorithms import ALGORITHMS, Disagreement
 from make_cases import at_limits, exhaustive, seeded
 from programs import ROOT, build_oracle, build_replay, oracle_answers, replay
@@ -81,19 +85,11 @@ class Comparison:
             self.failed = self.failed or self.run[name] == 0 or self.differ[name] > 0
 
 
-def main():
-    parser = argparse.ArgumentParser(description=__doc__, formatter_class=argparse.RawDescriptionHelpFormatter)
-    parser.add_argument("--seeds", type=int, nargs="+", default=[1, 2, 3])
-    parser.add_argument("--graphs", type=int, default=5000, help="small graphs a seed")
-    parser.add_argument("--only", nargs="+", choices=[a.name for a in ALGORITHMS], help="these algorithms alone")
-    parser.add_argument("--exhaustive", action="store_true")
-    parser.add_argument("--limits", action="store_true")
-    options = parser.parse_args()
-
-    build_oracle()
+def compare_measures(options):
+    """Whether a case of loads or cuts differs, or none was run."""
     build_replay()
     KEPT.mkdir(parents=True, exist_ok=True)
-    comparison = Comparison([a for a in ALGORITHMS if not options.only or a.name in options.only])
+    comparison = Comparison(ALGORITHMS)
     sources = f"seeds {' '.join(map(str, options.seeds))}"
     for seed in options.seeds:
         comparison.add(f"seed-{seed}", seeded(seed, options.graphs), seed)
@@ -105,7 +101,21 @@ def main():
         sources += ", exhaustive"
         comparison.add("exhaustive", exhaustive(), 0)
     comparison.tell(sources)
-    sys.exit(1 if comparison.failed else 0)
+    return comparison.failed
+
+
+def main():
+    parser = argparse.ArgumentParser(description=__doc__, formatter_class=argparse.RawDescriptionHelpFormatter)
+    parser.add_argument("--seeds", type=int, nargs="+", default=[1, 2, 3, 4])
+    parser.add_argument("--graphs", type=int, default=6000, help="small graphs a seed")
+    parser.add_argument("--exhaustive", action="store_true")
+    parser.add_argument("--limits", action="store_true")
+    parser.add_argument("--archive")
+    parser.add_argument("--refiners", action="store_true")
+    options = parser.parse_args()
+    build_oracle()
+    failed = not options.refiners and compare_measures(options)
+    sys.exit(1 if compare_refiners.compare(options) or failed else 0)
 
 
 if __name__ == "__main__":

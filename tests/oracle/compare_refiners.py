@@ -1,25 +1,20 @@
-#!/usr/bin/env python3
-"""Compares FM and KL, called from C, with coupe on random graphs: builds the oracle and the driver of the C entry points, puts
-the same cases to both, and prints for each seed the cases that were run and those that differ. Ends with 1 where one differs,
-after the smallest such case and both answers.
+"""Compares the refiners, called from C, with coupe: puts the same cases to the oracle and to the driver of the C entry points,
+and prints for each source of graphs the cases that were run and those that differ, after all of them the smallest such case and
+both answers. compare.py is the command.
 
-    compare_refiners.py [--seeds 1 2 3 4] [--graphs 6000] [--exhaustive] [--limits] [--archive FILE]
-
-Each seed gives its own graphs (make_cases.py: n up to 12, and a fiftieth of n up to 600). --exhaustive adds every graph of up to
-four vertices, and for those of up to three every limit from 0 to 3; --limits the largest graphs. --archive names an archive that
-is there; else it is made. Compared are the number, end, passes, cuts and labels, for FM the loads and the rows too. `FM` is held
-to coupe with ties to the lowest vertex, `FM without ties` to coupe unchanged.
+Compared are the number, end, passes, cuts and labels, for FM and arc-swap the loads, for FM the rows and for arc-swap the counts
+too. `FM` is held to coupe with ties to the lowest vertex, `FM without ties` to coupe unchanged, `arc-swap model` to
+arc_swap_model.py, which has the cases that coupe has not.
 """
 
-import argparse
 import itertools
 import random
-import sys
 from collections import Counter
 
 from make_cases import SPARSE_FAMILIES, at_limits, drawn, exhaustive, small
-from programs import build_driver, build_oracle, driver_answers
-from refiners import CARRIED, FM, IMBALANCE, KL, Answer, fm_answers, fm_asks, kl_answers, kl_asks, tie_free
+from programs import build_driver, driver_answers
+from refiners import (CARRIED, FM, IMBALANCE, KL, Answer, ArcSwap, answers_of, arc_swap_asks, fm_asks, kl_answers, kl_asks,
+                      modelled_asks, tie_free)
 
 
 def graphs_of(seed, count):
@@ -44,13 +39,15 @@ def all_limits():
 
 
 def largest(seed):
-    """FM's and KL's cases of the largest graphs. coupe's FM scans a table as large as a row's sum, so they are short."""
-    fm, kl = [], []
+    """Cases of the largest graphs. coupe's FM scans a table as large as a row's sum, so FM's are short. A dense graph's stack
+    passes the length that is lent here, so arc-swap has the sparse ones."""
+    fm, kl, swap = [], [], []
     for graph in at_limits(random.Random(seed)):
         two = graph.labelled(label % 2 for label in graph.labels)
         fm += [FM(two, 2, 9, 1, CARRIED), FM(two, 3, 5, 0, IMBALANCE, imbalance=0.25)]
         kl += [KL(two, 2, 5, 1), KL(two, 3, 9, 0)]
-    return fm, kl
+        swap += [ArcSwap(graph, CARRIED), ArcSwap(two, IMBALANCE, imbalance=0.25)]
+    return fm, kl, swap
 
 
 class Comparison:
@@ -82,16 +79,21 @@ class Comparison:
     def compare(self, label, graphs, seed):
         rng = random.Random(seed)
         graphs = list(graphs)
-        fm = [ask for graph in graphs for ask in fm_asks(rng, graph)]
-        self.compare_asks(label, fm, [ask for graph in graphs for ask in kl_asks(rng, graph)])
+        asks = [[ask for graph in graphs for ask in asks_of(rng, graph)] for asks_of in (fm_asks, kl_asks, arc_swap_asks)]
+        self.compare_asks(label, *asks)
+        swap = [ask for ask in asks[2] if ask.graph.n <= 12]
+        modelled = swap + list(modelled_asks(rng, swap))
+        self.add(label, "arc-swap model", modelled, [ask.modelled() for ask in modelled])
 
-    def compare_asks(self, label, fm, kl):
-        self.add(label, "FM", fm, fm_answers(fm))
+    def compare_asks(self, label, fm, kl, swap=()):
+        self.add(label, "FM", fm, answers_of(fm))
         self.add(label, "FM without ties", *tie_free([ask for ask in fm if ask.graph.n <= 12]))
         wanted, sites = kl_answers(kl)
         panics = Counter(site for site in sites if site)
         note = "; coupe panics at " + ", ".join(f"{site}: {panics[site]}" for site in sorted(panics)) if panics else ""
         self.add(label, "KL", kl, wanted, note)
+        if swap:
+            self.add(label, "arc-swap", swap, answers_of(swap))
 
     def tell(self):
         for name in self.run:
@@ -103,16 +105,8 @@ class Comparison:
         return self.smallest is not None or not all(self.run.values())
 
 
-def main():
-    parser = argparse.ArgumentParser(description=__doc__, formatter_class=argparse.RawDescriptionHelpFormatter)
-    parser.add_argument("--seeds", type=int, nargs="+", default=[1, 2, 3, 4])
-    parser.add_argument("--graphs", type=int, default=6000, help="small graphs a seed")
-    parser.add_argument("--exhaustive", action="store_true")
-    parser.add_argument("--limits", action="store_true")
-    parser.add_argument("--archive")
-    options = parser.parse_args()
-
-    build_oracle()
+def compare(options):
+    """Whether a case differs, or none was run."""
     build_driver(options.archive)
     comparison = Comparison()
     if options.exhaustive:
@@ -123,8 +117,4 @@ def main():
     if options.limits:
         for seed in options.seeds:
             comparison.compare_asks(f"largest {seed}", *largest(seed))
-    sys.exit(1 if comparison.tell() else 0)
-
-
-if __name__ == "__main__":
-    main()
+    return comparison.tell()

@@ -1,20 +1,25 @@
-/* Puts cases to the C entry points of FM and KL: one case a line of standard input, one answer a line of standard output.
+/* Puts cases to the C entry points of the refiners: one case a line of standard input, one answer a line of standard output.
  *
  *   fm P M B CHOICE WHOLE E n a  weights[n] starts[n+1] neighbours[a] arcs[a] labels[n]
  *   kl P M B n a  weights[n] starts[n+1] neighbours[a] arcs[a] labels[n]
+ *   as CHOICE WHOLE E LENGTH n a  weights[n] starts[n+1] neighbours[a] arcs[a] labels[n]
  *
- * all separated by blanks. P pass limit, M move or swap limit, B bad limit; E the imbalance's bits, a decimal number. The lent
- * lists are painted, and just as long as is needed. Answers: `number=v end=v passes=v cut=first,last labels=v,v,..`, and for FM
- * `loads=v,v rows=made/rewound,..` too. Ends with 1 at a line that is not a case. */
+ * all separated by blanks. P pass limit, M move or swap limit, B bad limit; E the imbalance's bits, a decimal number; LENGTH
+ * that of arc-swap's stack. The lent lists are painted, and otherwise just as long as is needed. Answers:
+ * `number=v end=v passes=v cut=first,last labels=v,v,..`, for FM and arc-swap `loads=v,v,..` too, for FM `rows=made/rewound,..`
+ * and for arc-swap `counts=attempts,moves,no-gain,bad-balance`. Ends with 1 at a line that is not a case. */
 #include "../c/check.h"
 
 int getchar(void);
+
+enum { STACK = 65535 };
 
 static struct lists l;
 static int64_t gains[DAUNSREVIT_MOST_VERTICES + 1];
 static struct daunsrevit_move moves[DAUNSREVIT_MOST_VERTICES + 1];
 static uint8_t locks[DAUNSREVIT_MOST_VERTICES + 1];
 static uint32_t swaps[DAUNSREVIT_MOST_VERTICES + 1];
+static uint32_t stack[STACK];
 static uint32_t made[DAUNSREVIT_MOST_PASSES + 1], rewound[DAUNSREVIT_MOST_PASSES + 1];
 
 static int next; /* the character to be read */
@@ -115,6 +120,32 @@ static int kernighan_lin(void)
     return 1;
 }
 
+static int arc_swap(void)
+{
+    struct daunsrevit_arc_swap_settings s;
+    s.choice = (uint32_t)read_number();
+    s.whole = (uint32_t)read_number();
+    s.imbalance = of_bits(read_number());
+    size_t length = read_number(), parts = 2;
+    if (!read_graph() || length > STACK)
+        return 0;
+    for (size_t v = 0; v < l.labels_count; v++)
+        parts = l.labels[v] < parts ? parts : l.labels[v] + 1;
+    struct daunsrevit_run_record run;
+    memset(&run, 0xa5, sizeof run);
+    memset(stack, 0xa5, length * sizeof *stack);
+    struct daunsrevit_arc_swap_report r = daunsrevit_arc_swap(l.starts, l.starts_count,
+        l.neighbours, l.neighbours_count, l.arc_weights, l.arc_weights_count, l.weights, l.weights_count,
+        l.labels, l.labels_count, stack, length, s, &run);
+    printf("number=%u end=%u passes=%u cut=%lu,%lu", r.number, r.end, r.passes, r.first, r.last);
+    print_labels();
+    printf(" loads=");
+    for (size_t part = 0; part < parts && l.labels_count; part++)
+        printf(part ? ",%lu" : "%lu", r.loads.at[part]);
+    printf(" counts=%lu,%lu,%lu,%lu\n", run.attempts, run.moves, run.no_gain, run.bad_balance);
+    return 1;
+}
+
 /* Reads the case's first word and puts the rest to its algorithm. */
 static int one_case(void)
 {
@@ -122,6 +153,8 @@ static int one_case(void)
     next = getchar();
     if (first == 'f' && second == 'm')
         return fiduccia_mattheyses();
+    if (first == 'a' && second == 's')
+        return arc_swap();
     return first == 'k' && second == 'l' && kernighan_lin();
 }
 

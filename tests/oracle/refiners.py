@@ -1,4 +1,5 @@
-"""FM's and KL's cases: how one is put to the oracle and to the driver of the C entry points, and what coupe's answer asks.
+"""The refiners' cases: how one is put to the oracle, to the driver of the C entry points and to the replay program, and what
+coupe's answer asks.
 
 coupe says neither its end nor, where it panics, its cuts; they follow from what it does say:
 
@@ -8,13 +9,16 @@ coupe says neither its end nor, where it panics, its cuts; they follow from what
     EXHAUSTED a part has no unlocked vertex left: coupe is asked again, with the swap limit at the smaller part's size, after
     which the pass ends here. At LABELS the labels are not of two parts: number 6.
   - FM refuses a label above 1 by an error: number 6.
-  - A whole ceiling (choice 1) is put to coupe as an imbalance that has this ceiling.
+  - A whole ceiling (choice 1) is put to FM of coupe as an imbalance that has this ceiling.
+  - Arc-swap's run ends with a gainless pass: coupe has no other end, as its stack grows and it has no pass limit. A short stack
+    and a whole ceiling are put to arc_swap_model.py, which is held to coupe's answers too.
 """
 
 import struct
 from collections import Counter
 from dataclasses import dataclass, replace
 
+import arc_swap_model
 from algorithms import Disagreement, fields, numbers
 from make_cases import PARTS, Graph
 from programs import oracle_answers
@@ -24,16 +28,17 @@ LABELS = "kernighan_lin.rs:54"
 EXHAUSTED = ("kernighan_lin.rs:102", "kernighan_lin.rs:124")
 SWAPLESS = "kernighan_lin.rs:152"
 DONE, REFUSED_LABEL = 0, 6
-PASS_LIMIT, GAINLESS, EMPTY = 0, 1, 3
+PASS_LIMIT, GAINLESS, STACK_FULL, EMPTY = 0, 1, 2, 3
 CARRIED, WHOLE, IMBALANCE = 0, 1, 2
+LONG_STACK = 65535  # no run that is compared here needs more
 
 
 def bits(number):
     return struct.unpack("<Q", struct.pack("<d", number))[0]
 
 
-def ceiling(total, imbalance):
-    ideal = total / 2.0
+def ceiling(total, imbalance, parts=2):
+    ideal = total / float(parts)
     return int(ideal + imbalance * ideal)
 
 
@@ -60,7 +65,7 @@ def smaller_part(labels):
 
 @dataclass(frozen=True)
 class Answer:
-    """What a call gives back. KL has no loads and no rows."""
+    """What a call gives back. KL has no loads; rows are FM's, counts arc-swap's."""
 
     number: int
     end: int
@@ -69,13 +74,22 @@ class Answer:
     labels: tuple
     loads: tuple = ()
     rows: tuple = ()
+    counts: tuple = ()
 
     @staticmethod
     def of_driver(line):
         f = dict(word.split("=") for word in line.split())
         rows = tuple(f["rows"].split(",")) if f.get("rows") else ()
         lists = (tuple(numbers(f[name])) if name in f else () for name in ("cut", "labels", "loads"))
-        return Answer(int(f["number"]), int(f["end"]), int(f["passes"]), *lists, rows)
+        counts = tuple(numbers(f["counts"])) if "counts" in f else ()
+        return Answer(int(f["number"]), int(f["end"]), int(f["passes"]), *lists, rows, counts)
+
+    def report(self):
+        """What the replay program reads of every refiner's report."""
+        return self.number, self.end, self.passes, *self.cut
+
+    def all_loads(self):
+        return *self.loads, *[0] * (PARTS - len(self.loads))
 
 
 @dataclass(frozen=True)
@@ -88,7 +102,8 @@ class FM:
     whole: int = 0
     imbalance: float = 0.0
 
-    name = "FM"
+    name = "FM"  # as the replay program prints it
+    code = 4  # as the replay program reads it
 
     def oracle_line(self, word="fml"):
         imbalance = self.imbalance
@@ -98,8 +113,15 @@ class FM:
         return " ".join(map(str, (word, self.passes, self.moves, self.bad, setting, *self.graph.numbers())))
 
     def driver_line(self):
-        settings = (self.passes, self.moves, self.bad, self.choice, self.whole, bits(self.imbalance))
-        return " ".join(map(str, ("fm", *settings, *self.graph.numbers())))
+        return " ".join(map(str, ("fm", *self.settings(), *self.graph.numbers())))
+
+    def settings(self):
+        return self.passes, self.moves, self.bad, self.choice, self.whole, bits(self.imbalance)
+
+    def replay_line(self, answer):
+        rows = [number for row in answer.rows for number in row.split("/")]
+        expected = (*answer.report(), *answer.all_loads(), *rows, *answer.labels)
+        return " ".join(map(str, (self.code, *self.graph.numbers(), *self.settings(), *expected)))
 
     def answered(self, answer):
         """The answer that is asked of the library by coupe's, or None where coupe's table would be too large."""
@@ -128,19 +150,79 @@ class KL:
     bad: int
 
     name = "KL"
+    code = 5
 
     def oracle_line(self):
         return " ".join(map(str, ("kl", self.passes, self.swaps, self.bad, "-", *self.graph.numbers())))
 
     def driver_line(self):
-        return " ".join(map(str, ("kl", self.passes, self.swaps, self.bad, *self.graph.numbers())))
+        return " ".join(map(str, ("kl", *self.settings(), *self.graph.numbers())))
+
+    def settings(self):
+        return self.passes, self.swaps, self.bad
+
+    def replay_line(self, answer):
+        expected = (*answer.report(), *answer.labels)
+        return " ".join(map(str, (self.code, *self.graph.numbers(), *self.settings(), *expected)))
+
+
+@dataclass(frozen=True)
+class ArcSwap:
+    graph: Graph
+    choice: int
+    whole: int = 0
+    imbalance: float = 0.0
+    room: int = LONG_STACK
+
+    name = "arc-swap"
+    code = 6
+
+    def oracle_line(self):
+        setting = "-" if self.choice == CARRIED else f"{bits(self.imbalance):016x}"
+        return " ".join(map(str, ("as", "-", "-", "-", setting, *self.graph.numbers())))
+
+    def driver_line(self):
+        return " ".join(map(str, ("as", *self.settings(), *self.graph.numbers())))
+
+    def settings(self):
+        return self.choice, self.whole, bits(self.imbalance), self.room
+
+    def ceiling(self, loads):
+        if self.choice == CARRIED:
+            return max(loads)
+        return self.whole if self.choice == WHOLE else ceiling(sum(loads), self.imbalance, len(loads))
+
+    def modelled(self):
+        """The answer that the model asks."""
+        if self.graph.n == 0:
+            return self.answered("")
+        run = arc_swap_model.Run(self.graph, 0, self.room)
+        run.ceiling = self.ceiling(run.loads)
+        passes, (no_gain, bad_balance, moved) = run.passes(), run.counts
+        cut = (edge_cut(self.graph, self.graph.labels), edge_cut(self.graph, run.labels))
+        counts = (sum(run.counts), moved, no_gain, bad_balance)
+        end = STACK_FULL if run.full else GAINLESS
+        return Answer(DONE, end, passes, cut, tuple(run.labels), tuple(run.loads), (), counts)
+
+    def replay_line(self, answer):
+        expected = (*answer.report(), *answer.all_loads(), *answer.counts, *answer.labels)
+        return " ".join(map(str, (self.code, *self.graph.numbers(), *self.settings(), *expected)))
+
+    def answered(self, answer):
+        if self.graph.n == 0:
+            return Answer(DONE, EMPTY, 0, (0, 0), (), (), (), (0, 0, 0, 0))
+        f = fields(answer)
+        cut, labels, loads, counts = (tuple(numbers(f[name])) for name in ("cut", "labels", "loads", "counts"))
+        empty = max(self.graph.labels) + 1 - len(loads)  # parts that the oracle no longer sees, as they lost their last vertex
+        return Answer(DONE, GAINLESS, int(f["passes"]), cut, labels, loads + (0,) * empty, (), counts)
 
 
 def panic_site(answer):
     return answer.split()[1].removeprefix("at=") if answer.startswith("PANIC") else None
 
 
-def fm_answers(asks):
+def answers_of(asks):
+    """The answers that are asked of the library by coupe's, to cases of FM or arc-swap."""
     return [ask.answered(answer) for ask, answer in zip(asks, oracle_answers([ask.oracle_line() for ask in asks]))]
 
 
@@ -217,6 +299,23 @@ def fm_asks(rng, graph):
     if max(graph.labels, default=0) > 1:
         asks.append(FM(graph, *limits(), CARRIED))
     return asks
+
+
+def arc_swap_asks(rng, graph):
+    """The graph as it is, and in any number of parts, under the two choices that coupe has. A small graph has a stack that is
+    zeroed quickly."""
+    parts = rng.randint(2, PARTS)
+    many = graph.labelled(rng.randrange(parts) for _ in graph.labels)
+    room = LONG_STACK if graph.n > 12 else 1024
+    asks = [ArcSwap(g, CARRIED, room=room) for g in (graph, many)]
+    return asks + [ArcSwap(g, IMBALANCE, imbalance=an_imbalance(rng), room=room) for g in (graph, many)]
+
+
+def modelled_asks(rng, asks):
+    """Cases of arc-swap that coupe has not: with a short stack, and with a whole ceiling."""
+    for ask in asks:
+        yield replace(ask, room=rng.choice((0, 1, 1, 2, 2, 3, 4, 5, 8)))
+        yield replace(ask, choice=WHOLE, whole=rng.randint(0, sum(ask.graph.weights) + 1))
 
 
 def kl_asks(rng, graph):

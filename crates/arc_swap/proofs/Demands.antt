@@ -1,18 +1,18 @@
 -- The laws of a run: its cuts, its gains, its counts and its loads, over the definition and over every result that meets the call's promise. Assumes nothing.
-use mathlib.Core.Path.{_≡_, refl, sym, ap, ap₂, _∙_}
-use mathlib.Core.Bool.{Bool, true, false, cond}
-use mathlib.Core.List.{List, [], _∷_}
+use mathlib.Core.Path.{_≡_, refl, sym, ap₂, _∙_}
+use mathlib.Core.Bool.{Bool, true, false}
+use mathlib.Core.List.{List, _∷_}
 use Prim.Native.Nat.{ℕ, max, _+_, _≤_, _<_}
 use native.Mathlib.Omega.{arith}
-use native.Mathlib.Nat.{le-max-left, le-max-right, le-trans}
+use native.Mathlib.Nat.{le-max-left, le-max-right}
 use lib.ListN.{length, getD, set}
 use lib.Dec.{eqb}
-use lib.IntN.{ℤ, pos, subℕ, _+ℤ_}
-use borrow.Author.Tests.{eq-eqb, ne-eqb, eqb-true, eqb-false}
+use lib.IntN.{ℤ, subℕ, _+ℤ_}
+use borrow.Author.Tests.{eqb-true}
 use Rattle.lists.proofs.Differences as D
 use Rattle.lists.specs.Sum.{weigh}
 use Rattle.imbalance.specs.Load.{part, load}
-use Rattle.topology.specs.Graph.{into, gain}
+use Rattle.topology.specs.Graph.{gain}
 use Rattle.topology.specs.Rule.{Symmetric}
 use Rattle.topology.specs.Cut.{cut}
 use Rattle.topology.proofs.Moves.{cut-move, load-move, gain-is-the-fall-of-the-cut}
@@ -21,12 +21,12 @@ use Rattle.arc_swap_attempt.specs.declared.Trial.{Trial}
 use Rattle.arc_swap_attempt.specs.declared.Trial.the-variants.{NoGain, BadBalance, Goes}
 use Rattle.arc_swap_attempt.proofs.Tried.{Goal}
 use Rattle.arc_swap.specs.declared.RunRecord.{RunRecord}
-use Rattle.arc_swap.specs.Run.{Setting, State, noted, run}
-use Rattle.arc_swap.specs.Entry.{begin, noCounts}
-use Rattle.arc_swap.specs.Inner.{Inside, nobody, Summed}
+use Rattle.arc_swap.specs.Run.{Setting, noted, run}
+use Rattle.arc_swap.specs.Entry.{begin}
+use Rattle.arc_swap.specs.Inner.{nobody, Summed}
 use Rattle.arc_swap.specs.Demand.{gained, NoPartAbove}
 use Rattle.arc_swap.proofs.Drains.{noted-summed}
-use Rattle.arc_swap.proofs.Keeps.{Holds, holds-run}
+use Rattle.arc_swap.proofs.Keeps.{holds-run}
 
 module _ (s : Setting) (p₀ : List ℕ) (symmetric : Symmetric (length p₀) (s .graph)) (ok : Named (s .graph) (s .parts) p₀) where
   -- a move lowers the cut by its gain

@@ -4,17 +4,15 @@ use mathlib.Core.Bool.{Bool, true, false, not, cond}
 use mathlib.Core.List.{List, [], _∷_, _++_}
 use Prim.Native.Nat.{ℕ, zero, suc, _+_, _-_, _*_, _≤_, _<_}
 use native.Mathlib.Omega.{arith}
-use native.Mathlib.Nat.{mul-le-mul-right, suc-mul, add-mul, one-mul}
-use lib.ListN.{length, getD, set, length-set, length-append}
+use native.Mathlib.Nat.{mul-le-mul-right, add-mul, one-mul}
+use lib.ListN.{length, getD, length-set, length-append}
 use lib.Dec.{leb}
 use lib.IntN.{ℤ}
-use Rattle.imbalance.specs.Load.{part}
-use Rattle.topology.specs.Graph.{Graph, first, past, into, gain}
-use Rattle.topology.specs.Rule.{Symmetric}
+use Rattle.topology.specs.Graph.{first, past, gain}
 use Rattle.topology.specs.Cut.{cut}
 use Rattle.topology.proofs.Moves.{cut-move}
-use Rattle.arc_swap_attempt.specs.Trial.{pushed, trial}
-use Rattle.arc_swap_attempt.specs.Inner.{held, fresh, Named, Tryable, Stood, PushDone, MoveAsked, MoveDone}
+use Rattle.arc_swap_attempt.specs.Trial.{trial}
+use Rattle.arc_swap_attempt.specs.Inner.{held, fresh, Tryable, MoveAsked, MoveDone}
 use Rattle.arc_swap_attempt.specs.declared.Standing.{Standing}
 use Rattle.arc_swap_attempt.specs.declared.Trial.{Trial}
 use Rattle.arc_swap_attempt.specs.declared.Trial.the-variants.{NoGain, BadBalance, Goes}
@@ -22,9 +20,9 @@ use Rattle.arc_swap_attempt.proofs.Stacks.{length-held, held-pop, held-none}
 use Rattle.arc_swap_attempt.proofs.Tried.{Goal, goal, aim-in}
 use Rattle.arc_swap_attempt.proofs.Moving.{named-move}
 use Rattle.arc_swap.specs.declared.RunRecord.{RunRecord}
-use Rattle.arc_swap.specs.declared.Drained.{Drained}
-use Rattle.arc_swap.specs.Run.{Setting, State, noted, after, attempt, drain}
-use Rattle.arc_swap.specs.Inner.{settingBy, Fixed, Inside, Summed, Ready, at, Leads, spent, most, Asked, Done}
+use Rattle.arc_swap.specs.declared.Attempted.{Attempted}
+use Rattle.arc_swap.specs.Run.{Setting, noted, after, attempt, drain}
+use Rattle.arc_swap.specs.Inner.{Fixed, Inside, Summed, Ready, at, standing, spent, most, Asked, Done, AttemptAsked, AttemptDone}
 use Rattle.arc_swap.proofs.Spreads.{inside-both, inside-top, inside-rest, pushed-few, pushed-inside, row-few}
 
 -- ---- the definition, step by step
@@ -61,24 +59,90 @@ noted-more NoGain c = refl
 noted-more BadBalance c = refl
 noted-more (Goes t x) c = refl
 
+-- ---- one attempt: what its parts ask
+module _ (s : Setting) (p stack : List ℕ) (c : Standing) (ask : AttemptAsked s p stack c) (v : ℕ) (v-is : v ≡ getD stack (c .top - 1) 0) where
+  top-is : c .top ≡ c .top - 1 + 1
+  top-is = omega (arith, ask .some)
+
+  pub popped : held stack (c .top) ≡ v ∷ held stack (c .top - 1)
+  popped = held-pop stack (c .top - 1) (c .top) top-is ∙ ap (λ (x : ℕ). x ∷ held stack (c .top - 1)) (sym v-is)
+
+  pub here : v < length p
+  here = inside-top (rw popped at (ask .inside))
+
+  pub tryable : Tryable (s .graph) (s .parts) (s .weights) (s .ceilings) (c .loads .at) p v
+  tryable = record {
+    ok = ask .ok;
+    here = here;
+    weighed = ask .fixed .weighed;
+    light = ask .fixed .light;
+    capped = ask .fixed .capped;
+    loaded = ask .stood .loaded;
+  }
+
+  -- it goes to t with the gain x
+  pub move-asked : (tr : Trial) (t x : ℕ) → tr ≡ trial (s .graph) (s .parts) (s .weights) (s .ceilings) p v → tr ≡ Goes t x → MoveAsked (s .graph) (s .parts) (s .weights) p stack (c .top - 1) (c .cut) (c .loads .at) v t x
+  move-asked tr t x tr-is goes =
+      let g = goal (s .graph) (s .parts) (s .weights) (s .ceilings) p v t x (sym tr-is ∙ goes) in
+      let i = aim-in (s .graph) (s .parts) p v t (g .aim-is) in
+      record {
+        ok = ask .ok;
+        symmetric = ask .fixed .symmetric;
+        weighed = ask .fixed .weighed;
+        light = ask .fixed .light;
+        stood = ask .stood;
+        room = (let a = ask .within in omega arith);
+        here = here;
+        target = i .0;
+        apart = λ e. i .1 (sym e);
+        gain-is = g .sums;
+      }
+
+  -- what the attempt answers, where the trial stays and where it goes
+  pub attempt-stays : (tr : Trial) → tr ≡ trial (s .graph) (s .parts) (s .weights) (s .ceilings) p v → ((t x : ℕ) → tr ≡ Goes t x → ⊥) → AttemptDone s p stack c p stack (record { st = record { fits = c .fits; top = c .top - 1; cut = c .cut; loads = c .loads }; trial = tr })
+  attempt-stays tr tr-is stays = record {
+    tried = tr-is ∙ ap (trial (s .graph) (s .parts) (s .weights) (s .ceilings) p) v-is;
+    stays = λ h. (refl, refl, refl);
+    goes = λ t x e. absurd (stays t x e);
+  }
+
+  pub attempt-goes :
+      (t x : ℕ) → Goes t x ≡ trial (s .graph) (s .parts) (s .weights) (s .ceilings) p v → (p′ stack′ : List ℕ) (d : Standing)
+      → MoveDone (s .graph) (s .parts) (s .weights) p stack (c .top - 1) v t p′ stack′ d → AttemptDone s p stack c p′ stack′ (record { st = d; trial = Goes t x })
+  attempt-goes t x goes p′ stack′ d done = record {
+    tried = goes ∙ ap (trial (s .graph) (s .parts) (s .weights) (s .ceilings) p) v-is;
+    stays = λ h. absurd (h t x refl);
+    goes = λ u y e. rw (← v-is, ← same u y e) done;
+  }
+    where
+      target : Trial → ℕ
+      target NoGain = t
+      target BadBalance = t
+      target (Goes u y) = u
+
+      same : (u y : ℕ) → Goes t x ≡ Goes u y → t ≡ u
+      same u y e = ap target e
+
 abbrev fuel : Setting → List ℕ → ℕ
 fuel s p = (cut (s .graph) p + 1) * (s .room + 1)
 
 -- where the emptying stands
-pub record Draining (s : Setting) (p₀ stack₀ : List ℕ) (top₀ cut₀ : ℕ) (counts₀ : RunRecord) (p stack : List ℕ) (top cut′ : ℕ) (loads : List ℕ) (counts : RunRecord) : Type 0 where
-  pub ready : Ready s (length p₀) p stack top cut′ loads counts
-  pub bounded : spent counts top cut′ ≤ spent counts₀ top₀ cut₀ + 0
-  pub rest : (gs : List ℤ) → (hs : List ℤ) × (f : ℕ) × (drain s (fuel s p₀) (at p₀ (held stack₀ top₀) counts₀ gs false) ≡ drain s f (at p (held stack top) counts hs false)) × (cut′ * (s .room + 1) + top ≤ f)
+pub record Draining (s : Setting) (p₀ stack₀ : List ℕ) (c₀ : Standing) (counts₀ : RunRecord) (p stack : List ℕ) (c : Standing) (counts : RunRecord) : Type 0 where
+  pub ready : Ready s (length p₀) p stack (c .top) (c .cut) (c .loads .at) counts
+  pub bounded : spent counts (c .top) (c .cut) ≤ spent counts₀ (c₀ .top) (c₀ .cut) + 0
+  pub none : c .fits ≡ false → c .top ≡ 0
+  pub rest : (gs : List ℤ) → (hs : List ℤ) × (f : ℕ) × (drain s (fuel s p₀) (at p₀ (held stack₀ (c₀ .top)) counts₀ gs (not (c₀ .fits))) ≡ drain s f (at p (held stack (c .top)) counts hs (not (c .fits)))) × (c .cut * (s .room + 1) + c .top ≤ f)
 
-module _ (s : Setting) (anyone : s .movable ≡ (λ v. true)) (p₀ stack₀ : List ℕ) (top₀ cut₀ : ℕ) (loads₀ : List ℕ) (counts₀ : RunRecord) (ask : Asked s p₀ stack₀ top₀ cut₀ loads₀ counts₀ 0) where
-  pub draining : Draining s p₀ stack₀ top₀ cut₀ counts₀ p₀ stack₀ top₀ cut₀ loads₀ counts₀
-  draining = record {
+module _ (s : Setting) (anyone : s .movable ≡ (λ v. true)) (p₀ stack₀ : List ℕ) (c₀ : Standing) (counts₀ : RunRecord) (ask : Asked s p₀ stack₀ (c₀ .top) (c₀ .cut) (c₀ .loads .at) counts₀ 0) where
+  pub draining : (c₀ .fits ≡ false → c₀ .top ≡ 0) → Draining s p₀ stack₀ c₀ counts₀ p₀ stack₀ c₀ counts₀
+  draining none₀ = record {
     ready = ask .ready;
     bounded = omega arith;
+    none = none₀;
     rest = λ gs. (gs, fuel s p₀, refl, lasts);
   }
     where
-      lasts : cut₀ * (s .room + 1) + top₀ ≤ fuel s p₀
+      lasts : c₀ .cut * (s .room + 1) + c₀ .top ≤ fuel s p₀
       lasts =
           let a = ask .ready .stood .cut-is in
           let b = ask .ready .within in
@@ -88,50 +152,56 @@ module _ (s : Setting) (anyone : s .movable ≡ (λ v. true)) (p₀ stack₀ : L
           let h = ap (λ (x : ℕ). x * (s .room + 1)) a in
           omega arith
 
-  module _ (p stack : List ℕ) (top cut′ : ℕ) (loads : List ℕ) (counts : RunRecord) (inv : Draining s p₀ stack₀ top₀ cut₀ counts₀ p stack top cut′ loads counts) where
+  module _ (p stack : List ℕ) (c : Standing) (counts : RunRecord) (inv : Draining s p₀ stack₀ c₀ counts₀ p stack c counts) where
     -- the counts are far from the ends of their types
     pub modest : (Summed counts) × (counts .attempts ≤ most)
     modest = (inv .ready .summed, (let a = inv .bounded in let b = ask .modest in omega arith))
 
     -- nothing is held any more
-    pub emptied : top ≤ 0 → (c : Drained) → c .st .fits ≡ true → c .st .top ≡ 0 → c .st .cut ≡ cut′ → c .st .loads .at ≡ loads → c .run ≡ counts → Done (drain s (fuel s p₀)) s p₀ stack₀ top₀ cut₀ counts₀ 0 p stack c
-    emptied l c cf ct cc cl cr =
-        let z : top ≡ 0 = omega arith in
-        let r : Ready s (length p₀) p stack 0 cut′ loads counts = rw z at (inv .ready) in
-        let bd : spent counts 0 cut′ ≤ spent counts₀ top₀ cut₀ + 0 = rw z at (inv .bounded) in
+    pub emptied : c .top ≤ 0 → Done (λ x. drain s (fuel s p₀) (standing (c₀ .fits) x)) s p₀ stack₀ (c₀ .top) (c₀ .cut) counts₀ 0 p stack counts c
+    emptied l =
+        let z : c .top ≡ 0 = omega arith in
         record {
-          leads = λ gs. (let a = inv .rest gs in (a .0, a .2 ∙ rw (ct, cf, cr, z, held-none) (drain-empty s (a .1) p counts (a .0))));
-          emptied = λ e. ct;
-          ready = rw (ct, cc, cl, cr) r;
-          bounded = rw (ct, cc, cr) bd;
+          leads = λ gs. (let a = inv .rest gs in (a .0, a .2 ∙ over (a .1) (a .0) (c .fits) (held stack (c .top)) (ap (held stack) z ∙ held-none stack)));
+          emptied = λ e. z;
+          ready = inv .ready;
+          bounded = inv .bounded;
         }
+      where
+        over : (f : ℕ) (hs : List ℤ) (b : Bool) (k : List ℕ) → k ≡ [] → drain s f (at p k counts hs (not b)) ≡ at p k counts hs (not b)
+        over f hs true k e = rw e (drain-empty s f p counts hs)
+        over f hs false k e = drain-full s f p k counts hs
 
-    -- v is popped
-    module _ (l : 0 < top) (v : ℕ) (v-is : v ≡ getD stack (top - 1) 0) where
-      top-is : top ≡ top - 1 + 1
-      top-is = omega arith
+    -- the vertex on top
+    module _ (l : 0 < c .top) where
+      fits-is : c .fits ≡ true
+      fits-is = by (c .fits) refl
+        where
+          by : (b : Bool) → c .fits ≡ b → b ≡ true
+          by true e = refl
+          by false e = absurd (let z = inv .none e in omega arith)
 
-      popped : held stack top ≡ v ∷ held stack (top - 1)
-      popped = held-pop stack (top - 1) top top-is ∙ ap (λ (x : ℕ). x ∷ held stack (top - 1)) (sym v-is)
+      pub attempt-asked : AttemptAsked s p stack c
+      attempt-asked = record {
+        fixed = rw (inv .ready .long) (ask .fixed);
+        ok = inv .ready .ok;
+        some = l;
+        within = inv .ready .within;
+        inside = rw (inv .ready .long) (inv .ready .inside);
+        stood = inv .ready .stood;
+      }
 
-      pub here : v < length p
-      here = rw (inv .ready .long) (inside-top (rw popped at (inv .ready .inside)))
+      abbrev v : ℕ
+      v = getD stack (c .top - 1) 0
 
-      left-inside : Inside (length p₀) (held stack (top - 1))
-      left-inside = inside-rest (rw popped at (inv .ready .inside))
+      on-top : held stack (c .top) ≡ v ∷ held stack (c .top - 1)
+      on-top = popped s p stack c attempt-asked v refl
+
+      left-inside : Inside (length p₀) (held stack (c .top - 1))
+      left-inside = inside-rest (rw on-top at (inv .ready .inside))
 
       fixed′ : Fixed s (length p)
       fixed′ = rw (inv .ready .long) (ask .fixed)
-
-      pub tryable : Tryable (s .graph) (s .parts) (s .weights) (s .ceilings) loads p v
-      tryable = record {
-        ok = inv .ready .ok;
-        here = here;
-        weighed = fixed′ .weighed;
-        light = fixed′ .light;
-        capped = fixed′ .capped;
-        loaded = inv .ready .stood .loaded;
-      }
 
       module _ (tr : Trial) (tr-is : tr ≡ trial (s .graph) (s .parts) (s .weights) (s .ceilings) p v) (counts′ : RunRecord) (counts-are : counts′ ≡ noted tr counts) where
         summed′ : Summed counts′
@@ -141,19 +211,22 @@ module _ (s : Setting) (anyone : s .movable ≡ (λ v. true)) (p₀ stack₀ : L
         more′ = rw counts-are (noted-more tr counts)
 
         -- the definition's step, one attempt on
-        next : (gs : List ℤ) → (hs : List ℤ) × (f : ℕ) × (drain s (fuel s p₀) (at p₀ (held stack₀ top₀) counts₀ gs false) ≡ drain s f (after s tr (at p (v ∷ held stack (top - 1)) counts hs false) (held stack (top - 1)) v)) × (cut′ * (s .room + 1) + top ≤ suc f)
+        next : (gs : List ℤ) → (hs : List ℤ) × (f : ℕ) × (drain s (fuel s p₀) (at p₀ (held stack₀ (c₀ .top)) counts₀ gs (not (c₀ .fits))) ≡ drain s f (after s tr (at p (v ∷ held stack (c .top - 1)) counts hs false) (held stack (c .top - 1)) v)) × (c .cut * (s .room + 1) + c .top ≤ suc f)
         next gs =
             let a = inv .rest gs in
             let m = a .3 in
             let q : a .1 ≡ suc (a .1 - 1) = omega arith in (
               a .0,
               a .1 - 1,
-              a .2 ∙ ap₂ (λ (n : ℕ) (k : List ℕ). drain s n (at p k counts (a .0) false)) q popped ∙ drain-step s (a .1 - 1) p (held stack (top - 1)) v counts (a .0) tr tr-is,
+              a .2
+                  ∙ ap (λ (b : Bool). drain s (a .1) (at p (held stack (c .top)) counts (a .0) (not b))) fits-is
+                  ∙ ap₂ (λ (n : ℕ) (k : List ℕ). drain s n (at p k counts (a .0) false)) q on-top
+                  ∙ drain-step s (a .1 - 1) p (held stack (c .top - 1)) v counts (a .0) tr tr-is,
               omega arith,
             )
 
         -- it stays
-        pub turn-stays : ((t x : ℕ) → tr ≡ Goes t x → ⊥) → Draining s p₀ stack₀ top₀ cut₀ counts₀ p stack (top - 1) cut′ loads counts′
+        turn-stays : ((t x : ℕ) → tr ≡ Goes t x → ⊥) → Draining s p₀ stack₀ c₀ counts₀ p stack (record { fits = c .fits; top = c .top - 1; cut = c .cut; loads = c .loads }) counts′
         turn-stays stays = record {
           ready = record {
             long = inv .ready .long;
@@ -165,7 +238,15 @@ module _ (s : Setting) (anyone : s .movable ≡ (λ v. true)) (p₀ stack₀ : L
             summed = summed′;
           };
           bounded = (let a = inv .bounded in let b = more′ in omega arith);
-          rest = λ gs. (let a = next gs in let m = a .3 in (a .0, a .1, a .2 ∙ ap (drain s (a .1)) (stayed s tr stays p (held stack (top - 1)) v counts (a .0) ∙ ap (λ (c : RunRecord). at p (held stack (top - 1)) c (a .0) false) (sym counts-are)), omega arith));
+          none = λ e. (let z = inv .none e in omega arith);
+          rest = λ gs. (let a = next gs in let m = a .3 in (
+            a .0,
+            a .1,
+            a .2
+                ∙ ap (drain s (a .1)) (stayed s tr stays p (held stack (c .top - 1)) v counts (a .0) ∙ ap (λ (r : RunRecord). at p (held stack (c .top - 1)) r (a .0) false) (sym counts-are))
+                ∙ ap (λ (b : Bool). drain s (a .1) (at p (held stack (c .top - 1)) counts′ (a .0) (not b))) (sym fits-is),
+            omega arith,
+          ));
         }
 
         -- it goes to t with the gain x
@@ -173,94 +254,79 @@ module _ (s : Setting) (anyone : s .movable ≡ (λ v. true)) (p₀ stack₀ : L
           goal′ : Goal (s .graph) (s .parts) (s .weights) (s .ceilings) p v t x
           goal′ = goal (s .graph) (s .parts) (s .weights) (s .ceilings) p v t x (sym tr-is ∙ goes)
 
-          pub movable′ : MoveAsked (s .graph) (s .parts) (s .weights) p stack (top - 1) cut′ loads v t x
-          movable′ =
-              let i = aim-in (s .graph) (s .parts) p v t (goal′ .aim-is) in
-              record {
-                ok = inv .ready .ok;
-                symmetric = fixed′ .symmetric;
-                weighed = fixed′ .weighed;
-                light = fixed′ .light;
-                stood = inv .ready .stood;
-                room = (let a = inv .ready .within in omega arith);
-                here = here;
-                target = i .0;
-                apart = λ e. i .1 (sym e);
-                gain-is = goal′ .sums;
-              }
+          asked′ : MoveAsked (s .graph) (s .parts) (s .weights) p stack (c .top - 1) (c .cut) (c .loads .at) v t x
+          asked′ = move-asked s p stack c attempt-asked v refl tr t x tr-is goes
 
-          module _ (p′ stack′ : List ℕ) (c : Standing) (long′ : length stack′ ≡ length stack) (done : MoveDone (s .graph) (s .parts) (s .weights) p stack (top - 1) v t p′ stack′ c) where
+          module _ (p′ stack′ : List ℕ) (d : Standing) (long′ : length stack′ ≡ length stack) (done : MoveDone (s .graph) (s .parts) (s .weights) p stack (c .top - 1) v t p′ stack′ d) where
             abbrev new : List ℕ
             new = fresh (s .graph) (s .parts) p′ v
 
             -- the cut falls by x, which is above 0
-            falls : c .cut + x ≡ cut′
+            falls : d .cut + x ≡ c .cut
             falls =
-                let a = cut-move (s .graph) p v t (fixed′ .symmetric) here in
+                let a = cut-move (s .graph) p v t (fixed′ .symmetric) (asked′ .here) in
                 let b = goal′ .sums in
-                let d = inv .ready .stood .cut-is in
+                let g = inv .ready .stood .cut-is in
                 let e = done .stood .cut-is in
                 let f = ap (cut (s .graph)) (done .labelled) in
                 omega arith
 
             few : length new ≤ 65535
-            few = omega (arith, pushed-few (s .graph) (s .parts) (λ u. true) p′ v (past (s .graph) v - first (s .graph) v), row-few (s .graph) (s .parts) (λ u. true) p′ v (length p) (inv .ready .ok .rows) here)
+            few = omega (arith, pushed-few (s .graph) (s .parts) (λ u. true) p′ v (past (s .graph) v - first (s .graph) v), row-few (s .graph) (s .parts) (λ u. true) p′ v (length p) (inv .ready .ok .rows) (asked′ .here))
 
-            held-size : length (held stack (top - 1)) ≡ top - 1
-            held-size = length-held stack (top - 1)
+            held-size : length (held stack (c .top - 1)) ≡ c .top - 1
+            held-size = length-held stack (c .top - 1)
 
             -- what is held after it
-            top-by : (b : Bool) → c .fits ≡ b → c .top ≤ length new + (top - 1)
+            top-by : (b : Bool) → d .fits ≡ b → d .top ≤ length new + (c .top - 1)
             top-by b e =
                 let h = ap length (done .pushes .held-is) in
-                let a = length-held stack′ (c .top) in
-                let d = held-size in
                 go b e (rw e at h)
               where
-                go : (b : Bool) → c .fits ≡ b → length (held stack′ (c .top)) ≡ length (cond b (new ++ held stack (top - 1)) (held stack (top - 1))) → c .top ≤ length new + (top - 1)
-                go true e h = omega (arith, h, length-held stack′ (c .top), held-size, length-append new (held stack (top - 1)))
-                go false e h = omega (arith, h, length-held stack′ (c .top), held-size)
+                go : (b : Bool) → d .fits ≡ b → length (held stack′ (d .top)) ≡ length (cond b (new ++ held stack (c .top - 1)) (held stack (c .top - 1))) → d .top ≤ length new + (c .top - 1)
+                go true e h = omega (arith, h, length-held stack′ (d .top), held-size, length-append new (held stack (c .top - 1)))
+                go false e h = omega (arith, h, length-held stack′ (d .top), held-size)
 
-            inside-by : (b : Bool) → Inside (length p₀) (cond b (new ++ held stack (top - 1)) (held stack (top - 1)))
-            inside-by true = inside-both (rw (inv .ready .long) at (pushed-inside (s .graph) (s .parts) (λ u. true) p′ v (length p) (inv .ready .ok .rows) here (past (s .graph) v - first (s .graph) v) (omega arith))) left-inside
+            inside-by : (b : Bool) → Inside (length p₀) (cond b (new ++ held stack (c .top - 1)) (held stack (c .top - 1)))
+            inside-by true = inside-both (rw (inv .ready .long) at (pushed-inside (s .graph) (s .parts) (λ u. true) p′ v (length p) (inv .ready .ok .rows) (asked′ .here) (past (s .graph) v - first (s .graph) v) (omega arith))) left-inside
             inside-by false = left-inside
 
-            ready′ : Ready s (length p₀) p′ stack′ (c .top) (c .cut) (c .loads .at) counts′
+            ready′ : Ready s (length p₀) p′ stack′ (d .top) (d .cut) (d .loads .at) counts′
             ready′ =
-                let ok′ = named-move (s .graph) (s .parts) p v t (inv .ready .ok) here (movable′ .target) in
+                let ok′ = named-move (s .graph) (s .parts) p v t (inv .ready .ok) (asked′ .here) (asked′ .target) in
                 record {
                   long = ap length (done .labelled) ∙ length-set p v t ∙ inv .ready .long;
                   ok = rw (done .labelled) ok′;
                   room = long′ ∙ inv .ready .room;
                   within = (let a = done .pushes .within in omega arith);
-                  inside = rw (done .pushes .held-is) (inside-by (c .fits));
+                  inside = rw (done .pushes .held-is) (inside-by (d .fits));
                   stood = done .stood;
                   summed = summed′;
                 }
 
-            bounded′ : spent counts′ (c .top) (c .cut) ≤ spent counts₀ top₀ cut₀ + 0
-            bounded′ = omega (arith, inv .bounded, more′, falls, few, top-by (c .fits) refl, goal′ .positive)
+            bounded′ : spent counts′ (d .top) (d .cut) ≤ spent counts₀ (c₀ .top) (c₀ .cut) + 0
+            bounded′ = omega (arith, inv .bounded, more′, falls, few, top-by (d .fits) refl, goal′ .positive)
 
             -- the definition moves it too
-            moved : (hs : List ℤ) → after s tr (at p (v ∷ held stack (top - 1)) counts hs false) (held stack (top - 1)) v ≡ at p′ (held stack′ (c .top)) counts′ (gain (s .graph) p v t ∷ hs) (not (c .fits))
+            moved : (hs : List ℤ) → after s tr (at p (v ∷ held stack (c .top - 1)) counts hs false) (held stack (c .top - 1)) v ≡ at p′ (held stack′ (d .top)) counts′ (gain (s .graph) p v t ∷ hs) (not (d .fits))
             unfolding after
             moved hs =
-                let fit : leb (length new + length (held stack (top - 1))) (s .room) ≡ c .fits =
+                let fit : leb (length new + length (held stack (c .top - 1))) (s .room) ≡ d .fits =
                 ap₂ (λ (a b : ℕ). leb (length new + a) b) held-size (sym (inv .ready .room)) ∙ sym (done .pushes .fits-is) in
                 rw (goes, anyone, ← done .labelled, fit, done .pushes .held-is, counts-are, goes)
 
-            less : c .cut * (s .room + 1) + c .top + 1 ≤ cut′ * (s .room + 1) + top
+            less : d .cut * (s .room + 1) + d .top + 1 ≤ c .cut * (s .room + 1) + c .top
             less =
                 let a = falls in
                 let g = goal′ .positive in
-                let m = mul-le-mul-right (s .room + 1) (let q : c .cut + 1 ≤ cut′ = omega arith in q) in
-                let d = add-mul (c .cut) 1 (s .room + 1) in
+                let m = mul-le-mul-right (s .room + 1) (let q : d .cut + 1 ≤ c .cut = omega arith in q) in
+                let h = add-mul (d .cut) 1 (s .room + 1) in
                 let e = one-mul (s .room + 1) in
                 let w = done .pushes .within in
                 let r = inv .ready .room in
                 omega arith
 
-            next′ : (gs : List ℤ) → (hs : List ℤ) × (f : ℕ) × (drain s (fuel s p₀) (at p₀ (held stack₀ top₀) counts₀ gs false) ≡ drain s f (at p′ (held stack′ (c .top)) counts′ hs (not (c .fits)))) × (c .cut * (s .room + 1) + c .top ≤ f)
+            next′ : (gs : List ℤ) → (hs : List ℤ) × (f : ℕ) × (drain s (fuel s p₀) (at p₀ (held stack₀ (c₀ .top)) counts₀ gs (not (c₀ .fits))) ≡ drain s f (at p′ (held stack′ (d .top)) counts′ hs (not (d .fits)))) × (d .cut * (s .room + 1) + d .top ≤ f)
             next′ gs =
                 let a = next gs in
                 let m = a .3 in
@@ -268,22 +334,49 @@ module _ (s : Setting) (anyone : s .movable ≡ (λ v. true)) (p₀ stack₀ : L
                 (gain (s .graph) p v t ∷ a .0, a .1, a .2 ∙ ap (drain s (a .1)) (moved (a .0)), omega arith)
 
             -- its pushes fit
-            pub turn-goes : c .fits ≡ true → Draining s p₀ stack₀ top₀ cut₀ counts₀ p′ stack′ (c .top) (c .cut) (c .loads .at) counts′
+            turn-goes : d .fits ≡ true → Draining s p₀ stack₀ c₀ counts₀ p′ stack′ d counts′
             turn-goes e = record {
               ready = ready′;
               bounded = bounded′;
-              rest = λ gs. (let a = next′ gs in (a .0, a .1, a .2 ∙ ap (λ (b : Bool). drain s (a .1) (at p′ (held stack′ (c .top)) counts′ (a .0) (not b))) e, a .3));
+              none = λ f. (let o : _≡_ {A = ℕ} 0 1 = cc in absurd (omega arith));
+              rest = next′;
             }
 
             -- they do not
-            pub turn-full : c .fits ≡ false → Done (drain s (fuel s p₀)) s p₀ stack₀ top₀ cut₀ counts₀ 0 p′ stack′ (record { st = c; run = counts′ })
+            turn-full : d .fits ≡ false → Done (λ x. drain s (fuel s p₀) (standing (c₀ .fits) x)) s p₀ stack₀ (c₀ .top) (c₀ .cut) counts₀ 0 p′ stack′ counts′ d
             turn-full e = record {
-              leads = λ gs. (let a = next′ gs in (a .0, a .2 ∙ ap (λ (b : Bool). drain s (a .1) (at p′ (held stack′ (c .top)) counts′ (a .0) (not b))) e ∙ drain-full s (a .1) p′ (held stack′ (c .top)) counts′ (a .0) ∙ ap (λ (b : Bool). at p′ (held stack′ (c .top)) counts′ (a .0) (not b)) (sym e)));
+              leads = λ gs. (let a = next′ gs in (a .0, a .2 ∙ ap (λ (b : Bool). drain s (a .1) (at p′ (held stack′ (d .top)) counts′ (a .0) (not b))) e ∙ drain-full s (a .1) p′ (held stack′ (d .top)) counts′ (a .0) ∙ ap (λ (b : Bool). at p′ (held stack′ (d .top)) counts′ (a .0) (not b)) (sym e)));
               emptied = λ q. (let o : _≡_ {A = ℕ} 0 1 = cc in absurd (omega arith));
               ready = ready′;
               bounded = bounded′;
             }
 
-            -- and the measure falls
-            pub turn-less : c .cut * (s .room + 1) + c .top < cut′ * (s .room + 1) + top
-            turn-less = let a = less in omega arith
+      -- ---- the attempt made and noted: whatever came of it
+      module _ (p′ stack′ : List ℕ) (r : Attempted) (long′ : length stack′ ≡ length stack) (done : AttemptDone s p stack c p′ stack′ r) (counts′ : RunRecord) (counts-are : counts′ ≡ noted (r .trial) counts) where
+        abbrev stays-for : Type 0
+        stays-for = (t x : ℕ) → r .trial ≡ Goes t x → ⊥
+
+        -- the trial stays, or goes somewhere
+        cases : (Q : Type 0) → (stays-for → Q) → ((t x : ℕ) → r .trial ≡ Goes t x → Q) → Q
+        cases Q a b = by (r .trial) refl
+          where
+            by : (tr : Trial) → r .trial ≡ tr → Q
+            by NoGain e = a (λ t x f. (let o : _≡_ {A = ℕ} 0 1 = cc in absurd (omega arith)))
+            by BadBalance e = a (λ t x f. (let o : _≡_ {A = ℕ} 0 1 = cc in absurd (omega arith)))
+            by (Goes t x) e = b t x e
+
+        pub again : r .st .fits ≡ true → Draining s p₀ stack₀ c₀ counts₀ p′ stack′ (r .st) counts′
+        again e = cases (Draining s p₀ stack₀ c₀ counts₀ p′ stack′ (r .st) counts′)
+            (λ h. (let q = done .stays h in rw (q .0, q .1, q .2) (turn-stays (r .trial) (done .tried) counts′ counts-are h)))
+            (λ t x g. turn-goes (r .trial) (done .tried) counts′ counts-are t x g p′ stack′ (r .st) long′ (done .goes t x g) e)
+
+        pub full : r .st .fits ≡ false → Done (λ x. drain s (fuel s p₀) (standing (c₀ .fits) x)) s p₀ stack₀ (c₀ .top) (c₀ .cut) counts₀ 0 p′ stack′ counts′ (r .st)
+        full e = cases (Done (λ x. drain s (fuel s p₀) (standing (c₀ .fits) x)) s p₀ stack₀ (c₀ .top) (c₀ .cut) counts₀ 0 p′ stack′ counts′ (r .st))
+            (λ h. (let q : r .st .fits ≡ c .fits = ap (λ (d : Standing). d .fits) (done .stays h .2) in let f = fits-is in let o : _≡_ {A = ℕ} 0 1 = cc in absurd (omega arith)))
+            (λ t x g. turn-full (r .trial) (done .tried) counts′ counts-are t x g p′ stack′ (r .st) long′ (done .goes t x g) e)
+
+        -- and the measure falls
+        pub lessens : r .st .cut * (s .room + 1) + r .st .top < c .cut * (s .room + 1) + c .top
+        lessens = cases (r .st .cut * (s .room + 1) + r .st .top < c .cut * (s .room + 1) + c .top)
+            (λ h. (let q = done .stays h in rw (q .2) (omega (arith, l))))
+            (λ t x g. (let a = less (r .trial) (done .tried) counts′ counts-are t x g p′ stack′ (r .st) long′ (done .goes t x g) in omega arith))

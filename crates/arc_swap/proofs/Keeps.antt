@@ -1,6 +1,6 @@
 -- What every attempt keeps, the whole run keeps: one induction over the run's definition for every law of labels, counts and gains. Assumes nothing.
-use mathlib.Core.Path.{_≡_, refl, sym, ap, _∙_}
-use mathlib.Core.Bool.{Bool, true, false, not, cond, _&&_}
+use mathlib.Core.Path.{_≡_, refl, sym, _∙_}
+use mathlib.Core.Bool.{Bool, true, false, cond, _&&_}
 use mathlib.Core.List.{List, [], _∷_, _++_}
 use Prim.Native.Nat.{ℕ, zero, suc, _+_, _-_, _≤_, _<_}
 use native.Mathlib.Omega.{arith}
@@ -17,7 +17,7 @@ use Rattle.arc_swap_attempt.specs.declared.Trial.the-variants.{NoGain, BadBalan
 use Rattle.arc_swap_attempt.proofs.Tried.{Goal, goal, aim-in}
 use Rattle.arc_swap_attempt.proofs.Moving.{named-move}
 use Rattle.arc_swap.specs.declared.RunRecord.{RunRecord}
-use Rattle.arc_swap.specs.Run.{Setting, State, Run, noted, after, attempt, drain, enough, onCut, firstPush, turn, sweep, run}
+use Rattle.arc_swap.specs.Run.{Setting, State, noted, after, attempt, drain, enough, onCut, firstPush, turn, sweep, run}
 use Rattle.arc_swap.specs.Inner.{Inside, nobody, also}
 use Rattle.arc_swap.proofs.Spreads.{inside-both, inside-top, inside-rest, pushed-inside}
 

@@ -1,16 +1,15 @@
 -- The fuel of the definitions never runs out: the stack is emptied or full, and one pass more in hand changes nothing. Assumes nothing.
-use mathlib.Core.Path.{_≡_, refl, sym, ap, _∙_}
-use mathlib.Core.Bool.{Bool, true, false, not, cond}
+use mathlib.Core.Path.{_≡_, refl, sym, ap}
+use mathlib.Core.Bool.{Bool, true, false, cond}
 use mathlib.Core.List.{List, [], _∷_, _++_}
-use mathlib.Core.Logic.{_⊎_, inl, inr, ⊎-elim}
+use mathlib.Core.Logic.{_⊎_, inl, inr}
 use Prim.Native.Nat.{ℕ, zero, suc, _+_, _-_, _*_, _≤_, _<_}
 use native.Mathlib.Omega.{arith}
 use native.Mathlib.Nat.{mul-le-mul-right, add-mul, one-mul}
 use lib.ListN.{length, set, length-append}
 use lib.Dec.{ltb, leb, eqb}
-use lib.IntN.{ℤ}
 use borrow.Author.Tests.{ltb-true, leb-true, eqb-false}
-use Rattle.topology.specs.Graph.{first, past, gain}
+use Rattle.topology.specs.Graph.{first, past}
 use Rattle.topology.specs.Rule.{Symmetric}
 use Rattle.topology.specs.Cut.{cut}
 use Rattle.topology.proofs.Moves.{cut-move}
@@ -18,11 +17,10 @@ use Rattle.arc_swap_attempt.specs.Trial.{pushed, trial}
 use Rattle.arc_swap_attempt.specs.Inner.{Named}
 use Rattle.arc_swap_attempt.specs.declared.Trial.{Trial}
 use Rattle.arc_swap_attempt.specs.declared.Trial.the-variants.{NoGain, BadBalance, Goes}
-use Rattle.arc_swap_attempt.proofs.Tried.{Goal, goal}
-use Rattle.arc_swap.specs.declared.RunRecord.{RunRecord}
-use Rattle.arc_swap.specs.Run.{Setting, State, Run, noted, after, attempt, drain, enough, firstPush, sweep, run}
-use Rattle.arc_swap.specs.Inner.{Inside, nobody, also}
-use Rattle.arc_swap.proofs.Keeps.{Holds, holds-after, holds-first}
+use Rattle.arc_swap_attempt.proofs.Tried.{goal}
+use Rattle.arc_swap.specs.Run.{Setting, State, after, attempt, drain, enough, firstPush, sweep, run}
+use Rattle.arc_swap.specs.Inner.{nobody, also}
+use Rattle.arc_swap.proofs.Keeps.{Holds, holds-after}
 use Rattle.arc_swap.proofs.Spreads.{inside-top}
 
 module _ (s : Setting) (n : ℕ) (symmetric : Symmetric n (s .graph)) where

@@ -1,7 +1,6 @@
 -- The laws of a run, over every result that meets the call's promise with number 0. Assumes nothing.
 use mathlib.Core.Path.{_≡_, refl, sym, ap, _∙_}
-use mathlib.Core.List.{List}
-use Prim.Native.Nat.{ℕ, _+_, _≤_, _<_}
+use Prim.Native.Nat.{_+_, _≤_}
 use native.Mathlib.Omega.{arith}
 use lib.ListN.{length}
 use lib.IntN.{subℕ}
@@ -10,7 +9,7 @@ use Rattle.topology.specs.Cut.{cut}
 use Rattle.arc_swap_attempt.specs.Inner.{Named}
 use Rattle.arc_swap.specs.declared.Report.{Report}
 use Rattle.arc_swap.specs.declared.RunRecord.{RunRecord}
-use Rattle.arc_swap.specs.Entry.{Plan, Lent, graphOf, number, settingOf, runOf, begin, reportOf, leftBy, answer, left, Swapped}
+use Rattle.arc_swap.specs.Entry.{Plan, Lent, graphOf, number, settingOf, runOf, reportOf, leftBy, answer, left, Swapped}
 use Rattle.arc_swap.specs.Inner.{Summed, InOrder}
 use Rattle.arc_swap.specs.Demand.{gained, NoPartAbove, NoSingleBlock}
 use Rattle.arc_swap.proofs.Calls.{in-order}

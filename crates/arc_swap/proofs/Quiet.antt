@@ -2,26 +2,24 @@
 use mathlib.Core.Path.{_≡_, refl, sym, ap, _∙_}
 use mathlib.Core.Bool.{Bool, true, false, not, cond, _&&_}
 use mathlib.Core.List.{List, [], _∷_}
-use mathlib.Core.Option.{some}
 use mathlib.Core.Logic.{_⊎_, inl, inr, ⊎-elim}
-use Prim.Native.Nat.{ℕ, zero, suc, _+_, _-_, _*_, _≤_, _<_}
+use Prim.Native.Nat.{ℕ, zero, suc, _+_, _-_, _≤_, _<_}
 use native.Mathlib.Omega.{arith}
 use native.Mathlib.Nat.{add-mul, one-mul}
-use lib.ListN.{length, getD, set}
+use lib.ListN.{length, set}
 use lib.Dec.{ltb, eqb}
 use lib.IntN.{ℤ}
 use borrow.Author.Tests.{ne-eqb, eqb-true, eqb-false, ltb-true, ltb-false, not-false}
-use Rattle.lists.specs.Sum.{sum, between, weigh}
-use Rattle.lists.specs.All.{some as somewhere, someFrom}
+use Rattle.lists.specs.Sum.{between, weigh}
+use Rattle.lists.specs.All.{someFrom}
 use Rattle.lists.proofs.Alls.{some-at}
-use Rattle.lists.proofs.Bools.{and-left, and-right}
 use Rattle.lists.proofs.Totals.{sum-ext, sum-zero}
-use Rattle.imbalance.specs.Load.{part, load}
+use Rattle.imbalance.specs.Load.{part}
 use Rattle.topology.specs.Graph.{Graph, first, past, neighbour, weight, arcs, into, gain}
 use Rattle.topology.specs.Rule.{Symmetric}
 use Rattle.topology.specs.Cut.{cut}
 use Rattle.topology.proofs.Moves.{cut-move}
-use Rattle.arc_swap_attempt.specs.Trial.{aim, trial}
+use Rattle.arc_swap_attempt.specs.Trial.{trial}
 use Rattle.arc_swap_attempt.specs.Inner.{Named}
 use Rattle.arc_swap_attempt.specs.declared.Trial.{Trial}
 use Rattle.arc_swap_attempt.specs.declared.Trial.the-variants.{NoGain, BadBalance, Goes}
@@ -29,9 +27,9 @@ use Rattle.arc_swap_attempt.proofs.Tried.{Goal, goal, aim-in, not-goes}
 use Rattle.arc_swap.specs.declared.RunRecord.{RunRecord}
 use Rattle.arc_swap.specs.Run.{Setting, State, Run, noted, after, attempt, drain, enough, onCut, firstPush, turn, sweep, run}
 use Rattle.arc_swap.specs.Entry.{begin}
-use Rattle.arc_swap.specs.Inner.{Inside, nobody, also, at}
+use Rattle.arc_swap.specs.Inner.{nobody, also, at}
 use Rattle.arc_swap.specs.Demand.{NoSingleBlock}
-use Rattle.arc_swap.proofs.Keeps.{Holds, holds-after, holds-drain, holds-first, holds-turn, holds-sweep}
+use Rattle.arc_swap.proofs.Keeps.{Holds, holds-after, holds-drain, holds-turn, holds-sweep}
 use Rattle.arc_swap.proofs.Drains.{drain-full, drain-empty}
 use Rattle.arc_swap.proofs.Spreads.{inside-top}
 

@@ -2,23 +2,20 @@
 use mathlib.Core.Path.{_≡_, refl, sym, ap, _∙_}
 use mathlib.Core.Bool.{Bool, true, false, not, cond}
 use mathlib.Core.List.{List, []}
-use Prim.Native.Nat.{ℕ, zero, suc, _+_, _-_, _*_, _≤_, _<_}
+use Prim.Native.Nat.{ℕ, suc, _+_, _-_, _*_, _≤_, _<_}
 use native.Mathlib.Omega.{arith}
-use native.Mathlib.Numerals.{add-one}
 use lib.ListN.{length}
 use lib.Dec.{ltb}
 use lib.IntN.{ℤ}
-use borrow.Author.Tests.{lt-ltb, le-ltb}
+use borrow.Author.Tests.{lt-ltb, le-ltb, ltb-true, ltb-false}
 use Rattle.topology.specs.Cut.{cut}
 use Rattle.arc_swap_attempt.specs.Inner.{held}
 use Rattle.arc_swap_attempt.specs.declared.Standing.{Standing}
 use Rattle.arc_swap_attempt.proofs.Stacks.{held-none}
 use Rattle.arc_swap.specs.declared.RunRecord.{RunRecord}
-use Rattle.arc_swap.specs.declared.Drained.{Drained}
-use Rattle.arc_swap.specs.declared.Ended.{Ended}
 use Rattle.arc_swap.specs.Run.{Setting, State, Run, sweep, run}
 use Rattle.arc_swap.specs.Entry.{noCounts}
-use Rattle.arc_swap.specs.Inner.{Ready, at, spent, TurnAsked, Done, PassesDone}
+use Rattle.arc_swap.specs.Inner.{Ready, at, spent, TurnAsked, Done, endBy, PassesDone}
 
 -- ---- the definition, pass by pass
 module _ (s : Setting) (f i : ℕ) (st : State) where
@@ -74,9 +71,9 @@ module _ (s : Setting) (p₀ stack₀ : List ℕ) (c₀ : Standing) (counts₀ :
       fit = inv .fit;
     }
 
-    module _ (p′ stack′ : List ℕ) (d : Drained) (done : Done (sweep s (length p)) s p stack 0 (c .cut) counts (length p) p′ stack′ d) where
+    module _ (p′ stack′ : List ℕ) (counts′ : RunRecord) (d : Standing) (done : Done (sweep s (length p)) s p stack 0 (c .cut) counts (length p) p′ stack′ counts′ d) where
       -- the definition, after this pass
-      passed : (hs : List ℤ) × (f : ℕ) × (run s (cut (s .graph) p₀ + 1) 0 (at p₀ [] noCounts [] false) ≡ by-pass s f i (at p [] counts (inv .rest .0) false) (at p′ (held stack′ (d .st .top)) (d .run) hs (not (d .st .fits)))) × (c .cut ≤ f)
+      passed : (hs : List ℤ) × (f : ℕ) × (run s (cut (s .graph) p₀ + 1) 0 (at p₀ [] noCounts [] false) ≡ by-pass s f i (at p [] counts (inv .rest .0) false) (at p′ (held stack′ (d .top)) counts′ hs (not (d .fits)))) × (c .cut ≤ f)
       passed =
           let a = inv .rest in
           let l = a .3 in
@@ -86,30 +83,30 @@ module _ (s : Setting) (p₀ stack₀ : List ℕ) (c₀ : Standing) (counts₀ :
             a .1 - 1,
             a .2
                 ∙ ap (λ (n : ℕ). run s n i (at p [] counts (a .0) false)) q
-                ∙ run-pass s (a .1 - 1) i (at p [] counts (a .0) false) (at p′ (held stack′ (d .st .top)) (d .run) (b .0) (not (d .st .fits))) (ap (λ (k : List ℕ). sweep s (length p) (at p k counts (a .0) false)) (sym (held-none stack)) ∙ b .1),
+                ∙ run-pass s (a .1 - 1) i (at p [] counts (a .0) false) (at p′ (held stack′ (d .top)) counts′ (b .0) (not (d .fits))) (ap (λ (k : List ℕ). sweep s (length p) (at p k counts (a .0) false)) (sym (held-none stack)) ∙ b .1),
             omega arith,
           )
 
       cut-before : c .cut ≡ cut (s .graph) p
       cut-before = inv .ready .stood .cut-is
 
-      cut-after : d .st .cut ≡ cut (s .graph) p′
+      cut-after : d .cut ≡ cut (s .graph) p′
       cut-after = done .ready .stood .cut-is
 
       -- the pushes of a move did not fit
-      pub ends-full : d .st .fits ≡ false → PassesDone s p₀ p′ stack′ (record { end = 2; passes = i + 1; st = d .st; run = d .run })
+      pub ends-full : d .fits ≡ false → PassesDone s p₀ p′ stack′ counts′ (record { end = 2; passes = i + 1; st = d })
       ends-full e = record {
-        leads = (passed .0, passed .2 ∙ go (d .st .fits) e);
+        leads = (passed .0, passed .2 ∙ go (d .fits) e);
         stood = done .ready .stood;
       }
         where
-          go : (b : Bool) → b ≡ false → by-pass s (passed .1) i (at p [] counts (inv .rest .0) false) (at p′ (held stack′ (d .st .top)) (d .run) (passed .0) (not b)) ≡ record { end = 2; passes = i + 1; state = at p′ (held stack′ (d .st .top)) (d .run) (passed .0) (not b) }
+          go : (b : Bool) → b ≡ false → by-pass s (passed .1) i (at p [] counts (inv .rest .0) false) (at p′ (held stack′ (d .top)) counts′ (passed .0) (not b)) ≡ record { end = 2; passes = i + 1; state = at p′ (held stack′ (d .top)) counts′ (passed .0) (not b) }
           go false q = refl
           go true q = let o : _≡_ {A = ℕ} 0 1 = cc in absurd (omega arith)
 
-      module _ (e : d .st .fits ≡ true) where
+      module _ (e : d .fits ≡ true) where
         -- the pass has a gain
-        pub next-pass : d .st .cut < c .cut → Running s p₀ (c₀ .cut) (i + 1) p′ stack′ (d .st) (d .run)
+        pub next-pass : d .cut < c .cut → Running s p₀ (c₀ .cut) (i + 1) p′ stack′ d counts′
         next-pass l =
             let z = done .emptied e in
             let a = passed in
@@ -120,10 +117,10 @@ module _ (s : Setting) (p₀ stack₀ : List ℕ) (c₀ : Standing) (counts₀ :
               ready = rw (inv .ready .long) at (done .ready);
               bounded = (let x = done .bounded in let y = inv .bounded in let w = few in omega arith);
               falling = (let x = inv .falling in omega arith);
-              rest = (a .0, a .1, a .2 ∙ go (d .st .fits) e (held stack′ (d .st .top)) (ap (held stack′) z ∙ held-none stack′), omega arith);
+              rest = (a .0, a .1, a .2 ∙ go (d .fits) e (held stack′ (d .top)) (ap (held stack′) z ∙ held-none stack′), omega arith);
             }
           where
-            go : (b : Bool) → b ≡ true → (k : List ℕ) → k ≡ [] → by-pass s (passed .1) i (at p [] counts (inv .rest .0) false) (at p′ k (d .run) (passed .0) (not b)) ≡ run s (passed .1) (i + 1) (at p′ [] (d .run) (passed .0) false)
+            go : (b : Bool) → b ≡ true → (k : List ℕ) → k ≡ [] → by-pass s (passed .1) i (at p [] counts (inv .rest .0) false) (at p′ k counts′ (passed .0) (not b)) ≡ run s (passed .1) (i + 1) (at p′ [] counts′ (passed .0) false)
             go false q k r = let o : _≡_ {A = ℕ} 0 1 = cc in absurd (omega arith)
             go true q k r =
                 let x = cut-before in
@@ -131,15 +128,40 @@ module _ (s : Setting) (p₀ stack₀ : List ℕ) (c₀ : Standing) (counts₀ :
                 rw (lt-ltb (cut (s .graph) p′) (cut (s .graph) p) (omega arith), r)
 
         -- it has none
-        pub ends-gainless : c .cut ≤ d .st .cut → PassesDone s p₀ p′ stack′ (record { end = 1; passes = i + 1; st = d .st; run = d .run })
+        pub ends-gainless : c .cut ≤ d .cut → PassesDone s p₀ p′ stack′ counts′ (record { end = 1; passes = i + 1; st = d })
         ends-gainless l = record {
-          leads = (passed .0, passed .2 ∙ go (d .st .fits) e);
+          leads = (passed .0, passed .2 ∙ go (d .fits) e);
           stood = done .ready .stood;
         }
           where
-            go : (b : Bool) → b ≡ true → by-pass s (passed .1) i (at p [] counts (inv .rest .0) false) (at p′ (held stack′ (d .st .top)) (d .run) (passed .0) (not b)) ≡ record { end = 1; passes = i + 1; state = at p′ (held stack′ (d .st .top)) (d .run) (passed .0) (not b) }
+            go : (b : Bool) → b ≡ true → by-pass s (passed .1) i (at p [] counts (inv .rest .0) false) (at p′ (held stack′ (d .top)) counts′ (passed .0) (not b)) ≡ record { end = 1; passes = i + 1; state = at p′ (held stack′ (d .top)) counts′ (passed .0) (not b) }
             go false q = let o : _≡_ {A = ℕ} 0 1 = cc in absurd (omega arith)
             go true q =
                 let x = cut-before in
                 let y = cut-after in
                 rw (le-ltb (cut (s .graph) p′) (cut (s .graph) p) (omega arith))
+
+      -- the end by number
+      module _ (n : ℕ) (n-is : n ≡ endBy (c .cut) (d .fits) (d .cut)) where
+        pub goes-on : n ≡ 0 → d .cut < c .cut
+        goes-on z = by (d .fits) (ltb (d .cut) (c .cut)) refl (sym n-is ∙ z)
+          where
+            by : (a b : Bool) → ltb (d .cut) (c .cut) ≡ b → _≡_ {A = ℕ} (cond a (cond b 0 1) 2) 0 → d .cut < c .cut
+            by true true e q = ltb-true (d .cut) (c .cut) e
+            by true false e q = absurd (omega arith)
+            by false b e q = absurd (omega arith)
+
+        pub again : n ≡ 0 → Running s p₀ (c₀ .cut) (i + 1) p′ stack′ d counts′
+        again z = next-pass (by (d .fits) (ltb (d .cut) (c .cut)) (sym n-is ∙ z)) (goes-on z)
+          where
+            by : (a b : Bool) → _≡_ {A = ℕ} (cond a (cond b 0 1) 2) 0 → a ≡ true
+            by true b q = refl
+            by false b q = absurd (omega arith)
+
+        pub ends : (n ≡ 0 → ⊥) → PassesDone s p₀ p′ stack′ counts′ (record { end = n; passes = i + 1; st = d })
+        ends z = by (d .fits) refl (ltb (d .cut) (c .cut)) refl n-is
+          where
+            by : (a : Bool) → d .fits ≡ a → (b : Bool) → ltb (d .cut) (c .cut) ≡ b → n ≡ cond a (cond b 0 1) 2 → PassesDone s p₀ p′ stack′ counts′ (record { end = n; passes = i + 1; st = d })
+            by true f true e q = absurd (z q)
+            by true f false e q = rw q (ends-gainless f (ltb-false (d .cut) (c .cut) e))
+            by false f b e q = rw q (ends-full f)

@@ -1,11 +1,9 @@
 -- What a move pushes: few vertices, each of them a vertex of the graph. Assumes nothing.
-use mathlib.Core.Path.{_≡_, refl, sym, ap, _∙_}
 use mathlib.Core.Bool.{Bool, true, false, cond, _&&_}
-use mathlib.Core.List.{List, [], _∷_, _++_}
+use mathlib.Core.List.{List, _∷_, _++_}
 use Prim.Native.Nat.{ℕ, zero, suc, _+_, _-_, _≤_, _<_}
 use native.Mathlib.Omega.{arith}
 use lib.ListN.{length}
-use Rattle.imbalance.specs.Load.{part}
 use Rattle.topology.specs.Graph.{Graph, first, past, neighbour}
 use Rattle.topology.specs.Rule.{Rows}
 use Rattle.arc_swap_attempt.specs.Trial.{gladly, pushed}

@@ -2,23 +2,17 @@
 use mathlib.Core.Path.{_≡_, refl, sym, ap, _∙_}
 use mathlib.Core.Bool.{Bool, true, false, not, cond}
 use mathlib.Core.List.{List, []}
-use Prim.Native.Nat.{ℕ, zero, suc, _+_, _-_, _*_, _≤_, _<_}
+use Prim.Native.Nat.{ℕ, zero, suc, _+_, _-_, _≤_, _<_}
 use native.Mathlib.Omega.{arith}
 use native.Mathlib.Numerals.{add-one}
 use lib.ListN.{length}
-use lib.Dec.{ltb}
-use lib.IntN.{ℤ}
-use borrow.Author.Tests.{lt-ltb, le-ltb}
 use Rattle.topology.specs.Cut.{cut}
-use Rattle.arc_swap_attempt.specs.Inner.{held, Stood}
+use Rattle.arc_swap_attempt.specs.Inner.{held}
 use Rattle.arc_swap_attempt.specs.declared.Standing.{Standing}
 use Rattle.arc_swap_attempt.proofs.Stacks.{held-none}
 use Rattle.arc_swap.specs.declared.RunRecord.{RunRecord}
-use Rattle.arc_swap.specs.declared.Drained.{Drained}
-use Rattle.arc_swap.specs.declared.Ended.{Ended}
-use Rattle.arc_swap.specs.Run.{Setting, State, Run, turn, sweep, run}
-use Rattle.arc_swap.specs.Entry.{noCounts}
-use Rattle.arc_swap.specs.Inner.{Fixed, Ready, at, Leads, spent, Asked, TurnAsked, Done, PassesDone}
+use Rattle.arc_swap.specs.Run.{Setting, State, turn, sweep}
+use Rattle.arc_swap.specs.Inner.{Ready, at, Leads, spent, TurnAsked, Done}
 
 -- ---- the definition, step by step
 module _ (s : Setting) where
@@ -79,14 +73,14 @@ module _ (s : Setting) (p₀ stack₀ : List ℕ) (c₀ : Standing) (counts₀ :
         l,
       )
 
-      module _ (p′ stack′ : List ℕ) (d : Drained) (done : Done (λ x. turn s x v) s p stack 0 (c .cut) counts 1 p′ stack′ d) where
-        bounded′ : spent (d .run) (d .st .top) (d .st .cut) ≤ spent counts₀ 0 (c₀ .cut) + (v + 1)
+      module _ (p′ stack′ : List ℕ) (counts′ : RunRecord) (d : Standing) (done : Done (λ x. turn s x v) s p stack 0 (c .cut) counts 1 p′ stack′ counts′ d) where
+        bounded′ : spent counts′ (d .top) (d .cut) ≤ spent counts₀ 0 (c₀ .cut) + (v + 1)
         bounded′ = let a = done .bounded in let b = inv .bounded in let z = inv .none in omega arith
 
-        ready′ : Ready s (length p₀) p′ stack′ (d .st .top) (d .st .cut) (d .st .loads .at) (d .run)
+        ready′ : Ready s (length p₀) p′ stack′ (d .top) (d .cut) (d .loads .at) counts′
         ready′ = rw (inv .ready .long) at (done .ready)
 
-        one-on : Leads (sweep s (v + 1)) p₀ [] counts₀ p′ (held stack′ (d .st .top)) (d .run) (not (d .st .fits))
+        one-on : Leads (sweep s (v + 1)) p₀ [] counts₀ p′ (held stack′ (d .top)) counts′ (not (d .fits))
         one-on gs =
             let a = inv .so-far gs in
             let b = done .leads (a .0) in (
@@ -97,7 +91,7 @@ module _ (s : Setting) (p₀ stack₀ : List ℕ) (c₀ : Standing) (counts₀ :
                   ∙ b .1,
             )
 
-        pub next-turn : d .st .fits ≡ true → Sweeping s p₀ stack₀ (c₀ .cut) counts₀ (v + 1) p′ stack′ (d .st) (d .run)
+        pub next-turn : d .fits ≡ true → Sweeping s p₀ stack₀ (c₀ .cut) counts₀ (v + 1) p′ stack′ d counts′
         next-turn e =
             let z = done .emptied e in
             record {
@@ -106,14 +100,14 @@ module _ (s : Setting) (p₀ stack₀ : List ℕ) (c₀ : Standing) (counts₀ :
               ready = ready′;
               bounded = bounded′;
               upto = (let a = inside in omega arith);
-              so-far = λ gs. (let a = one-on gs in (a .0, a .1 ∙ ap (λ (b : Bool). at p′ (held stack′ (d .st .top)) (d .run) (a .0) (not b)) e ∙ ap (λ (n : ℕ). at p′ (held stack′ n) (d .run) (a .0) false) z ∙ ap (λ (k : List ℕ). at p′ k (d .run) (a .0) false) (held-none stack′)));
+              so-far = λ gs. (let a = one-on gs in (a .0, a .1 ∙ ap (λ (b : Bool). at p′ (held stack′ (d .top)) counts′ (a .0) (not b)) e ∙ ap (λ (n : ℕ). at p′ (held stack′ n) counts′ (a .0) false) z ∙ ap (λ (k : List ℕ). at p′ k counts′ (a .0) false) (held-none stack′)));
             }
 
-        pub stopped : d .st .fits ≡ false → Done (sweep s (length p₀)) s p₀ stack₀ 0 (c₀ .cut) counts₀ (length p₀) p′ stack′ d
+        pub stopped : d .fits ≡ false → Done (sweep s (length p₀)) s p₀ stack₀ 0 (c₀ .cut) counts₀ (length p₀) p′ stack′ counts′ d
         stopped e = record {
           leads = λ gs. (let a = one-on gs in
               let q : length p₀ ≡ (length p₀ - (v + 1)) + (v + 1) = (let a = inside in omega arith) in
-              let f : sweep s (v + 1) (at p₀ (held stack₀ 0) counts₀ gs false) ≡ at p′ (held stack′ (d .st .top)) (d .run) (a .0) (not (d .st .fits)) = ap (λ (k : List ℕ). sweep s (v + 1) (at p₀ k counts₀ gs false)) (held-none stack₀) ∙ a .1 in
+              let f : sweep s (v + 1) (at p₀ (held stack₀ 0) counts₀ gs false) ≡ at p′ (held stack′ (d .top)) counts′ (a .0) (not (d .fits)) = ap (λ (k : List ℕ). sweep s (v + 1) (at p₀ k counts₀ gs false)) (held-none stack₀) ∙ a .1 in
               (a .0, ap (λ (n : ℕ). sweep s n (at p₀ (held stack₀ 0) counts₀ gs false)) q ∙ sweep-over s (v + 1) (length p₀ - (v + 1)) (at p₀ (held stack₀ 0) counts₀ gs false) (ap (λ (x : State). x .full) f ∙ ap not e) ∙ f));
           emptied = λ q. (let o : _≡_ {A = ℕ} 0 1 = cc in absurd (omega arith));
           ready = ready′;
@@ -121,7 +115,7 @@ module _ (s : Setting) (p₀ stack₀ : List ℕ) (c₀ : Standing) (counts₀ :
         }
 
     -- every vertex had its turn
-    pub swept : length p ≤ v → Done (sweep s (length p₀)) s p₀ stack₀ 0 (c₀ .cut) counts₀ (length p₀) p stack (record { st = c; run = counts })
+    pub swept : length p ≤ v → Done (sweep s (length p₀)) s p₀ stack₀ 0 (c₀ .cut) counts₀ (length p₀) p stack counts c
     swept l =
         let a = inv .upto in
         let q : v ≡ length p₀ = omega (arith, inv .ready .long) in

@@ -1,13 +1,13 @@
 -- A vertex's turn: whether it is on the cut, the first push, and what its turn comes to. Assumes nothing.
 use mathlib.Core.Path.{_≡_, refl, sym, ap, _∙_}
-use mathlib.Core.Bool.{Bool, true, false, not, cond}
+use mathlib.Core.Bool.{Bool, true, false, not}
 use mathlib.Core.List.{List, [], _∷_}
-use Prim.Native.Nat.{ℕ, _+_, _-_, _*_, _≤_, _<_}
+use Prim.Native.Nat.{ℕ, _+_, _*_, _≤_, _<_}
 use native.Mathlib.Omega.{arith}
-use lib.ListN.{length, getD, set, length-set}
+use lib.ListN.{length, set, length-set}
 use lib.Dec.{eqb}
 use lib.IntN.{ℤ}
-use borrow.Author.Tests.{eq-eqb, ne-eqb}
+use borrow.Author.Tests.{eq-eqb, ne-eqb, eqb-true, eqb-false}
 use Rattle.lists.specs.All.{someFrom}
 use Rattle.lists.proofs.Alls.{some-from-empty, some-from-more, some-from-holds}
 use Rattle.imbalance.specs.Load.{part}
@@ -18,10 +18,9 @@ use Rattle.arc_swap_attempt.specs.Inner.{held}
 use Rattle.arc_swap_attempt.specs.declared.Standing.{Standing}
 use Rattle.arc_swap_attempt.proofs.Stacks.{held-push, held-none}
 use Rattle.arc_swap.specs.declared.RunRecord.{RunRecord}
-use Rattle.arc_swap.specs.declared.Drained.{Drained}
 use Rattle.arc_swap.specs.Run.{Setting, State, drain, onCut, firstPush, turn}
-use Rattle.arc_swap.specs.Inner.{Fixed, Inside, nobody, also, Ready, at, Leads, spent, Asked, TurnAsked, Done}
-use Rattle.arc_swap.proofs.Drains.{drain-full}
+use Rattle.arc_swap.specs.Inner.{nobody, also, Ready, at, standing, spent, Asked, TurnAsked, Done, FirstDone}
+use Rattle.arc_swap.proofs.Drains.{drain-empty}
 
 -- ---- the neighbours in another part
 -- the arcs before e lead to v's own part
@@ -85,39 +84,40 @@ module _ (s : Setting) (anyone : s .movable ≡ (λ v. true)) where
   push-one p l c gs v e = rw (ne-eqb (s .room) 0 e)
 
   module _ (p stack : List ℕ) (c : Standing) (counts : RunRecord) (ask : TurnAsked s p stack c counts 1) (v : ℕ) (here : v < length p) where
+    abbrev fuel : ℕ
+    fuel = (cut (s .graph) p + 1) * (s .room + 1)
+
     ready₀ : Ready s (length p) p stack 0 (c .cut) (c .loads .at) counts
     ready₀ = rw (ask .none) at (ask .asked .ready)
 
     modest₀ : spent counts 0 (c .cut) + 1 ≤ 4611686018427387904
     modest₀ = rw (ask .none) at (ask .asked .modest)
 
+    -- what a first push comes to: the turn is the emptying of the stack from there, which is asked for
+    record Pushed (stack₁ : List ℕ) (b : Standing) : Type 0 where
+      turns : (gs : List ℤ) → turn s (at p (held stack 0) counts gs false) v ≡ drain s fuel (at p (held stack₁ (b .top)) counts gs (not (b .fits)))
+      asked : Asked s p stack₁ (b .top) (b .cut) (b .loads .at) counts 0
+      none : b .fits ≡ false → b .top ≡ 0
+      bounded : spent counts (b .top) (b .cut) ≤ spent counts 0 (c .cut) + 1
+
     -- v is not on the cut
-    pub off : (b : Bool) → b ≡ onCut (s .graph) p v → b ≡ false → Done (λ x. turn s x v) s p stack 0 (c .cut) counts 1 p stack (record { st = c; run = counts })
-    off b q e = record {
-      leads = λ gs. (gs, turn-off (at p (held stack 0) counts gs false) v (sym q ∙ e) ∙ rw (ask .none, ask .fit));
-      emptied = λ f. ask .none;
-      ready = ask .asked .ready;
+    off : onCut (s .graph) p v ≡ false → Pushed stack c
+    off e = record {
+      turns = λ gs. turn-off (at p (held stack 0) counts gs false) v e ∙ rw (ask .none, ask .fit, held-none) (sym (drain-empty s fuel p counts gs));
+      asked = record { fixed = ask .asked .fixed; ready = ask .asked .ready; modest = (let a = ask .asked .modest in omega arith) };
+      none = λ f. ask .none;
       bounded = rw (ask .none) (omega arith);
     }
 
-    module _ (b : Bool) (q : b ≡ onCut (s .graph) p v) (e : b ≡ true) where
+    module _ (e : onCut (s .graph) p v ≡ true) where
       -- there is no place for it
-      pub no-place : length stack ≡ 0 → (d : Drained) → d .st .fits ≡ false → d .st .top ≡ c .top → d .st .cut ≡ c .cut → d .st .loads .at ≡ c .loads .at → d .run ≡ counts → Done (λ x. turn s x v) s p stack 0 (c .cut) counts 1 p stack d
-      no-place z d df dt dc dl dr =
-          let dt′ : d .st .top ≡ 0 = dt ∙ ask .none in
-          let r = ready₀ in
-          record {
-            leads = λ gs. (
-              gs,
-              turn-on (at p (held stack 0) counts gs false) v (sym q ∙ e)
-                  ∙ ap (drain s ((cut (s .graph) p + 1) * (s .room + 1))) (push-full p (held stack 0) counts gs v (sym (ask .asked .ready .room) ∙ z))
-                  ∙ drain-full s ((cut (s .graph) p + 1) * (s .room + 1)) p [] counts gs
-                  ∙ rw (df, dt′, dr, held-none),
-            );
-            emptied = λ f. dt′;
-            ready = rw (dt′, dc, dl, dr) r;
-            bounded = rw (dt′, dc, dr) (omega arith);
-          }
+      no-place : length stack ≡ 0 → Pushed stack (record { fits = false; top = c .top; cut = c .cut; loads = c .loads })
+      no-place z = record {
+        turns = λ gs. turn-on (at p (held stack 0) counts gs false) v e ∙ ap (drain s fuel) (push-full p (held stack 0) counts gs v (sym (ask .asked .ready .room) ∙ z) ∙ rw (ask .none, held-none));
+        asked = record { fixed = ask .asked .fixed; ready = ask .asked .ready; modest = (let a = ask .asked .modest in omega arith) };
+        none = λ f. ask .none;
+        bounded = rw (ask .none) (omega arith);
+      }
 
       module _ (z : length stack ≡ 0 → ⊥) where
         big : 0 < length stack
@@ -127,30 +127,67 @@ module _ (s : Setting) (anyone : s .movable ≡ (λ v. true)) where
         alone = held-push stack 0 v big ∙ ap (λ (l : List ℕ). v ∷ l) (held-none stack)
 
         -- v stands alone on the stack
-        pub alone-asked : Asked s p (set stack 0 v) 1 (c .cut) (c .loads .at) counts 0
-        alone-asked = record {
-          fixed = ask .asked .fixed;
-          ready = record {
-            long = refl;
-            ok = ask .asked .ready .ok;
-            room = length-set stack 0 v ∙ ask .asked .ready .room;
-            within = (let a = length-set stack 0 v in let b = big in omega arith);
-            inside = rw alone (also here nobody);
-            stood = ask .asked .ready .stood;
-            summed = ask .asked .ready .summed;
+        on : Pushed (set stack 0 v) (record { fits = c .fits; top = 1; cut = c .cut; loads = c .loads })
+        on = record {
+          turns = λ gs. turn-on (at p (held stack 0) counts gs false) v e ∙ ap (drain s fuel) (push-one p (held stack 0) counts gs v (λ r. z (ask .asked .ready .room ∙ r)) ∙ rw (alone, ask .fit));
+          asked = record {
+            fixed = ask .asked .fixed;
+            ready = record {
+              long = refl;
+              ok = ask .asked .ready .ok;
+              room = length-set stack 0 v ∙ ask .asked .ready .room;
+              within = (let a = length-set stack 0 v in let b = big in omega arith);
+              inside = rw alone (also here nobody);
+              stood = ask .asked .ready .stood;
+              summed = ask .asked .ready .summed;
+            };
+            modest = (let a = modest₀ in omega arith);
           };
-          modest = (let a = modest₀ in omega arith);
+          none = λ f. (let g = ask .fit in let o : _≡_ {A = ℕ} 0 1 = cc in absurd (omega arith));
+          bounded = omega arith;
         }
 
-        pub on : (p′ stack′ : List ℕ) (d : Drained) → Done (drain s ((cut (s .graph) p + 1) * (s .room + 1))) s p (set stack 0 v) 1 (c .cut) counts 0 p′ stack′ d → Done (λ x. turn s x v) s p stack 0 (c .cut) counts 1 p′ stack′ d
-        on p′ stack′ d h = record {
-          leads = λ gs. (let a = h .leads gs in (
-            a .0,
-            turn-on (at p (held stack 0) counts gs false) v (sym q ∙ e)
-                ∙ ap (drain s ((cut (s .graph) p + 1) * (s .room + 1))) (push-one p (held stack 0) counts gs v (λ r. z (ask .asked .ready .room ∙ r)) ∙ ap (λ (l : List ℕ). at p l counts gs false) (sym alone))
-                ∙ a .1,
-          ));
-          emptied = h .emptied;
-          ready = h .ready;
-          bounded = (let a = h .bounded in omega arith);
-        }
+    module _ (stack₁ : List ℕ) (b : Standing) (first : FirstDone (s .graph) p stack v c stack₁ b) where
+      pushed : Pushed stack₁ b
+      pushed = by (onCut (s .graph) p v) refl (eqb (length stack) 0) refl
+        where
+          by : (o : Bool) → onCut (s .graph) p v ≡ o → (n : Bool) → eqb (length stack) 0 ≡ n → Pushed stack₁ b
+          by false e n q = let h = first .off e in rw (h .0, h .1) (off e)
+          by true e true q = let z = eqb-true (length stack) 0 q in let h = first .full e z in rw (h .0, h .1) (no-place e z)
+          by true e false q = let z = eqb-false (length stack) 0 q in let h = first .alone e z in rw (h .0, h .1) (on e z)
+
+      pub drain-asked : Asked s p stack₁ (b .top) (b .cut) (b .loads .at) counts 0 × (b .fits ≡ false → b .top ≡ 0)
+      drain-asked = (pushed .asked, pushed .none)
+
+      -- the stack is emptied: v had its turn
+      pub turned : (p′ stack′ : List ℕ) (counts′ : RunRecord) (d : Standing) → Done (λ x. drain s fuel (standing (b .fits) x)) s p stack₁ (b .top) (b .cut) counts 0 p′ stack′ counts′ d → Done (λ x. turn s x v) s p stack 0 (c .cut) counts 1 p′ stack′ counts′ d
+      turned p′ stack′ counts′ d h = record {
+        leads = λ gs. (let a = h .leads gs in (a .0, pushed .turns gs ∙ a .1));
+        emptied = h .emptied;
+        ready = h .ready;
+        bounded = (let a = h .bounded in let k = pushed .bounded in omega arith);
+      }
+
+-- what a first push answers
+module _ (g : Graph) (p stack : List ℕ) (v : ℕ) (c : Standing) (b : Bool) (b-is : b ≡ onCut g p v) where
+  pub first-off : b ≡ false → FirstDone g p stack v c stack c
+  first-off e = record {
+    off = λ f. (refl, refl);
+    full = λ f z. (let q = b-is in let o : _≡_ {A = ℕ} 0 1 = cc in absurd (omega arith));
+    alone = λ f z. (let q = b-is in let o : _≡_ {A = ℕ} 0 1 = cc in absurd (omega arith));
+  }
+
+  module _ (e : b ≡ true) where
+    pub first-full : length stack ≡ 0 → FirstDone g p stack v c stack (record { fits = false; top = c .top; cut = c .cut; loads = c .loads })
+    first-full z = record {
+      off = λ f. (let q = b-is in let o : _≡_ {A = ℕ} 0 1 = cc in absurd (omega arith));
+      full = λ f y. (refl, refl);
+      alone = λ f y. absurd (y z);
+    }
+
+    pub first-alone : (length stack ≡ 0 → ⊥) → FirstDone g p stack v c (set stack 0 v) (record { fits = c .fits; top = 1; cut = c .cut; loads = c .loads })
+    first-alone y = record {
+      off = λ f. (let q = b-is in let o : _≡_ {A = ℕ} 0 1 = cc in absurd (omega arith));
+      full = λ f z. absurd (y z);
+      alone = λ f z. (refl, refl);
+    }

@@ -1,6 +1,6 @@
 -- The call of arc-swap: its number, its report, and what it leaves in each lent list and in the run record (document 01, "Arc-swap" and "Numbers a call gives back").
 use mathlib.Core.Path.{_≡_}
-use mathlib.Core.Bool.{Bool, true, false, cond}
+use mathlib.Core.Bool.{true, false, cond}
 use mathlib.Core.List.{List, []}
 use Prim.Native.Nat.{ℕ, _+_}
 use lib.ListN.{length}

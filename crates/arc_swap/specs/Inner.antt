@@ -1,24 +1,30 @@
--- What the functions inside the entry ask and answer: an emptying of the stack, a vertex's turn, a pass, the passes.
+-- What the functions inside the entry ask and answer: an attempt, a first push, an emptying of the stack, a pass, the passes.
 use mathlib.Core.Path.{_≡_}
-use mathlib.Core.Bool.{Bool, true, false, not}
+use mathlib.Core.Bool.{Bool, true, false, not, cond}
 use mathlib.Core.List.{List, [], _∷_}
-use Prim.Native.Nat.{ℕ, _+_, _*_, _≤_, _<_}
-use lib.ListN.{length}
+use Prim.Native.Nat.{ℕ, _+_, _-_, _*_, _≤_, _<_}
+use lib.ListN.{length, getD, set}
+use lib.Dec.{ltb}
 use lib.IntN.{ℤ}
+use Rattle.lists.specs.Fill.{table}
 use Rattle.lists.specs.Sum.{total}
 use Rattle.imbalance.specs.Limit.{mostWeight, labelAbove}
-use Rattle.imbalance.specs.Ceiling.{unfitChoice}
-use Rattle.topology.specs.Graph.{inRows}
+use Rattle.imbalance.specs.Load.{load, loadsOf}
+use Rattle.imbalance.specs.Ceiling.{unfitChoice, ceilings}
+use Rattle.topology.specs.Graph.{Graph, inRows}
 use Rattle.topology.specs.Rule.{Rows, Symmetric, Sound}
 use Rattle.topology.specs.Cut.{cut}
-use Rattle.arc_swap_attempt.specs.Inner.{held, Named, Stood}
+use Rattle.arc_swap_attempt.specs.Trial.{trial}
+use Rattle.arc_swap_attempt.specs.Inner.{held, Named, Stood, MoveDone}
 use Rattle.arc_swap_attempt.specs.declared.Standing.{Standing}
+use Rattle.arc_swap_attempt.specs.declared.Trial.the-variants.{Goes}
 use Rattle.arc_swap.specs.declared.RunRecord.{RunRecord}
-use Rattle.arc_swap.specs.declared.Drained.{Drained}
+use Rattle.arc_swap.specs.declared.Attempted.{Attempted}
+use Rattle.arc_swap.specs.declared.Begun.{Begun}
 use Rattle.arc_swap.specs.declared.Ended.{Ended}
 use Rattle.arc_swap.specs.declared.Report.{Report}
-use Rattle.arc_swap.specs.Run.{Setting, State, Run, run}
-use Rattle.arc_swap.specs.Entry.{Plan, Lent, graphOf, noCounts, reportOf, leftBy}
+use Rattle.arc_swap.specs.Run.{Setting, State, onCut, run}
+use Rattle.arc_swap.specs.Entry.{Plan, Lent, graphOf, partsOf, noCounts, reportOf, leftBy}
 
 -- the setting that a function's parameters stand for
 abbrev pub settingBy : List ℕ → List ℕ → List ℕ → List ℕ → List ℕ → ℕ → ℕ → Setting
@@ -56,6 +62,10 @@ pub record Ready (s : Setting) (n : ℕ) (labels stack : List ℕ) (top cut₀ :
 abbrev pub at : List ℕ → List ℕ → RunRecord → List ℤ → Bool → State
 at labels stack counts gains full = record { labels = labels; stack = stack; counts = counts; gains = gains; full = full }
 
+-- the state x, where the pushes before it fitted or did not
+abbrev pub standing : Bool → State → State
+standing fits x = at (x .labels) (x .stack) (x .counts) (x .gains) (not fits)
+
 -- whatever the gains were, f leads from where the code stood to where it stands
 abbrev pub Leads : (State → State) → List ℕ → List ℕ → RunRecord → List ℕ → List ℕ → RunRecord → Bool → Type 0
 Leads f labels stack counts labels′ stack′ counts′ full = (gs : List ℤ) → (hs : List ℤ) × (f (at labels stack counts gs false) ≡ at labels′ stack′ counts′ hs full)
@@ -74,21 +84,46 @@ pub record Asked (s : Setting) (labels stack : List ℕ) (top cut₀ : ℕ) (loa
   pub modest : spent counts top cut₀ + more ≤ most
 
 -- What it answers: the defined f leads to where the code stands, the stack empty unless pushes did not fit, all in order.
-pub record Done (f : State → State) (s : Setting) (labels stack : List ℕ) (top cut₀ : ℕ) (counts : RunRecord) (more : ℕ) (labels′ stack′ : List ℕ) (c : Drained) : Type 0 where
-  pub leads : Leads f labels (held stack top) counts labels′ (held stack′ (c .st .top)) (c .run) (not (c .st .fits))
-  pub emptied : c .st .fits ≡ true → c .st .top ≡ 0
-  pub ready : Ready s (length labels) labels′ stack′ (c .st .top) (c .st .cut) (c .st .loads .at) (c .run)
-  pub bounded : spent (c .run) (c .st .top) (c .st .cut) ≤ spent counts top cut₀ + more
+pub record Done (f : State → State) (s : Setting) (labels stack : List ℕ) (top cut₀ : ℕ) (counts : RunRecord) (more : ℕ) (labels′ stack′ : List ℕ) (counts′ : RunRecord) (c : Standing) : Type 0 where
+  pub leads : Leads f labels (held stack top) counts labels′ (held stack′ (c .top)) counts′ (not (c .fits))
+  pub emptied : c .fits ≡ true → c .top ≡ 0
+  pub ready : Ready s (length labels) labels′ stack′ (c .top) (c .cut) (c .loads .at) counts′
+  pub bounded : spent counts′ (c .top) (c .cut) ≤ spent counts top cut₀ + more
 
--- What a vertex's turn and a pass ask: the stack empty, and room for `more` first pushes in the counts.
+-- What an attempt asks: all in order, and a vertex on the stack.
+pub record AttemptAsked (s : Setting) (labels stack : List ℕ) (c : Standing) : Type 0 where
+  pub fixed : Fixed s (length labels)
+  pub ok : Named (s .graph) (s .parts) labels
+  pub some : 0 < c .top
+  pub within : c .top ≤ length stack
+  pub inside : Inside (length labels) (held stack (c .top))
+  pub stood : Stood (s .graph) (s .weights) labels (c .cut) (c .loads .at)
+
+-- What it answers: what came of the vertex on top, which is off the stack now; where that one moves, the move, and else nothing more.
+pub record AttemptDone (s : Setting) (labels stack : List ℕ) (c : Standing) (labels′ stack′ : List ℕ) (r : Attempted) : Type 0 where
+  pub tried : r .trial ≡ trial (s .graph) (s .parts) (s .weights) (s .ceilings) labels (getD stack (c .top - 1) 0)
+  pub stays : ((t x : ℕ) → r .trial ≡ Goes t x → ⊥) → (labels′ ≡ labels) × (stack′ ≡ stack) × (r .st ≡ record { fits = c .fits; top = c .top - 1; cut = c .cut; loads = c .loads })
+  pub goes : (t x : ℕ) → r .trial ≡ Goes t x → MoveDone (s .graph) (s .parts) (s .weights) labels stack (c .top - 1) (getD stack (c .top - 1) 0) t labels′ stack′ (r .st)
+
+-- What v's first push leaves: all as it was for a vertex off the cut, else v alone on the stack, or nothing pushed where that has no place.
+pub record FirstDone (g : Graph) (labels stack : List ℕ) (v : ℕ) (c : Standing) (stack′ : List ℕ) (r : Standing) : Type 0 where
+  pub off : onCut g labels v ≡ false → (stack′ ≡ stack) × (r ≡ c)
+  pub full : onCut g labels v ≡ true → length stack ≡ 0 → (stack′ ≡ stack) × (r ≡ record { fits = false; top = c .top; cut = c .cut; loads = c .loads })
+  pub alone : onCut g labels v ≡ true → (length stack ≡ 0 → ⊥) → (stack′ ≡ set stack 0 v) × (r ≡ record { fits = c .fits; top = 1; cut = c .cut; loads = c .loads })
+
+-- What a pass asks: the stack empty, and room for `more` first pushes in the counts.
 pub record TurnAsked (s : Setting) (labels stack : List ℕ) (st : Standing) (counts : RunRecord) (more : ℕ) : Type 0 where
   pub asked : Asked s labels stack (st .top) (st .cut) (st .loads .at) counts more
   pub none : st .top ≡ 0
   pub fit : st .fits ≡ true
 
+-- how a pass ends the run: 2 where pushes did not fit, 1 where the cut did not fall, 0 where the run goes on
+abbrev pub endBy : ℕ → Bool → ℕ → ℕ
+endBy before fits after = cond fits (cond (ltb after before) 0 1) 2
+
 -- What the passes answer: the defined run from the labels with no counts, its end and its passes.
-pub record PassesDone (s : Setting) (labels labels′ stack′ : List ℕ) (r : Ended) : Type 0 where
-  pub leads : (hs : List ℤ) × (run s (cut (s .graph) labels + 1) 0 (at labels [] noCounts [] false) ≡ record { end = r .end; passes = r .passes; state = at labels′ (held stack′ (r .st .top)) (r .run) hs (not (r .st .fits)) })
+pub record PassesDone (s : Setting) (labels labels′ stack′ : List ℕ) (counts′ : RunRecord) (r : Ended) : Type 0 where
+  pub leads : (hs : List ℤ) × (run s (cut (s .graph) labels + 1) 0 (at labels [] noCounts [] false) ≡ record { end = r .end; passes = r .passes; state = at labels′ (held stack′ (r .st .top)) counts′ hs (not (r .st .fits)) })
   pub stood : Stood (s .graph) (s .weights) labels′ (r .st .cut) (r .st .loads .at)
 
 -- What the run of a call asks: no number applies.
@@ -97,7 +132,13 @@ pub record InOrder (p : Plan) (labels : List ℕ) : Type 0 where
   pub named : labelAbove 15 labels ≡ false
   pub fit : unfitChoice (p .settings .choice) (p .settings .imbalance) ≡ false
 
--- What it answers and leaves.
+-- What a run begins with: the number of parts, the ceilings, and an empty stack beside the cut and the loads of the labels.
+pub record Begins (p : Plan) (labels : List ℕ) (b : Begun) : Type 0 where
+  pub parts : b .parts ≡ partsOf labels
+  pub capped : b .ceilings .at ≡ ceilings (table 16 (load (p .weights) labels)) (total (p .weights)) (partsOf labels) (p .settings .choice) (p .settings .whole) (p .settings .imbalance)
+  pub stands : b .st ≡ record { fits = true; top = 0; cut = cut (graphOf p) labels; loads = loadsOf (p .weights) labels }
+
+-- What the run of a call answers and leaves.
 pub record Ran (p : Plan) (l : Lent) (r : Report) (k : Lent) : Type 0 where
   pub answered : r ≡ reportOf p l
   pub labels : k .labels ≡ leftBy p l .labels

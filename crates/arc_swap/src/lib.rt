@@ -1,19 +1,22 @@
 // Arc-swap between up to sixteen parts: coupe's algorithms/arc_swap.rs, on one thread. Document 01, "Arc-swap".
 ghost use mathlib.Core.Path.{_≡_};
 ghost use mathlib.Core.Bool.{false};
-ghost use Prim.Native.Nat.{_≤_};
-ghost use lib.ListN.{length};
+ghost use mathlib.Core.List.{[], _∷_};
+ghost use Prim.Native.Nat.{ℕ, _+_, _*_, _≤_};
+ghost use lib.ListN.{length, getD};
 ghost use Rattle.imbalance.specs.Limit.{labelAbove};
 ghost use Rattle.imbalance.specs.Number.{noLoads};
-ghost use Rattle.arc_swap.specs.Run.{noted};
+ghost use Rattle.topology.specs.Cut.{cut};
+ghost use Rattle.topology.specs.Graph.{inRows};
+ghost use Rattle.arc_swap.specs.Run.{noted, drain, sweep};
 ghost use Rattle.arc_swap.specs.Entry.{number, partsOf, noCounts, Swapped};
-ghost use Rattle.arc_swap.specs.Inner.{Summed, most, InOrder, Ran};
+ghost use Rattle.arc_swap.specs.Inner.{settingBy, standing, Summed, most, Asked, TurnAsked, Done, endBy, PassesDone, InOrder, Begins, Ran};
 
-mod passes;
 mod turns;
 
 use arc_swap_attempt::Standing;
 use arc_swap_attempt::Trial;
+use imbalance::Ceilings;
 use imbalance::Loads;
 
 // The counts of a run: attempts, and what came of them.
@@ -44,17 +47,29 @@ pub struct Report {
     pub loads: Loads,
 }
 
-// Where a function of the run stands at its end, and the counts then.
-pub struct Drained {
+// Where a run stands after an attempt, and what came of it.
+pub struct Attempted {
     pub st: Standing,
-    pub run: RunRecord,
+    pub trial: Trial,
 }
 
-// What the passes leave: the run's end, how many there were, where it stands, and the counts.
+// What the passes leave: the run's end, how many there were, and where it stands.
 pub struct Ended {
     pub end: u32,
     pub passes: u32,
     pub st: Standing,
+}
+
+// What a run begins with: the number of parts, the ceilings, and where it stands.
+pub struct Begun {
+    pub parts: usize,
+    pub ceilings: Ceilings,
+    pub st: Standing,
+}
+
+// What a call answers by value: the report, and the run record after it.
+pub struct Answered {
+    pub report: Report,
     pub run: RunRecord,
 }
 
@@ -86,10 +101,166 @@ fn next_run(run: RunRecord, trial: Trial) -> RunRecord
     }
 }
 
-// What a call answers by value: the report, and the run record after it.
-pub struct Answered {
-    pub report: Report,
-    pub run: RunRecord,
+// One more attempt, in place.
+fn note(run: &mut RunRecord, trial: Trial)
+    requires { ⌜ Summed (now run) × (now run .attempts ≤ most) ⌝ }
+    ensures { λ _. ⌜ now (run .exit) ≡ noted trial (now (run .entry)) ⌝ }
+{
+    *run = next_run(*run, trial);
+}
+
+// No counts: what the run record holds at a run's start.
+fn zero_run(run: &mut RunRecord)
+    ensures { λ _. ⌜ now (run .exit) ≡ noCounts ⌝ }
+{
+    *run = RunRecord {
+        attempts: 0,
+        moves: 0,
+        no_gain: 0,
+        bad_balance: 0,
+    };
+}
+
+// The stack is emptied, attempt after attempt, unless the pushes of a move do not fit.
+fn drain_stack(
+    starts: &[u32],
+    neighbours: &[u32],
+    arc_weights: &[u32],
+    weights: &[u32],
+    labels: &mut [u32],
+    stack: &mut [u32],
+    ceilings: Ceilings,
+    parts: usize,
+    first: Standing,
+    run: &mut RunRecord,
+) -> Standing
+    requires { ⌜ Asked (settingBy (now starts) (now neighbours) (now «arc_weights») (now weights) (ceilings .at) parts (length (now stack))) (now labels) (now stack) (first .top) (first .cut) (first .loads .at) (now run) 0 × (first .fits ≡ false → _≡_ {A = ℕ} (first .top) 0) ⌝ }
+    ensures { λ r. ⌜ Done
+        (λ x. drain (settingBy (now (starts .entry)) (now (neighbours .entry)) (now («arc_weights» .entry)) (now (weights .entry)) (ceilings .at) parts (length (now (stack .entry)))) ((cut (inRows (now (starts .entry)) (now (neighbours .entry)) (now («arc_weights» .entry))) (now (labels .entry)) + 1) * (length (now (stack .entry)) + 1)) (standing (first .fits) x))
+        (settingBy (now (starts .entry)) (now (neighbours .entry)) (now («arc_weights» .entry)) (now (weights .entry)) (ceilings .at) parts (length (now (stack .entry))))
+        (now (labels .entry)) (now (stack .entry)) (first .top) (first .cut) (now (run .entry)) 0
+        (now (labels .exit)) (now (stack .exit)) (now (run .exit)) r ⌝ }
+{
+    let mut st = first;
+    while 0 < st.top {
+        let a = turns::attempt(
+            starts,
+            neighbours,
+            arc_weights,
+            weights,
+            labels,
+            stack,
+            ceilings,
+            parts,
+            st,
+        );
+        let trial = a.trial;
+        note(run, trial);
+        st = a.st;
+        if !st.fits {
+            return st;
+        }
+    }
+    st
+}
+
+// A pass: every vertex in order has its turn, unless pushes do not fit. In its turn it is pushed where it has a neighbour in another part, and the stack is emptied.
+fn sweep_all(
+    starts: &[u32],
+    neighbours: &[u32],
+    arc_weights: &[u32],
+    weights: &[u32],
+    labels: &mut [u32],
+    stack: &mut [u32],
+    ceilings: Ceilings,
+    parts: usize,
+    first: Standing,
+    run: &mut RunRecord,
+) -> Standing
+    requires { ⌜ TurnAsked (settingBy (now starts) (now neighbours) (now «arc_weights») (now weights) (ceilings .at) parts (length (now stack))) (now labels) (now stack) first (now run) (length (now labels)) ⌝ }
+    ensures { λ r. ⌜ Done
+        (sweep (settingBy (now (starts .entry)) (now (neighbours .entry)) (now («arc_weights» .entry)) (now (weights .entry)) (ceilings .at) parts (length (now (stack .entry)))) (length (now (labels .entry))))
+        (settingBy (now (starts .entry)) (now (neighbours .entry)) (now («arc_weights» .entry)) (now (weights .entry)) (ceilings .at) parts (length (now (stack .entry))))
+        (now (labels .entry)) (now (stack .entry)) 0 (first .cut) (now (run .entry)) (length (now (labels .entry)))
+        (now (labels .exit)) (now (stack .exit)) (now (run .exit)) r ⌝ }
+{
+    let mut st = first;
+    let mut v: usize = 0;
+    while v < labels.len() {
+        let pushed = turns::push_first(starts, neighbours, arc_weights, labels, stack, v, st);
+        st = drain_stack(
+            starts,
+            neighbours,
+            arc_weights,
+            weights,
+            labels,
+            stack,
+            ceilings,
+            parts,
+            pushed,
+            run,
+        );
+        if !st.fits {
+            return st;
+        }
+        v += 1;
+    }
+    st
+}
+
+// How a pass ends the run: 2 where pushes did not fit, 1 where the cut did not fall, 0 where the run goes on.
+fn end_of(before: u64, fits: bool, after: u64) -> u32
+    ensures { λ r. ⌜ r ≡ endBy before fits after ⌝ }
+{
+    if !fits {
+        return 2;
+    }
+    if before <= after {
+        return 1;
+    }
+    0
+}
+
+// Pass after pass, until one has no gain or pushes do not fit.
+fn run_passes(
+    starts: &[u32],
+    neighbours: &[u32],
+    arc_weights: &[u32],
+    weights: &[u32],
+    labels: &mut [u32],
+    stack: &mut [u32],
+    ceilings: Ceilings,
+    parts: usize,
+    first: Standing,
+    run: &mut RunRecord,
+) -> Ended
+    requires { ⌜ TurnAsked (settingBy (now starts) (now neighbours) (now «arc_weights») (now weights) (ceilings .at) parts (length (now stack))) (now labels) (now stack) first (now run) 0 × (now run ≡ noCounts) × (first .cut ≤ 2147483647) ⌝ }
+    ensures { λ r. ⌜ PassesDone
+        (settingBy (now (starts .entry)) (now (neighbours .entry)) (now («arc_weights» .entry)) (now (weights .entry)) (ceilings .at) parts (length (now (stack .entry))))
+        (now (labels .entry)) (now (labels .exit)) (now (stack .exit)) (now (run .exit)) r ⌝ }
+{
+    let mut st = first;
+    let mut passes: u32 = 0;
+    loop {
+        let before = st.cut;
+        st = sweep_all(
+            starts,
+            neighbours,
+            arc_weights,
+            weights,
+            labels,
+            stack,
+            ceilings,
+            parts,
+            st,
+            run,
+        );
+        passes += 1;
+        let end = end_of(before, st.fits, st.cut);
+        if end != 0 {
+            return Ended { end, passes, st };
+        }
+    }
 }
 
 // The number of a call.
@@ -117,7 +288,7 @@ fn number_of(
 }
 
 // The largest label + 1, at least 2.
-fn parts_of(labels: &[u32]) -> u32
+pub fn parts_of(labels: &[u32]) -> u32
     requires { ⌜ labelAbove 15 (now labels) ≡ false ⌝ }
     ensures { λ r. ⌜ r ≡ partsOf (now (labels .entry)) ⌝ }
 {
@@ -135,18 +306,6 @@ fn parts_of(labels: &[u32]) -> u32
     most + 1
 }
 
-// No counts: what the run record holds at a run's start.
-fn no_counts() -> RunRecord
-    ensures { λ r. ⌜ r ≡ noCounts ⌝ }
-{
-    RunRecord {
-        attempts: 0,
-        moves: 0,
-        no_gain: 0,
-        bad_balance: 0,
-    }
-}
-
 // A report of zeros but for the number and the end.
 fn bare_report(number: u32, end: u32) -> Report
     ensures { λ r. ⌜ r ≡ record { number = number; end = end; passes = 0; first = 0; last = 0; loads = noLoads } ⌝ }
@@ -162,23 +321,19 @@ fn bare_report(number: u32, end: u32) -> Report
     }
 }
 
-// The run of a call to which no number applies, from counts at zero; the stack is zeroed whole.
-fn swap_all(
+// What a run begins with.
+fn begin_run(
     starts: &[u32],
     neighbours: &[u32],
     arc_weights: &[u32],
     weights: &[u32],
-    labels: &mut [u32],
-    stack: &mut [u32],
+    labels: &[u32],
     settings: Settings,
-    counts: RunRecord,
-) -> Answered
-    requires { ⌜ InOrder (record { starts = now starts; neighbours = now neighbours; arcs = now «arc_weights»; weights = now weights; settings = settings }) (now labels) × (counts ≡ noCounts) ⌝ }
-    ensures { λ r. ⌜ Ran
+) -> Begun
+    requires { ⌜ InOrder (record { starts = now starts; neighbours = now neighbours; arcs = now «arc_weights»; weights = now weights; settings = settings }) (now labels) ⌝ }
+    ensures { λ r. ⌜ Begins
         (record { starts = now (starts .entry); neighbours = now (neighbours .entry); arcs = now («arc_weights» .entry); weights = now (weights .entry); settings = settings })
-        (record { labels = now (labels .entry); stack = now (stack .entry); run = counts })
-        (r .report)
-        (record { labels = now (labels .exit); stack = now (stack .exit); run = r .run }) ⌝ }
+        (now (labels .entry)) r ⌝ }
 {
     let parts = parts_of(labels);
     let loads = imbalance::parts_load(weights, labels);
@@ -191,38 +346,70 @@ fn swap_all(
         settings.whole,
         settings.imbalance,
     );
-    let first = topology::cut_of(starts, neighbours, arc_weights, labels);
     let st = Standing {
         fits: true,
         top: 0,
-        cut: first,
+        cut: topology::cut_of(starts, neighbours, arc_weights, labels),
         loads,
     };
-    let e = passes::run_passes(
+    Begun {
+        parts: lists::index(parts),
+        ceilings,
+        st,
+    }
+}
+
+// The report of a run from the first cut.
+fn run_report(first: u64, e: Ended) -> Report
+    ensures { λ r. ⌜ r ≡ record { number = 0; end = e .end; passes = e .passes; first = first; last = e .st .cut; loads = e .st .loads } ⌝ }
+{
+    let last = e.st;
+    let loads = last.loads;
+    Report {
+        number: 0,
+        end: e.end,
+        passes: e.passes,
+        first,
+        last: last.cut,
+        loads,
+    }
+}
+
+// The run of a call to which no number applies: the counts are first zeroed, and afterwards the stack is zeroed whole.
+fn swap_all(
+    starts: &[u32],
+    neighbours: &[u32],
+    arc_weights: &[u32],
+    weights: &[u32],
+    labels: &mut [u32],
+    stack: &mut [u32],
+    settings: Settings,
+    run: &mut RunRecord,
+) -> Report
+    requires { ⌜ InOrder (record { starts = now starts; neighbours = now neighbours; arcs = now «arc_weights»; weights = now weights; settings = settings }) (now labels) ⌝ }
+    ensures { λ r. ⌜ Ran
+        (record { starts = now (starts .entry); neighbours = now (neighbours .entry); arcs = now («arc_weights» .entry); weights = now (weights .entry); settings = settings })
+        (record { labels = now (labels .entry); stack = now (stack .entry); run = now (run .entry) })
+        r
+        (record { labels = now (labels .exit); stack = now (stack .exit); run = now (run .exit) }) ⌝ }
+{
+    let begun = begin_run(starts, neighbours, arc_weights, weights, labels, settings);
+    zero_run(run);
+    let st = begun.st;
+    let e = run_passes(
         starts,
         neighbours,
         arc_weights,
         weights,
         labels,
         stack,
-        ceilings,
-        lists::index(parts),
+        begun.ceilings,
+        begun.parts,
         st,
-        counts,
+        run,
     );
     lists::clear_numbers(stack, stack.len());
-    let last = e.st;
-    let loads_left = last.loads;
-    let report = Report {
-        number: 0,
-        end: e.end,
-        passes: e.passes,
-        first,
-        last: last.cut,
-        loads: loads_left,
-    };
-    let run = e.run;
-    Answered { report, run }
+    run_report(st.cut, e)
 }
 
 // Arc-swap, for every input: the checked call.
@@ -234,23 +421,21 @@ pub fn arc_swap(
     labels: &mut [u32],
     stack: &mut [u32],
     settings: Settings,
-    run: RunRecord,
-) -> Answered
+    run: &mut RunRecord,
+) -> Report
     ensures { λ r. ⌜ Swapped
         (record { starts = now (starts .entry); neighbours = now (neighbours .entry); arcs = now («arc_weights» .entry); weights = now (weights .entry); settings = settings })
-        (record { labels = now (labels .entry); stack = now (stack .entry); run = run })
-        (r .report)
-        (record { labels = now (labels .exit); stack = now (stack .exit); run = r .run }) ⌝ }
+        (record { labels = now (labels .entry); stack = now (stack .entry); run = now (run .entry) })
+        r
+        (record { labels = now (labels .exit); stack = now (stack .exit); run = now (run .exit) }) ⌝ }
 {
     if labels.len() == 0 {
-        let report = bare_report(0, 3);
-        let zero = no_counts();
-        return Answered { report, run: zero };
+        zero_run(run);
+        return bare_report(0, 3);
     }
     let number = number_of(starts, neighbours, arc_weights, weights, labels, settings);
     if number != 0 {
-        let report = bare_report(number, 0);
-        return Answered { report, run };
+        return bare_report(number, 0);
     }
     swap_all(
         starts,
@@ -260,6 +445,56 @@ pub fn arc_swap(
         labels,
         stack,
         settings,
-        no_counts(),
+        run,
     )
+}
+
+// One run record, at zero.
+fn blank_runs() -> [RunRecord; 1]
+    ensures { λ r. ⌜ r ≡ noCounts ∷ [] ⌝ }
+{
+    [RunRecord {
+        attempts: 0,
+        moves: 0,
+        no_gain: 0,
+        bad_balance: 0,
+    }]
+}
+
+// The report, and the one run record.
+fn with_counts(report: Report, runs: [RunRecord; 1]) -> Answered
+    ensures { λ r. ⌜ r ≡ record { report = report; run = getD runs 0 noCounts } ⌝ }
+{
+    let run = runs[0];
+    Answered { report, run }
+}
+
+// The checked call for callers written in Rattle, which take the counts by value.
+pub fn arc_swap_counted(
+    starts: &[u32],
+    neighbours: &[u32],
+    arc_weights: &[u32],
+    weights: &[u32],
+    labels: &mut [u32],
+    stack: &mut [u32],
+    settings: Settings,
+) -> Answered
+    ensures { λ r. ⌜ Swapped
+        (record { starts = now (starts .entry); neighbours = now (neighbours .entry); arcs = now («arc_weights» .entry); weights = now (weights .entry); settings = settings })
+        (record { labels = now (labels .entry); stack = now (stack .entry); run = noCounts })
+        (r .report)
+        (record { labels = now (labels .exit); stack = now (stack .exit); run = r .run }) ⌝ }
+{
+    let mut runs = blank_runs();
+    let report = arc_swap(
+        starts,
+        neighbours,
+        arc_weights,
+        weights,
+        labels,
+        stack,
+        settings,
+        &mut runs[0],
+    );
+    with_counts(report, runs)
 }

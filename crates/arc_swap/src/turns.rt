@@ -1,20 +1,18 @@
-// A vertex's turn in a pass: it is pushed where it has a neighbour in another part, and the stack is emptied. Document 01, "Arc-swap".
+// What a turn is made of that leaves the run record alone: a first push, and an attempt on the vertex on top. Document 01, "Arc-swap".
 ghost use mathlib.Core.Path.{_≡_};
-ghost use Prim.Native.Nat.{_+_, _*_, _<_, _≤_};
+ghost use Prim.Native.Nat.{_<_};
 ghost use lib.ListN.{length};
-ghost use Rattle.topology.specs.Cut.{cut};
 ghost use Rattle.topology.specs.Graph.{inRows};
 ghost use Rattle.topology.specs.Rule.{Rows};
-ghost use Rattle.arc_swap.specs.Run.{drain, onCut, turn};
-ghost use Rattle.arc_swap.specs.Inner.{settingBy, Asked, TurnAsked, Done};
-use crate::Drained;
-use crate::RunRecord;
+ghost use Rattle.arc_swap.specs.Run.{onCut};
+ghost use Rattle.arc_swap.specs.Inner.{settingBy, AttemptAsked, AttemptDone, FirstDone};
+use crate::Attempted;
 use arc_swap_attempt::Standing;
 use arc_swap_attempt::Trial;
 use imbalance::Ceilings;
 
-// The stack is emptied, vertex after vertex, unless the pushes of a move do not fit.
-fn drain_stack(
+// The vertex on top of the stack is taken off it and tried, and moves where it may.
+pub fn attempt(
     starts: &[u32],
     neighbours: &[u32],
     arc_weights: &[u32],
@@ -23,60 +21,47 @@ fn drain_stack(
     stack: &mut [u32],
     ceilings: Ceilings,
     parts: usize,
-    first: Standing,
-    counts: RunRecord,
-) -> Drained
-    requires { ⌜ Asked (settingBy (now starts) (now neighbours) (now «arc_weights») (now weights) (ceilings .at) parts (length (now stack))) (now labels) (now stack) (first .top) (first .cut) (first .loads .at) counts 0 ⌝ }
-    ensures { λ r. ⌜ Done
-        (drain (settingBy (now (starts .entry)) (now (neighbours .entry)) (now («arc_weights» .entry)) (now (weights .entry)) (ceilings .at) parts (length (now (stack .entry)))) ((cut (inRows (now (starts .entry)) (now (neighbours .entry)) (now («arc_weights» .entry))) (now (labels .entry)) + 1) * (length (now (stack .entry)) + 1)))
+    st: Standing,
+) -> Attempted
+    requires { ⌜ AttemptAsked (settingBy (now starts) (now neighbours) (now «arc_weights») (now weights) (ceilings .at) parts (length (now stack))) (now labels) (now stack) st ⌝ }
+    ensures { λ r. ⌜ AttemptDone
         (settingBy (now (starts .entry)) (now (neighbours .entry)) (now («arc_weights» .entry)) (now (weights .entry)) (ceilings .at) parts (length (now (stack .entry))))
-        (now (labels .entry)) (now (stack .entry)) (first .top) (first .cut) counts 0
-        (now (labels .exit)) (now (stack .exit)) r ⌝ }
+        (now (labels .entry)) (now (stack .entry)) st (now (labels .exit)) (now (stack .exit)) r ⌝ }
 {
-    let mut st = first;
-    let mut run = counts;
-    let mut top = first.top;
-    while 0 < top {
-        top -= 1;
-        let v = lists::index(stack[top]);
-        let loads = st.loads;
-        let trial = arc_swap_attempt::try_vertex(
-            starts,
-            neighbours,
-            arc_weights,
-            weights,
-            labels,
-            loads,
-            ceilings,
-            parts,
-            v,
-        );
-        run = crate::next_run(run, trial);
-        let Trial::Goes(t, gain) = trial else {
-            continue;
-        };
-        st = arc_swap_attempt::move_vertex(
-            starts,
-            neighbours,
-            arc_weights,
-            weights,
-            labels,
-            stack,
-            st,
-            parts,
-            top,
-            v,
-            t,
-            gain,
-        );
-        if !st.fits {
-            return Drained { st, run };
-        }
-        top = st.top;
-    }
-    st.fits = true;
-    st.top = 0;
-    Drained { st, run }
+    let top = st.top - 1;
+    let v = lists::index(stack[top]);
+    let loads = st.loads;
+    let trial = arc_swap_attempt::try_vertex(
+        starts,
+        neighbours,
+        arc_weights,
+        weights,
+        labels,
+        loads,
+        ceilings,
+        parts,
+        v,
+    );
+    let Trial::Goes(t, gain) = trial else {
+        let mut left = st;
+        left.top = top;
+        return Attempted { st: left, trial };
+    };
+    let moved = arc_swap_attempt::move_vertex(
+        starts,
+        neighbours,
+        arc_weights,
+        weights,
+        labels,
+        stack,
+        st,
+        parts,
+        top,
+        v,
+        t,
+        gain,
+    );
+    Attempted { st: moved, trial }
 }
 
 // Whether v has a neighbour in another part.
@@ -96,50 +81,28 @@ fn on_cut(starts: &[u32], neighbours: &[u32], arc_weights: &[u32], labels: &[u32
     false
 }
 
-// v's turn: pushed where it has a neighbour in another part, and then the stack is emptied.
-pub fn take_turn(
+// v's first push: it stands alone on the stack where it has a neighbour in another part. Where the stack has no place, the push does not fit.
+pub fn push_first(
     starts: &[u32],
     neighbours: &[u32],
     arc_weights: &[u32],
-    weights: &[u32],
-    labels: &mut [u32],
+    labels: &[u32],
     stack: &mut [u32],
-    ceilings: Ceilings,
-    parts: usize,
     v: usize,
-    first: Standing,
-    counts: RunRecord,
-) -> Drained
-    requires { ⌜ TurnAsked (settingBy (now starts) (now neighbours) (now «arc_weights») (now weights) (ceilings .at) parts (length (now stack))) (now labels) (now stack) first counts 1 × (v < length (now labels)) ⌝ }
-    ensures { λ r. ⌜ Done
-        (λ x. turn (settingBy (now (starts .entry)) (now (neighbours .entry)) (now («arc_weights» .entry)) (now (weights .entry)) (ceilings .at) parts (length (now (stack .entry)))) x v)
-        (settingBy (now (starts .entry)) (now (neighbours .entry)) (now («arc_weights» .entry)) (now (weights .entry)) (ceilings .at) parts (length (now (stack .entry))))
-        (now (labels .entry)) (now (stack .entry)) 0 (first .cut) counts 1
-        (now (labels .exit)) (now (stack .exit)) r ⌝ }
+    st: Standing,
+) -> Standing
+    requires { ⌜ Rows (length (now labels)) (inRows (now starts) (now neighbours) (now «arc_weights»)) × (v < length (now labels)) ⌝ }
+    ensures { λ r. ⌜ FirstDone (inRows (now (starts .entry)) (now (neighbours .entry)) (now («arc_weights» .entry))) (now (labels .entry)) (now (stack .entry)) v st (now (stack .exit)) r ⌝ }
 {
     if !on_cut(starts, neighbours, arc_weights, labels, v) {
-        return Drained {
-            st: first,
-            run: counts,
-        };
+        return st;
     }
-    let mut st = first;
+    let mut pushed = st;
     if stack.len() == 0 {
-        st.fits = false;
-        return Drained { st, run: counts };
+        pushed.fits = false;
+        return pushed;
     }
     stack[0] = v as u32;
-    st.top = 1;
-    drain_stack(
-        starts,
-        neighbours,
-        arc_weights,
-        weights,
-        labels,
-        stack,
-        ceilings,
-        parts,
-        st,
-        counts,
-    )
+    pushed.top = 1;
+    pushed
 }

@@ -1,2 +1,2 @@
--- The machine-made walk of the entry that is lent a list of move records.
+-- The machine-made walks of the entries that are lent a list of move records or a run record.
 pub mod walk

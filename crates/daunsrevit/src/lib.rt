@@ -5,8 +5,11 @@ ghost use Rattle.topology.specs.Graph.{inRows};
 ghost use Rattle.topology.specs.Number.{edgeCutAnswer, lambdaCutAnswer};
 ghost use Rattle.fiduccia_mattheyses.specs.Entry.{Refined};
 ghost use Rattle.kernighan_lin.specs.Entry as KL;
+ghost use Rattle.arc_swap.specs.Entry.{Swapped};
 ghost use Rattle.plan.specs.Read.{Read};
 ghost use Rattle.plan.specs.Write.{Written};
+ghost use Rattle.eight_block_grid.specs.SelfTest.{Tested};
+use arc_swap::RunRecord;
 use fiduccia_mattheyses::Move;
 use fiduccia_mattheyses::Report;
 use fiduccia_mattheyses::Settings;
@@ -116,6 +119,36 @@ pub extern "C" fn daunsrevit_kernighan_lin(
     )
 }
 
+// Arc-swap: refines the labels of up to sixteen parts.
+#[no_mangle]
+pub extern "C" fn daunsrevit_arc_swap(
+    starts: &[u32],
+    neighbours: &[u32],
+    arc_weights: &[u32],
+    weights: &[u32],
+    labels: &mut [u32],
+    stack: &mut [u32],
+    settings: arc_swap::Settings,
+    run: &mut RunRecord,
+) -> arc_swap::Report
+    ensures { λ r. ⌜ Swapped
+        (record { starts = now (starts .entry); neighbours = now (neighbours .entry); arcs = now («arc_weights» .entry); weights = now (weights .entry); settings = settings })
+        (record { labels = now (labels .entry); stack = now (stack .entry); run = now (run .entry) })
+        r
+        (record { labels = now (labels .exit); stack = now (stack .exit); run = now (run .exit) }) ⌝ }
+{
+    arc_swap::arc_swap(
+        starts,
+        neighbours,
+        arc_weights,
+        weights,
+        labels,
+        stack,
+        settings,
+        run,
+    )
+}
+
 // Reads a plan file.
 #[no_mangle]
 pub extern "C" fn daunsrevit_read_plan(
@@ -167,4 +200,12 @@ pub extern "C" fn daunsrevit_write_plan(
         imbalance,
         target,
     )
+}
+
+// The self-test: the number of the first row of the eight-block grid that differs, else 0.
+#[no_mangle]
+pub extern "C" fn daunsrevit_self_test() -> u32
+    ensures { λ r. ⌜ Tested r ⌝ }
+{
+    eight_block_grid::self_test()
 }

@@ -14,5 +14,4 @@ pub mod Least
 pub mod Boards
 pub mod Single
 pub mod Demands
-pub mod Grid
 pub mod Counts

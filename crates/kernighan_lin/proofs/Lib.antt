@@ -1,5 +1,4 @@
 -- Laws of the run and the call of KL, by subject.
-pub mod Grid
 pub mod Runs
 pub mod Entries
 pub mod Unique

@@ -41,13 +41,6 @@ pub fn compute_parts_load(
     labels: &[u32],
 ) -> Place {
     let answer = imbalance::compute_parts_load(weights, labels);
-    let loads = answer.loads;
-    let at = loads.at;
-    let mut here = text::only_if(answer.number == 0, place);
-    let mut t: usize = 0;
-    while t < 16 {
-        here = text::expect(buffer, here, at[t]);
-        t += 1;
-    }
-    here
+    let done = text::only_if(answer.number == 0, place);
+    crate::refiners::expect_loads(buffer, done, answer.loads)
 }

@@ -4,10 +4,11 @@
 //
 //     CODE n a weights[n] starts[n+1] neighbours[a] arcs[a] labels[n] EXPECTED
 //
-// CODE 1 is the edge cut and 2 the lambda cut, each with one number EXPECTED; 3 is the loads, with sixteen.
-// A refiner's settings stand before what is expected of it: its own function of answers.rt reads both.
+// CODE 1 is the edge cut and 2 the lambda cut, each with one number EXPECTED; 3 is the loads, with sixteen. 4 is FM, 5 KL and
+// 6 arc-swap: EXPECTED begins with the settings then, as refiners.rt reads them, and ends with the labels left.
 // A line that is not of this form counts as one that differs.
 mod answers;
+mod refiners;
 mod tally;
 mod text;
 
@@ -79,7 +80,7 @@ fn replay_case(
     starts: &[u32],
     neighbours: &[u32],
     arc_weights: &[u32],
-    labels: &[u32],
+    labels: &mut [u32],
 ) -> Place {
     if code == 1 {
         answers::edge_cut(buffer, place, starts, neighbours, arc_weights, labels)
@@ -95,9 +96,66 @@ fn replay_case(
         )
     } else if code == 3 {
         answers::compute_parts_load(buffer, place, weights, labels)
+    } else if code == 4 {
+        refiners::fiduccia_mattheyses(
+            buffer,
+            place,
+            starts,
+            neighbours,
+            arc_weights,
+            weights,
+            labels,
+        )
+    } else if code == 5 {
+        refiners::kernighan_lin(
+            buffer,
+            place,
+            starts,
+            neighbours,
+            arc_weights,
+            weights,
+            labels,
+        )
+    } else if code == 6 {
+        refiners::arc_swap(
+            buffer,
+            place,
+            starts,
+            neighbours,
+            arc_weights,
+            weights,
+            labels,
+        )
     } else {
         text::only_if(false, place)
     }
+}
+
+// The same, of the labels that are the first n of a list.
+fn replay_front(
+    buffer: &mut [u8; 65536],
+    place: Place,
+    code: usize,
+    weights: &[u32],
+    starts: &[u32],
+    neighbours: &[u32],
+    arc_weights: &[u32],
+    labels: &mut [u32],
+    n: usize,
+) -> Place {
+    if labels.len() < n {
+        return text::only_if(false, place);
+    }
+    replay_case(
+        buffer,
+        place,
+        code,
+        weights,
+        starts,
+        neighbours,
+        arc_weights,
+        &mut labels[..n],
+    )
 }
 
 // Replays the case of one line and counts it.
@@ -126,7 +184,7 @@ fn replay_line(
         arc_weights,
         labels,
     );
-    let answered = replay_case(
+    let answered = replay_front(
         buffer,
         read,
         code,
@@ -134,7 +192,8 @@ fn replay_line(
         first(starts, n + 1),
         first(neighbours, a),
         first(arc_weights, a),
-        first(labels, n),
+        labels,
+        n,
     );
     let ended = text::expect_end(buffer, answered);
     if ended.ok {

@@ -1,7 +1,7 @@
 // How many cases of each algorithm agree and how many differ, and what is printed of it. A place of a list is an algorithm's code.
 
 // The codes of the algorithms are 1, 2, .. up to, not including, this; 0 stands for a line that names none.
-pub const CODES: usize = 4;
+pub const CODES: usize = 7;
 
 // One more at a code's place.
 pub fn raise(counts: &mut [u64; CODES], code: usize) {
@@ -22,6 +22,12 @@ fn print_name(code: usize) {
         io::write_all(1, b"lambda cut");
     } else if code == 3 {
         io::write_all(1, b"loads");
+    } else if code == 4 {
+        io::write_all(1, b"FM");
+    } else if code == 5 {
+        io::write_all(1, b"KL");
+    } else if code == 6 {
+        io::write_all(1, b"arc-swap");
     } else {
         io::write_all(1, b"no algorithm");
     }
@@ -52,5 +58,8 @@ pub fn print_tally(agreed: &[u64; CODES], differed: &[u64; CODES]) {
     print_row(agreed, differed, 1);
     print_row(agreed, differed, 2);
     print_row(agreed, differed, 3);
+    print_row(agreed, differed, 4);
+    print_row(agreed, differed, 5);
+    print_row(agreed, differed, 6);
     print_row(agreed, differed, 0);
 }

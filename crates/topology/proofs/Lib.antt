@@ -10,4 +10,3 @@ pub mod Rowsums
 pub mod Pairs
 pub mod Moves
 pub mod Unique
-pub mod Grid

@@ -1,12 +1,8 @@
 use mathlib.Core.Path.{refl}
 use Rattle.lists.specs.Fill.{table}
-use borrow.Author.Needs.{needs}
 use Rattle.arc_swap.proofs.bare_report.Statement.{statement}
 use Rattle.arc_swap.proofs.bare_report.Tie as tie
-use Rattle.arc_swap.proofs.bare_report.Reads as reads
-use Rattle.arc_swap.proofs.bare_report.Lts as lts
 
--- src/lib.rt:150:1
 returns : tie.Need-returns
 unfolding table
 returns c = refl

@@ -7,9 +7,6 @@ use Rattle.arc_swap.proofs.Taken.{Looking, begins, found, passed, nowhe
 use borrow.Author.Needs.{needs}
 use Rattle.arc_swap.proofs.turns.on_cut.Statement.{statement}
 use Rattle.arc_swap.proofs.turns.on_cut.Tie as tie
-use Rattle.arc_swap.proofs.turns.on_cut.Reads as reads
-use Rattle.arc_swap.proofs.turns.on_cut.Lts as lts
-use Rattle.lists.proofs.index.Reads as index-reads
 
 abbrev Inv-loop : tie.InvT-loop
 Inv-loop starts neighbours arc-weights labels v end e₀ e = Looking (inRows starts neighbours arc-weights) labels v end e
@@ -17,35 +14,27 @@ Inv-loop starts neighbours arc-weights labels v end e₀ e = Looking (inRows sta
 abbrev μ-loop : tie.MeasureT-loop
 μ-loop starts neighbours arc-weights labels v end e₀ e = end - e
 
--- src/turns.rt:93:35
 add-index : tie.Need-add-index Inv-loop μ-loop
 add-index c = search needs
 
--- src/turns.rt:93:28
 mul-index : tie.Need-mul-index Inv-loop μ-loop
 mul-index c = search needs
 
--- src/turns.rt:93:28
 shared-slice-read-index : tie.Need-shared-slice-read-index Inv-loop μ-loop
 shared-slice-read-index c = search needs
 
--- src/turns.rt:93:9
 index-requires : tie.Need-index-requires Inv-loop μ-loop
 index-requires c κs = search needs
 
--- src/turns.rt:94:30
 mul-index-2 : tie.Need-mul-index-2 Inv-loop μ-loop
 mul-index-2 c = search needs
 
--- src/turns.rt:94:30
 shared-slice-read-index-2 : tie.Need-shared-slice-read-index-2 Inv-loop μ-loop
 shared-slice-read-index-2 c = search needs
 
--- src/turns.rt:94:9
 index-requires-2 : tie.Need-index-requires-2 Inv-loop μ-loop
 index-requires-2 c κs = search needs
 
--- src/turns.rt:95:5
 loop-holds : tie.Need-loop-holds Inv-loop μ-loop
 loop-holds c = begins _ _ _ (c .before .before .before .before .before .before .before .before .pre .0) (c .before .before .before .before .before .before .before .before .pre .1) _ _ (c .before .before .index .ensures) (c .index2 .ensures)
 
@@ -63,51 +52,39 @@ to-vertex c =
     let l = c .before .before .before .loop in
     arc-goes (length (s .args .labels .now)) (inRows (s .args .starts .now) (s .args .neighbours .now) (s .args .arc-weights .now)) (s .pre .0) (s .args .v) (s .pre .1) (l .e) (omega (arith, c .before .before .loop-test .taken, l .inv .end-is)) (c .index3 .result) (c .index3 .ensures)
 
--- src/turns.rt:96:30
 mul-index-3 : tie.Need-mul-index-3 Inv-loop μ-loop
 mul-index-3 c = omega (arith, inside c .2)
 
--- src/turns.rt:96:30
 shared-slice-read-index-3 : tie.Need-shared-slice-read-index-3 Inv-loop μ-loop
 shared-slice-read-index-3 c = inside (c .before) .0
 
--- src/turns.rt:96:13
 index-requires-3 : tie.Need-index-requires-3 Inv-loop μ-loop
 index-requires-3 c κs = search needs
 
--- src/turns.rt:97:12
 mul-if1 : tie.Need-mul-if1 Inv-loop μ-loop
 mul-if1 c = omega (arith, to-vertex c .1)
 
--- src/turns.rt:97:12
 shared-slice-read-if1 : tie.Need-shared-slice-read-if1 Inv-loop μ-loop
 shared-slice-read-if1 c = to-vertex (c .before) .0
 
--- src/turns.rt:97:25
 mul-if1-2 : tie.Need-mul-if1-2 Inv-loop μ-loop
 mul-if1-2 c = search needs
 
--- src/turns.rt:97:25
 shared-slice-read-if1-2 : tie.Need-shared-slice-read-if1-2 Inv-loop μ-loop
 shared-slice-read-if1-2 c = search needs
 
--- src/turns.rt:98:13
 returns : tie.Need-returns Inv-loop μ-loop
 returns c = found _ _ _ _ _ (c .before .before .before .before .before .before .loop .inv) (c .before .before .before .before .before .loop-test .taken) _ (c .before .before .before .index3 .ensures) (c .if1 .taken)
 
--- src/turns.rt:100:9
 add-e : tie.Need-add-e Inv-loop μ-loop
 add-e c = search needs
 
--- src/turns.rt:95:5
 loop-less : tie.Need-loop-less Inv-loop μ-loop
 loop-less c = search needs
 
--- src/turns.rt:95:5
 loop-again : tie.Need-loop-again Inv-loop μ-loop
 loop-again c = passed _ _ _ _ _ (c .before .before .before .before .before .before .loop .inv) (c .before .before .before .before .before .loop-test .taken) _ (c .before .before .before .index3 .ensures) (c .if1 .left)
 
--- src/turns.rt:83:1
 returns-2 : tie.Need-returns-2 Inv-loop μ-loop
 returns-2 c = nowhere _ _ _ _ _ (c .before .loop .inv) (c .loop-test .left)
 

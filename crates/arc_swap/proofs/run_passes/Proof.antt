@@ -1,0 +1,62 @@
+-- `arc_swap::run_passes` meets its contract: each pass is a law of `Running`. Assumes nothing.
+mod Lts
+mod Tie
+use mathlib.Core.Path.{_∙_}
+use native.Mathlib.Omega.{arith}
+use lib.ListN.{length}
+use borrow.Author.Needs.{needs}
+use Rattle.arc_swap.specs.Inner.{settingBy}
+use Rattle.arc_swap.proofs.Running.{Running, running, room, pass-asked, goes-on, again, ends}
+use Rattle.arc_swap.proofs.run_passes.Statement.{statement}
+use Rattle.arc_swap.proofs.run_passes.Proof.Tie as tie
+
+abbrev Inv-loop : tie.InvT-loop
+Inv-loop starts neighbours arc-weights weights labels₀ stack₀ ceilings parts run₀ st₀ passes₀ labels stack run st passes =
+    Running (settingBy starts neighbours arc-weights weights (ceilings .at) parts (length stack₀)) labels₀ (st₀ .cut) passes labels stack st run
+
+abbrev μ-loop : tie.MeasureT-loop
+μ-loop starts neighbours arc-weights weights labels₀ stack₀ ceilings parts run₀ st₀ passes₀ labels stack run st passes =
+    st .cut
+
+loop-holds : tie.Need-loop-holds Inv-loop μ-loop
+loop-holds c = running _ _ _ _ _ (c .before .before .before .before .before .before .pre .0) (c .before .before .before .before .before .before .pre .1) (c .before .before .before .before .before .before .pre .2)
+
+sweep-all-requires : tie.Need-sweep-all-requires Inv-loop μ-loop
+sweep-all-requires c κs = let i = c .before .before .before .loop .inv in rw (i .ready .room) (pass-asked _ _ _ _ _ (c .before .before .before .before .before .before .before .before .before .before .pre .0) (c .before .before .before .before .before .before .before .before .before .before .pre .1) (c .before .before .before .before .before .before .before .before .before .before .pre .2) _ _ _ _ _ i)
+
+add-passes : tie.Need-add-passes Inv-loop μ-loop
+add-passes c = omega (arith, room _ _ _ _ _ (c .before .before .before .before .before .before .before .before .before .before .before .before .before .before .before .pre .0) (c .before .before .before .before .before .before .before .before .before .before .before .before .before .before .before .pre .1) (c .before .before .before .before .before .before .before .before .before .before .before .before .before .before .before .pre .2) _ _ _ _ _ (c .before .before .before .before .before .before .before .before .loop .inv))
+
+end-of-requires : tie.Need-end-of-requires Inv-loop μ-loop
+end-of-requires c κs = search needs
+
+same-length : tie.Need-same-length Inv-loop μ-loop
+same-length c = c .before .before .before .before .before .before .sweep-all .kept .1 .1 .1 .1 .0 ∙ c .before .before .before .before .before .before .before .before .before .before .loop .inv .ready .long
+
+same-length-2 : tie.Need-same-length-2 Inv-loop μ-loop
+same-length-2 c = c .before .before .before .before .before .before .sweep-all .kept .1 .1 .1 .1 .1 .0 ∙ c .before .before .before .before .before .before .before .before .before .before .loop .inv .ready .room
+
+returns : tie.Need-returns Inv-loop μ-loop
+returns c = let i = c .before .before .before .before .before .before .before .before .before .before .loop .inv in ends _ _ _ _ _ (c .before .before .before .before .before .before .before .before .before .before .before .before .before .before .before .before .before .pre .0) (c .before .before .before .before .before .before .before .before .before .before .before .before .before .before .before .before .before .pre .1) (c .before .before .before .before .before .before .before .before .before .before .before .before .before .before .before .before .before .pre .2) _ _ _ _ _ i _ _ _ _ (rw (i .ready .room) at (c .before .before .before .before .before .before .sweep-all .ensures)) _ (c .before .end-of .ensures) (c .if1 .taken)
+
+loop-less : tie.Need-loop-less Inv-loop μ-loop
+loop-less c = let i = c .before .before .before .before .before .before .before .before .before .before .loop .inv in goes-on _ _ _ _ _ (c .before .before .before .before .before .before .before .before .before .before .before .before .before .before .before .before .before .pre .0) (c .before .before .before .before .before .before .before .before .before .before .before .before .before .before .before .before .before .pre .1) (c .before .before .before .before .before .before .before .before .before .before .before .before .before .before .before .before .before .pre .2) _ _ _ _ _ i _ _ _ _ (rw (i .ready .room) at (c .before .before .before .before .before .before .sweep-all .ensures)) _ (c .before .end-of .ensures) (c .if1 .left)
+
+loop-again : tie.Need-loop-again Inv-loop μ-loop
+loop-again c = let i = c .before .before .before .before .before .before .before .before .before .before .loop .inv in again _ _ _ _ _ (c .before .before .before .before .before .before .before .before .before .before .before .before .before .before .before .before .before .pre .0) (c .before .before .before .before .before .before .before .before .before .before .before .before .before .before .before .before .before .pre .1) (c .before .before .before .before .before .before .before .before .before .before .before .before .before .before .before .before .before .pre .2) _ _ _ _ _ i _ _ _ _ (rw (i .ready .room) at (c .before .before .before .before .before .before .sweep-all .ensures)) _ (c .before .end-of .ensures) (c .if1 .left)
+
+pub run-passes-spec : {M : Type 1} → statement M
+run-passes-spec =
+    tie.close
+    (tie.spec
+    Inv-loop
+    μ-loop
+    loop-holds
+    sweep-all-requires
+    add-passes
+    end-of-requires
+    same-length
+    same-length-2
+    returns
+    loop-less
+    loop-again)

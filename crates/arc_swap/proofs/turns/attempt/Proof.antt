@@ -1,0 +1,69 @@
+use mathlib.Core.Logic.{_⊎_, ⊎-elim}
+use mathlib.Core.Path.{_≡_, sym, _∙_}
+use Prim.Native.Nat.{ℕ}
+use native.Mathlib.Omega.{arith}
+use denote.Enum.Declared.{tagOf, declared}
+use Rattle.arc_swap_attempt.specs.declared.Trial.{Trial}
+use Rattle.arc_swap_attempt.specs.declared.Trial.the-variants.{Goes}
+use Rattle.arc_swap_attempt.proofs.Trial.{enum}
+use Rattle.arc_swap.proofs.Drains.{tryable, move-asked, attempt-stays, attempt-goes}
+use borrow.Author.Needs.{needs}
+use Rattle.arc_swap.proofs.turns.attempt.Statement.{statement}
+use Rattle.arc_swap.proofs.turns.attempt.Tie as tie
+
+-- a trial that is one of the first two outcomes does not go
+not-goes : (tr : Trial) → (_≡_ {A = ℕ} (tagOf (declared enum) tr) 0) ⊎ (_≡_ {A = ℕ} (tagOf (declared enum) tr) 1) → (t x : ℕ) → tr ≡ Goes t x → ⊥
+not-goes tr h t x e = ⊎-elim (λ w. let q = rw e at w in omega arith) (λ w. let q = rw e at w in omega arith) h
+
+sub-top : tie.Need-sub-top
+sub-top c = search needs
+
+mul-index : tie.Need-mul-index
+mul-index c = search needs
+
+slice-read-index : tie.Need-slice-read-index
+slice-read-index c = search needs
+
+index-requires : tie.Need-index-requires
+index-requires c κs = search needs
+
+try-vertex-requires : tie.Need-try-vertex-requires
+try-vertex-requires c κs = tryable _ _ _ _ (c .before .before .before .before .before .before .before .before .before .before .before .pre) _ (c .before .before .index .ensures)
+
+enum-known-trial : tie.Need-enum-known-trial
+enum-known-trial c = search needs
+
+same-length : tie.Need-same-length
+same-length c = search needs
+
+returns : tie.Need-returns
+returns c = attempt-stays _ _ _ _ (c .before .before .before .before .before .before .before .before .before .before .before .before .before .pre) _ (c .before .before .before .before .index .ensures) _ (c .before .try-vertex .ensures) (not-goes _ (c .match .keys2))
+
+move-vertex-requires : tie.Need-move-vertex-requires
+move-vertex-requires c κs = move-asked _ _ _ _ (c .before .before .before .before .before .before .before .before .before .before .before .before .before .before .before .before .before .pre) _ (c .before .before .before .before .before .before .before .before .index .ensures) _ _ _ (c .before .before .before .before .before .try-vertex .ensures) (c .before .before .before .trial .given .1)
+
+same-length-2 : tie.Need-same-length-2
+same-length-2 c = search needs
+
+same-length-3 : tie.Need-same-length-3
+same-length-3 c = search needs
+
+returns-2 : tie.Need-returns-2
+returns-2 c = attempt-goes _ _ _ _ (c .before .before .before .before .before .before .before .before .before .before .before .before .before .before .before .before .before .before .before .before .before .before .pre) _ (c .before .before .before .before .before .before .before .before .before .before .before .before .before .index .ensures) _ _ (sym (c .before .before .before .before .before .before .before .before .trial .given .1) ∙ c .before .before .before .before .before .before .before .before .before .before .try-vertex .ensures) _ _ _ (c .before .before .before .before .move-vertex .ensures)
+
+pub attempt-spec : {M : Type 1} → statement M
+attempt-spec =
+    tie.close
+    (tie.spec
+    sub-top
+    mul-index
+    slice-read-index
+    index-requires
+    try-vertex-requires
+    enum-known-trial
+    same-length
+    returns
+    move-vertex-requires
+    same-length-2
+    same-length-3
+    returns-2)

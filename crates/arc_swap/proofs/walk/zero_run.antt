@@ -1,0 +1,3 @@
+-- Made by tools/walkgen.py: do not edit.
+pub mod Kinds
+pub mod Reads

@@ -1,0 +1,129 @@
+-- What the calls promise is what the rows compare. Assumes nothing.
+use mathlib.Core.Path.{_≡_, refl, ap, ap₂, subst, _∙_}
+use mathlib.Core.Bool.{Bool, true, false, _&&_}
+use mathlib.Core.List.{List, [], _∷_}
+use Prim.Native.Nat.{ℕ, _<_}
+use native.Mathlib.Omega.{arith}
+use lib.IntN.{ℤ}
+use lib.Dec.{ltb}
+use lib.ListN.{getD, List·getD-eq-default}
+use borrow.Author.Tests.{ltb-true, ltb-false}
+use Rattle.lists.specs.All.{some}
+use Rattle.lists.specs.Fill.{written, table}
+use Rattle.imbalance.specs.Limit.{labelAbove}
+use Rattle.imbalance.specs.Load.{part}
+use Rattle.imbalance.proofs.Limits.{label-most}
+use Rattle.topology.specs.Rule.{Rows}
+use Rattle.topology.proofs.Numbers as Numbers
+use Rattle.fiduccia_mattheyses_pass.specs.Standing.{freshGains}
+use Rattle.eight_block_grid.proofs.Cuts as Cuts
+use Rattle.eight_block_grid.specs.TenRows.{gainsInA, eightGains}
+use lib.Ieee.{Float, binary64, ofBits}
+use Rattle.imbalance.specs.Number.{loadsAnswer}
+use Rattle.imbalance.specs.declared.LoadsAnswer.{LoadsAnswer}
+use Rattle.topology.specs.Number.{edgeCutAnswer, lambdaCutAnswer}
+use Rattle.topology.specs.declared.CutAnswer.{CutAnswer}
+use Rattle.topology.specs.EightBlockGrid.{grid, ones, A}
+use Rattle.fiduccia_mattheyses.specs.Entry as FM
+use Rattle.fiduccia_mattheyses.specs.declared.Report as FMReport
+use Rattle.fiduccia_mattheyses_moves.specs.Own.{Lists, RefinedWith}
+use Rattle.kernighan_lin.specs.Entry as KL
+use Rattle.kernighan_lin.specs.declared.Report as KLReport
+use Rattle.arc_swap.specs.Entry as Swap
+use Rattle.arc_swap.specs.declared.Report as SwapReport
+use Rattle.eight_block_grid.specs.Inputs.{noGains, quarter, fmPlan, fmLists, fmLent, klPlan, klLent, swapPlan, swapLent}
+use Rattle.eight_block_grid.specs.SelfTest.{same, sameGains, row3, cutsSeen, loadsSeen, klSeen, swapSeen, cutsGive, loadsGive, fmGives, klGives, swapGives}
+
+-- 0.25, as the code has it
+pub quarter-is : ofBits binary64 0x3fd0_0000_0000_0000 ≡ quarter
+unfolding ofBits
+quarter-is = refl
+
+-- the grid is in order, and A has two parts: what the gains' function asks
+pub grid-rows : Rows 8 grid
+grid-rows = Numbers.sound 8 ones grid Cuts.sound .rows
+
+pub two-parts : (v : ℕ) → part A v < 2
+unfolding labelAbove some
+two-parts v = go (ltb v 8) refl
+  where
+    go : (t : Bool) → ltb v 8 ≡ t → part A v < 2
+    go true t = let h = label-most 1 A refl v (ltb-true v 8 t) in omega arith
+    go false t = rw (List·getD-eq-default A 0 {n = v} (ltb-false v 8 t)) (omega arith)
+
+-- the gains of a list of zeros, written one by one, are those of row 3
+pub gains-are : freshGains grid A (noGains 8) ≡ gainsInA
+unfolding written table
+gains-are = refl
+
+pub gains-compared : (gains : List ℤ) (b : Bool) → gains ≡ freshGains grid A (noGains 8) → b ≡ sameGains gains eightGains → b ≡ row3
+gains-compared gains b e s = s ∙ ap (λ (gs : List ℤ). sameGains gs eightGains) (e ∙ gains-are)
+
+pub cuts-give : (labels numbers : List ℕ) (edge lambda : CutAnswer) (b : Bool) → edge ≡ edgeCutAnswer grid labels → lambda ≡ lambdaCutAnswer grid ones labels → b ≡ same (cutsSeen edge lambda) numbers → b ≡ cutsGive labels numbers
+unfolding cutsGive
+cuts-give labels numbers edge lambda b e l s = s ∙ ap₂ (λ (x y : CutAnswer). same (cutsSeen x y) numbers) e l
+
+pub loads-give : (numbers : List ℕ) (r : LoadsAnswer) (b : Bool) → r ≡ loadsAnswer ones A → b ≡ same (loadsSeen r) numbers → b ≡ loadsGive numbers
+unfolding loadsGive
+loads-give numbers r b e s = s ∙ ap (λ (x : LoadsAnswer). same (loadsSeen x) numbers) e
+
+-- FM's plan with the imbalance e
+abbrev fmPlanBy : ℕ → ℕ → Float → FM.Plan
+fmPlanBy choice bad e =
+    record {
+      starts = grid .starts;
+      neighbours = grid .neighbours;
+      arcs = grid .weights;
+      weights = ones;
+      settings = record { passes = 64; moves = 8; bad = bad; choice = choice; whole = 0; imbalance = e };
+    }
+
+pub fm-gives : (choice bad : ℕ) (labels numbers : List ℕ) (e : Float) (r : FMReport.Report) (k : Lists) (m₀ r₀ m₁ r₁ : ℕ) (x y b : Bool) →
+    e ≡ quarter → RefinedWith 8 (fmPlanBy choice bad e) fmLists r k →
+    m₀ ≡ getD (k .made) 0 0 → r₀ ≡ getD (k .rewound) 0 0 → m₁ ≡ getD (k .made) 1 0 → r₁ ≡ getD (k .rewound) 1 0 →
+    x ≡ same (k .labels) labels → y ≡ same (r .number ∷ r .end ∷ r .passes ∷ r .first ∷ r .last ∷ m₀ ∷ r₀ ∷ m₁ ∷ r₁ ∷ []) numbers →
+    b ≡ (x && y) → b ≡ fmGives choice bad labels numbers
+unfolding fmGives
+fm-gives choice bad labels numbers e r k m₀ r₀ m₁ r₁ x y b q h a₀ b₀ a₁ b₁ s t j =
+    let g : RefinedWith 8 (fmPlan choice bad) fmLists r k = subst (λ (z : Float). RefinedWith 8 (fmPlanBy choice bad z) fmLists r k) q h in
+    j
+    ∙ ap₂ _&&_
+    (s ∙ ap (λ (ls : List ℕ). same ls labels) (g .labels))
+    (t ∙ ap (λ (ns : List ℕ). same ns numbers)
+    (λ i. g .answered i .number ∷ g .answered i .end ∷ g .answered i .passes ∷ g .answered i .first ∷ g .answered i .last
+    ∷ (a₀ ∙ ap (λ (ms : List ℕ). getD ms 0 0) (g .made)) i ∷ (b₀ ∙ ap (λ (ms : List ℕ). getD ms 0 0) (g .rewound)) i
+    ∷ (a₁ ∙ ap (λ (ms : List ℕ). getD ms 1 0) (g .made)) i ∷ (b₁ ∙ ap (λ (ms : List ℕ). getD ms 1 0) (g .rewound)) i ∷ []))
+
+pub kl-gives : (start : List ℕ) (swaps bad : ℕ) (labels numbers : List ℕ) (r : KLReport.Report) (k : KL.Lent) (x y b : Bool) →
+    KL.Refined (klPlan swaps bad) (klLent start) r k → x ≡ same (k .labels) labels → y ≡ same (klSeen r) numbers →
+    b ≡ (x && y) → b ≡ klGives start swaps bad labels numbers
+unfolding klGives
+kl-gives start swaps bad labels numbers r k x y b g s t j =
+    j
+    ∙ ap₂ _&&_
+    (s ∙ ap (λ (ls : List ℕ). same ls labels) (g .labels))
+    (t ∙ ap (λ (z : KLReport.Report). same (klSeen z) numbers) (g .answered))
+
+-- arc-swap's plan with the imbalance e
+abbrev swapPlanBy : Float → Swap.Plan
+swapPlanBy e =
+    record {
+      starts = grid .starts;
+      neighbours = grid .neighbours;
+      arcs = grid .weights;
+      weights = ones;
+      settings = record { choice = 2; whole = 0; imbalance = e };
+    }
+
+pub swap-gives : (labels numbers : List ℕ) (e : Float) (r : SwapReport.Report) (k : Swap.Lent) (x y b : Bool) →
+    e ≡ quarter → Swap.Swapped (swapPlanBy e) swapLent r k → x ≡ same (k .labels) labels → y ≡ same (swapSeen r k) numbers →
+    b ≡ (x && y) → b ≡ swapGives labels numbers
+unfolding swapGives
+swap-gives labels numbers e r k x y b q h s t j =
+    let g : Swap.Swapped swapPlan swapLent r k = subst (λ (z : Float). Swap.Swapped (swapPlanBy z) swapLent r k) q h in
+    j
+    ∙ ap₂ _&&_
+    (s ∙ ap (λ (ls : List ℕ). same ls labels) (g .labels))
+    (t ∙ ap (λ (ns : List ℕ). same ns numbers)
+    (λ i. g .answered i .number ∷ g .answered i .end ∷ g .answered i .passes ∷ g .answered i .first ∷ g .answered i .last
+    ∷ g .run i .attempts ∷ g .run i .moves ∷ g .run i .«no_gain» ∷ g .run i .«bad_balance» ∷ []))

@@ -1,0 +1,74 @@
+-- `eight_block_grid::swap_gives` meets its contract. Assumes nothing.
+use borrow.Author.Needs.{needs}
+use Rattle.eight_block_grid.proofs.Gives.{quarter-is, swap-gives}
+use Rattle.eight_block_grid.proofs.swap_gives.Statement.{statement}
+use Rattle.eight_block_grid.proofs.swap_gives.Tie as tie
+
+slice-aggregate-arc-swap-counted : tie.Need-slice-aggregate-arc-swap-counted
+slice-aggregate-arc-swap-counted c = search needs
+
+slice-aggregate-arc-swap-counted-2 : tie.Need-slice-aggregate-arc-swap-counted-2
+slice-aggregate-arc-swap-counted-2 c = search needs
+
+slice-aggregate-arc-swap-counted-3 : tie.Need-slice-aggregate-arc-swap-counted-3
+slice-aggregate-arc-swap-counted-3 c = search needs
+
+slice-aggregate-arc-swap-counted-4 : tie.Need-slice-aggregate-arc-swap-counted-4
+slice-aggregate-arc-swap-counted-4 c = search needs
+
+slice-aggregate-arc-swap-counted-5 : tie.Need-slice-aggregate-arc-swap-counted-5
+slice-aggregate-arc-swap-counted-5 c = search needs
+
+slice-aggregate-arc-swap-counted-6 : tie.Need-slice-aggregate-arc-swap-counted-6
+slice-aggregate-arc-swap-counted-6 c = search needs
+
+arc-swap-counted-requires : tie.Need-arc-swap-counted-requires
+arc-swap-counted-requires c κs = search needs
+
+cast-t27 : tie.Need-cast-t27
+cast-t27 c = search needs
+
+cast-t28 : tie.Need-cast-t28
+cast-t28 c = search needs
+
+cast-t29 : tie.Need-cast-t29
+cast-t29 c = search needs
+
+slice-aggregate-same-labels : tie.Need-slice-aggregate-same-labels
+slice-aggregate-same-labels c = search needs
+
+same-labels-requires : tie.Need-same-labels-requires
+same-labels-requires c κs = search needs
+
+slice-aggregate-same-numbers : tie.Need-slice-aggregate-same-numbers
+slice-aggregate-same-numbers c = search needs
+
+same-numbers-requires : tie.Need-same-numbers-requires
+same-numbers-requires c κs = search needs
+
+both-requires : tie.Need-both-requires
+both-requires c κs = search needs
+
+returns : tie.Need-returns
+returns c = swap-gives _ _ _ _ _ _ _ _ quarter-is (c .before .before .before .before .before .before .before .before .before .before .before .before .arc-swap-counted .ensures) (c .before .before .before .same-labels .ensures) (c .before .same-numbers .ensures) (c .both .ensures)
+
+pub swap-gives-spec : {M : Type 1} → statement M
+swap-gives-spec =
+    tie.close
+    (tie.spec
+    slice-aggregate-arc-swap-counted
+    slice-aggregate-arc-swap-counted-2
+    slice-aggregate-arc-swap-counted-3
+    slice-aggregate-arc-swap-counted-4
+    slice-aggregate-arc-swap-counted-5
+    slice-aggregate-arc-swap-counted-6
+    arc-swap-counted-requires
+    cast-t27
+    cast-t28
+    cast-t29
+    slice-aggregate-same-labels
+    same-labels-requires
+    slice-aggregate-same-numbers
+    same-numbers-requires
+    both-requires
+    returns)

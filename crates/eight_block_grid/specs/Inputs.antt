@@ -1,0 +1,70 @@
+-- What the rows of the eight-block grid are run on, and the lists as the self-test lends them (document 01, "The eight-block grid").
+use mathlib.Core.Bool.{false}
+use mathlib.Core.List.{List}
+use Prim.Native.Nat.{ℕ}
+use lib.IntN.{ℤ, pos, negsuc}
+use lib.ListN.{replicate}
+use lib.Ieee.{Float, fin}
+use Rattle.topology.specs.EightBlockGrid.{grid, ones, A}
+use Rattle.fiduccia_mattheyses.specs.Entry as FM
+use Rattle.fiduccia_mattheyses_moves.specs.Own.{Lists, lentWith}
+use Rattle.kernighan_lin.specs.Entry as KL
+use Rattle.arc_swap.specs.Entry as Swap
+
+-- m zeros, as numbers and as gains
+abbrev pub zeros : ℕ → List ℕ
+zeros m = replicate m 0
+
+abbrev pub noGains : ℕ → List ℤ
+noGains m = replicate m (pos 0)
+
+-- "e = 0.25", which is 1 times 2 to the power -2
+abbrev pub quarter : Float
+quarter = fin false 1 (negsuc 1)
+
+-- FM: "P = 64, moves 8", by the ceiling's choice and the bad limit
+abbrev pub fmPlan : ℕ → ℕ → FM.Plan
+fmPlan choice bad =
+    record {
+      starts = grid .starts;
+      neighbours = grid .neighbours;
+      arcs = grid .weights;
+      weights = ones;
+      settings = record { passes = 64; moves = 8; bad = bad; choice = choice; whole = 0; imbalance = quarter };
+    }
+
+-- FM on A: eight gains, and two row lists of 64; the function itself adds eight move records
+abbrev pub fmLists : Lists
+fmLists = record { labels = A; gains = noGains 8; made = zeros 64; rewound = zeros 64 }
+
+abbrev pub fmLent : FM.Lent
+fmLent = lentWith 8 fmLists
+
+-- KL: "P 1", by the swap limit and the bad limit
+abbrev pub klPlan : ℕ → ℕ → KL.Plan
+klPlan swaps bad =
+    record {
+      starts = grid .starts;
+      neighbours = grid .neighbours;
+      arcs = grid .weights;
+      weights = ones;
+      settings = record { passes = 1; swaps = swaps; bad = bad };
+    }
+
+-- KL on labels: eight gains, eight locks and four swaps
+abbrev pub klLent : List ℕ → KL.Lent
+klLent labels = record { labels = labels; gains = noGains 8; locks = zeros 8; swaps = zeros 4 }
+
+-- "Arc-swap on A, e = 0.25, stack 8"
+abbrev pub swapPlan : Swap.Plan
+swapPlan =
+    record {
+      starts = grid .starts;
+      neighbours = grid .neighbours;
+      arcs = grid .weights;
+      weights = ones;
+      settings = record { choice = 2; whole = 0; imbalance = quarter };
+    }
+
+abbrev pub swapLent : Swap.Lent
+swapLent = record { labels = A; stack = zeros 8; run = Swap.noCounts }

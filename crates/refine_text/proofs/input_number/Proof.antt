@@ -1,0 +1,27 @@
+-- `refine_text::input_number` meets its contract: each way out is one law of the number. Assumes nothing.
+use native.Mathlib.Omega.{arith}
+use Rattle.refine_text.proofs.Judged.{judged-low, whole-header, judged-beyond, judged-within, many-vertices, many-arcs}
+use Rattle.refine_text.proofs.input_number.Statement.{statement}
+use Rattle.refine_text.proofs.input_number.Tie as tie
+
+returns : tie.Need-returns
+returns c = judged-low _ _ (c .before .before .pre .0) (c .before .before .pre .1) (omega (arith, c .if1 .taken)) (c .before .before .pre .2)
+
+word-at-requires : tie.Need-word-at-requires
+word-at-requires c κs = omega (arith, whole-header _ _ (c .before .before .pre .0) (c .before .before .pre .1) (c .if1 .left))
+
+returns-2 : tie.Need-returns-2
+returns-2 c = judged-beyond _ _ (c .before .before .before .before .pre .0) (c .before .before .before .before .pre .1) (c .before .before .if1 .left) (many-vertices _ _ (c .before .word-at .ensures) (c .if2 .taken))
+
+word-at-requires-2 : tie.Need-word-at-requires-2
+word-at-requires-2 c κs = omega (arith, whole-header _ _ (c .before .before .before .before .pre .0) (c .before .before .before .before .pre .1) (c .before .before .if1 .left))
+
+returns-3 : tie.Need-returns-3
+returns-3 c = judged-beyond _ _ (c .before .before .before .before .before .before .pre .0) (c .before .before .before .before .before .before .pre .1) (c .before .before .before .before .if1 .left) (many-arcs _ _ (c .before .word-at2 .ensures) (c .if3 .taken))
+
+returns-4 : tie.Need-returns-4
+returns-4 c = judged-within _ _ (c .before .before .before .before .before .before .pre .0) (c .before .before .before .before .before .before .pre .1) (c .before .before .before .before .if1 .left) _ _ (c .before .before .before .word-at .ensures) (c .before .before .if2 .left) (c .before .word-at2 .ensures) (c .if3 .left)
+
+pub input-number-spec : {M : Type 1} → statement M
+input-number-spec =
+    tie.close (tie.spec returns word-at-requires returns-2 word-at-requires-2 returns-3 returns-4)

@@ -1,0 +1,102 @@
+// All of the refine program but reading and writing: one function from the input's bytes to the output's. Document 01, the end of "The eight-block grid".
+mod runs; // runs.rt: a run of FM and a run of arc-swap, as lines
+
+use plan::ReadAnswer;
+use plan_blocks::words;
+use refine_words::lines;
+ghost use mathlib.Core.Path.{_≡_};
+ghost use mathlib.Core.Bool.{false};
+ghost use Prim.Native.Nat.{_≤_};
+ghost use lib.ListN.{length};
+ghost use Rattle.imbalance.specs.Limit.{labelAbove};
+ghost use Rattle.plan.specs.Read.{numberFor};
+ghost use Rattle.refine_words.specs.Inner.{Put};
+ghost use Rattle.refine_text.specs.Refine.{inputNumber, runText, Printed};
+
+// The number of an input that the reader refuses by `number`: a header beyond the program's limits is 12, ahead of 13 and 14 and in place of 15.
+fn input_number(input: &[u8], number: u32) -> u32
+    requires { ⌜ (length (now input) ≤ 22016) × (number ≡ numberFor (now input) 512 512 513 2048 2048) × (number ≡ 0 → ⊥) ⌝ }
+    ensures { λ r. ⌜ r ≡ inputNumber (now (input .entry)) ⌝ }
+{
+    if number <= 12 {
+        return number;
+    }
+    if words::word_at(input, 1) > 512 {
+        return 12;
+    }
+    if words::word_at(input, 2) > 2048 {
+        return 12;
+    }
+    number
+}
+
+// The run that the header asks for, on lists of their exact lengths.
+fn refine_lists(
+    read: ReadAnswer,
+    starts: &[u32],
+    neighbours: &[u32],
+    arc_weights: &[u32],
+    weights: &[u32],
+    labels: &mut [u32],
+    out: &mut [u8],
+) -> usize
+    requires { ⌜ (length (now labels) ≤ 512) × (labelAbove 15 (now labels) ≡ false) × (16384 ≤ length (now out)) ⌝ }
+    ensures { λ r. ⌜ Put (runText read (now (starts .entry)) (now (neighbours .entry)) (now («arc_weights» .entry)) (now (weights .entry)) (now (labels .entry))) 16384 0 (now (out .entry)) (now (out .exit)) r ⌝ }
+{
+    let choice = read.choice;
+    let whole = read.whole;
+    let imbalance = read.imbalance;
+    if read.k == 2 {
+        let s = fiduccia_mattheyses::Settings {
+            passes: 64,
+            moves: read.n,
+            bad: 0,
+            choice,
+            whole,
+            imbalance,
+        };
+        return runs::refine_two(starts, neighbours, arc_weights, weights, labels, s, out);
+    }
+    let s = arc_swap::Settings {
+        choice,
+        whole,
+        imbalance,
+    };
+    runs::refine_many(starts, neighbours, arc_weights, weights, labels, s, out)
+}
+
+// The text of an input, at the start of the output; its length.
+pub fn refine_text(input: &[u8], output: &mut [u8; 16384]) -> usize
+    ensures { λ r. ⌜ Printed (now (input .entry)) (now (output .entry)) r (now (output .exit)) ⌝ }
+{
+    if input.len() > 22016 {
+        return lines::put_refusal(output, 12);
+    }
+    let mut labels = [0u32; 512];
+    let mut weights = [0u32; 512];
+    let mut starts = [0u32; 513];
+    let mut neighbours = [0u32; 2048];
+    let mut arc_weights = [0u32; 2048];
+    let read = plan::read_plan(
+        input,
+        &mut labels,
+        &mut weights,
+        &mut starts,
+        &mut neighbours,
+        &mut arc_weights,
+    );
+    if read.number != 0 {
+        return lines::put_refusal(output, input_number(input, read.number));
+    }
+    let n = lists::index(read.n);
+    let a = lists::index(read.a);
+    refine_lists(
+        read,
+        &starts[..n + 1],
+        &neighbours[..a],
+        &arc_weights[..a],
+        &weights[..n],
+        &mut labels[..n],
+        output,
+    )
+}

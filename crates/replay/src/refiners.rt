@@ -1,0 +1,267 @@
+// One function a refiner: reads its settings, calls the library, and holds its report and the labels that it leaves to the rest of the line.
+use crate::text;
+use crate::text::Place;
+use arc_swap::RunRecord;
+use imbalance::Loads;
+
+// A number of the line that fits 32 bits, and the place past it.
+struct Setting {
+    value: u32,
+    place: Place,
+}
+
+fn read_setting(buffer: &mut [u8; 65536], place: Place) -> Setting {
+    let read = text::read_number(buffer, place);
+    let value = read.value;
+    if 4294967295 < value {
+        let after = text::only_if(false, read.place);
+        return Setting {
+            value: 0,
+            place: after,
+        };
+    }
+    let after = read.place;
+    Setting {
+        value: value as u32,
+        place: after,
+    }
+}
+
+// How a ceiling is set: the choice, the whole number, and the imbalance by its bits; and the place past them.
+struct Ceiling {
+    choice: u32,
+    whole: u32,
+    imbalance: f64,
+    place: Place,
+}
+
+// The number of these bits. The list has no NaN, and the pattern of one is no number that `from_bits` takes: 0 then.
+fn imbalance_of(bits: u64) -> f64 {
+    let low = bits % 0x8000_0000_0000_0000;
+    if 0x7ff0_0000_0000_0000 < low {
+        return 0.0;
+    }
+    f64::from_bits(bits)
+}
+
+fn read_ceiling(buffer: &mut [u8; 65536], place: Place) -> Ceiling {
+    let choice = read_setting(buffer, place);
+    let whole = read_setting(buffer, choice.place);
+    let bits = text::read_number(buffer, whole.place);
+    let after = bits.place;
+    Ceiling {
+        choice: choice.value,
+        whole: whole.value,
+        imbalance: imbalance_of(bits.value),
+        place: after,
+    }
+}
+
+// What every report has: the number, the end, the passes and the two cuts.
+fn expect_report(
+    buffer: &mut [u8; 65536],
+    place: Place,
+    number: u32,
+    end: u32,
+    passes: u32,
+    first: u64,
+    last: u64,
+) -> Place {
+    let after_number = text::expect(buffer, place, lists::wide(number));
+    let after_end = text::expect(buffer, after_number, lists::wide(end));
+    let after_passes = text::expect(buffer, after_end, lists::wide(passes));
+    let after_first = text::expect(buffer, after_passes, first);
+    text::expect(buffer, after_first, last)
+}
+
+// All the elements of a list.
+fn expect_list(buffer: &mut [u8; 65536], place: Place, list: &[u32]) -> Place {
+    let mut here = place;
+    let mut i: usize = 0;
+    while i < list.len() {
+        here = text::expect(buffer, here, lists::wide(list[i]));
+        i += 1;
+    }
+    here
+}
+
+// The loads of all parts.
+pub fn expect_loads(buffer: &mut [u8; 65536], place: Place, loads: Loads) -> Place {
+    let at = loads.at;
+    let mut here = place;
+    let mut t: usize = 0;
+    while t < 16 {
+        here = text::expect(buffer, here, at[t]);
+        t += 1;
+    }
+    here
+}
+
+// The moves made and rewound in each of the first `passes` passes.
+fn expect_rows(
+    buffer: &mut [u8; 65536],
+    place: Place,
+    made: &[u32],
+    rewound: &[u32],
+    passes: u32,
+) -> Place {
+    let count = lists::index(passes);
+    let mut here = place;
+    let mut i: usize = 0;
+    while i < count {
+        if made.len() <= i {
+            return text::only_if(false, here);
+        }
+        if rewound.len() <= i {
+            return text::only_if(false, here);
+        }
+        here = text::expect(buffer, here, lists::wide(made[i]));
+        here = text::expect(buffer, here, lists::wide(rewound[i]));
+        i += 1;
+    }
+    here
+}
+
+// Settings: passes, moves, bad, the ceiling. No graph of more than 512 vertices is replayed.
+pub fn fiduccia_mattheyses(
+    buffer: &mut [u8; 65536],
+    place: Place,
+    starts: &[u32],
+    neighbours: &[u32],
+    arc_weights: &[u32],
+    weights: &[u32],
+    labels: &mut [u32],
+) -> Place {
+    let passes = read_setting(buffer, place);
+    let moves = read_setting(buffer, passes.place);
+    let bad = read_setting(buffer, moves.place);
+    let ceiling = read_ceiling(buffer, bad.place);
+    let settings = fiduccia_mattheyses::Settings {
+        passes: passes.value,
+        moves: moves.value,
+        bad: bad.value,
+        choice: ceiling.choice,
+        whole: ceiling.whole,
+        imbalance: ceiling.imbalance,
+    };
+    let mut gains = [7i64; 512];
+    let mut made = [7u32; 1024];
+    let mut rewound = [7u32; 1024];
+    let r = fiduccia_mattheyses_moves::with_512_moves(
+        starts,
+        neighbours,
+        arc_weights,
+        weights,
+        labels,
+        &mut gains,
+        &mut made,
+        &mut rewound,
+        settings,
+    );
+    let told = expect_report(
+        buffer,
+        ceiling.place,
+        r.number,
+        r.end,
+        r.passes,
+        r.first,
+        r.last,
+    );
+    let after_loads = expect_loads(buffer, told, r.loads);
+    let after_rows = expect_rows(buffer, after_loads, &made, &rewound, r.passes);
+    expect_list(buffer, after_rows, labels)
+}
+
+// Settings: passes, swaps, bad.
+pub fn kernighan_lin(
+    buffer: &mut [u8; 65536],
+    place: Place,
+    starts: &[u32],
+    neighbours: &[u32],
+    arc_weights: &[u32],
+    weights: &[u32],
+    labels: &mut [u32],
+) -> Place {
+    let passes = read_setting(buffer, place);
+    let most = read_setting(buffer, passes.place);
+    let bad = read_setting(buffer, most.place);
+    let settings = kernighan_lin::Settings {
+        passes: passes.value,
+        swaps: most.value,
+        bad: bad.value,
+    };
+    let mut gains = [7i64; 4096];
+    let mut locks = [7u8; 4096];
+    let mut swaps = [7u32; 2048];
+    let r = kernighan_lin::kernighan_lin(
+        starts,
+        neighbours,
+        arc_weights,
+        weights,
+        labels,
+        &mut gains,
+        &mut locks,
+        &mut swaps,
+        settings,
+    );
+    let told = expect_report(
+        buffer,
+        bad.place,
+        r.number,
+        r.end,
+        r.passes,
+        r.first,
+        r.last,
+    );
+    expect_list(buffer, told, labels)
+}
+
+fn expect_counts(buffer: &mut [u8; 65536], place: Place, run: RunRecord) -> Place {
+    let after_attempts = text::expect(buffer, place, run.attempts);
+    let after_moves = text::expect(buffer, after_attempts, run.moves);
+    let after_no_gain = text::expect(buffer, after_moves, run.no_gain);
+    text::expect(buffer, after_no_gain, run.bad_balance)
+}
+
+// Settings: the ceiling, and the length of the stack, at most 65,535.
+pub fn arc_swap(
+    buffer: &mut [u8; 65536],
+    place: Place,
+    starts: &[u32],
+    neighbours: &[u32],
+    arc_weights: &[u32],
+    weights: &[u32],
+    labels: &mut [u32],
+) -> Place {
+    let ceiling = read_ceiling(buffer, place);
+    let room = text::read_count(buffer, ceiling.place, 65535);
+    let length = room.value;
+    let settings = arc_swap::Settings {
+        choice: ceiling.choice,
+        whole: ceiling.whole,
+        imbalance: ceiling.imbalance,
+    };
+    let mut stack = [7u32; 65535];
+    let answer = arc_swap::arc_swap_counted(
+        starts,
+        neighbours,
+        arc_weights,
+        weights,
+        labels,
+        &mut stack[..length],
+        settings,
+    );
+    let r = answer.report;
+    let told = expect_report(
+        buffer,
+        room.place,
+        r.number,
+        r.end,
+        r.passes,
+        r.first,
+        r.last,
+    );
+    let after_loads = expect_loads(buffer, told, r.loads);
+    let counted = expect_counts(buffer, after_loads, answer.run);
+    expect_list(buffer, counted, labels)
+}
