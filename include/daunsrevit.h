@@ -20,6 +20,10 @@
  * WHAT IS PROMISED. Every function answers every input: where one of these rules is broken, the answer has its number (below)
  * and zeros, and nothing is written anywhere. Each promise is proved of the library's source, which states it in full.
  *
+ * STACK. Nothing is on the heap. The most stack that a call takes below the caller's frame, in bytes, measured (docs/SPEED.md):
+ *
+ *     loads 304, edge cut 256, lambda cut 272, FM 976, KL 464, arc-swap 1,152, reading a plan 112, writing one 112, self-test 2,112
+ *
  * WHAT C MUST SEE TO. Nothing can prove this of the caller, and without it nothing is promised:
  *   - a pointer points to as many elements as its count says, properly aligned; it may be null only if the count is 0;
  *   - no two lists overlap;
@@ -264,10 +268,10 @@ struct daunsrevit_kernighan_lin_report daunsrevit_kernighan_lin(
  *     run                         one record, not null
  *
  * Done: number 0, the labels are refined, and the run record holds the counts. Where the vertices to be pushed have no place on the
- * stack the run ends with 2, with the labels reached so far, none of which raised the cut: lend more, and call again. A stack as long
- * as there are arcs is seldom too short. Without vertices, whatever the other lists and the settings: number 0, end 3, all else 0, and
- * nothing is written but the run record, which is zeroed. Else number is the smallest of 1 to 7 that applies (5 for either weight
- * sum), and the report is otherwise 0. */
+ * stack the run ends with 2, with the labels reached so far, by moves that each lowered the cut: lend more, and call again. No length
+ * is proved to be enough, as the stack keeps repeats; 65,535 places were for every graph on which the library was held to coupe.
+ * Without vertices, whatever the other lists and the settings: number 0, end 3, all else 0, and nothing is written but the run record,
+ * which is zeroed. Else number is the smallest of 1 to 7 that applies (5 for either weight sum), and the report is otherwise 0. */
 struct daunsrevit_arc_swap_report daunsrevit_arc_swap(
     const uint32_t *starts, size_t starts_count,
     const uint32_t *neighbours, size_t neighbours_count,

@@ -193,12 +193,7 @@ static void refusals(void)
 {
     graph_refusals();
     AFTER(c.l.labels[4] = 16, 6);
-    AFTER(c.s.choice = 3, 7);
-    AFTER(c.s.choice = 4294967295u, 7);
-    AFTER(c.s.imbalance = of_bits(NAN_BITS), 7);
-    AFTER(c.s.imbalance = of_bits(BELOW_ZERO_BITS), 7);
-    AFTER(c.s.imbalance = of_bits(ABOVE_64_BITS), 7);
-    AFTER(c.s.imbalance = of_bits(INFINITY_BITS), 7);
+    CHOICE_REFUSALS();
 }
 
 /* The faults 6 and 7; no stack is too short for number 8. */

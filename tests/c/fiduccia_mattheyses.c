@@ -222,12 +222,7 @@ static void refusals(void)
     graph_refusals();
     AFTER(c.l.labels[4] = 2, 6);
     AFTER(lend(1025, 0), 7);
-    AFTER(c.s.choice = 3, 7);
-    AFTER(c.s.choice = 4294967295u, 7);
-    AFTER(c.s.imbalance = of_bits(NAN_BITS), 7);
-    AFTER(c.s.imbalance = of_bits(BELOW_ZERO_BITS), 7);
-    AFTER(c.s.imbalance = of_bits(ABOVE_64_BITS), 7);
-    AFTER(c.s.imbalance = of_bits(INFINITY_BITS), 7);
+    CHOICE_REFUSALS();
     AFTER(c.gains_count--, 8);
     AFTER(c.moves_count--, 8);
     AFTER(c.made_count--, 8);

@@ -96,38 +96,17 @@ fn replay_case(
         )
     } else if code == 3 {
         answers::compute_parts_load(buffer, place, weights, labels)
-    } else if code == 4 {
-        refiners::fiduccia_mattheyses(
-            buffer,
-            place,
-            starts,
-            neighbours,
-            arc_weights,
-            weights,
-            labels,
-        )
-    } else if code == 5 {
-        refiners::kernighan_lin(
-            buffer,
-            place,
-            starts,
-            neighbours,
-            arc_weights,
-            weights,
-            labels,
-        )
-    } else if code == 6 {
-        refiners::arc_swap(
-            buffer,
-            place,
-            starts,
-            neighbours,
-            arc_weights,
-            weights,
-            labels,
-        )
     } else {
-        text::only_if(false, place)
+        refiners::refine(
+            buffer,
+            place,
+            code,
+            starts,
+            neighbours,
+            arc_weights,
+            weights,
+            labels,
+        )
     }
 }
 

@@ -123,7 +123,7 @@ fn expect_rows(
 }
 
 // Settings: passes, moves, bad, the ceiling. No graph of more than 512 vertices is replayed.
-pub fn fiduccia_mattheyses(
+fn fiduccia_mattheyses(
     buffer: &mut [u8; 65536],
     place: Place,
     starts: &[u32],
@@ -173,7 +173,7 @@ pub fn fiduccia_mattheyses(
 }
 
 // Settings: passes, swaps, bad.
-pub fn kernighan_lin(
+fn kernighan_lin(
     buffer: &mut [u8; 65536],
     place: Place,
     starts: &[u32],
@@ -224,7 +224,7 @@ fn expect_counts(buffer: &mut [u8; 65536], place: Place, run: RunRecord) -> Plac
 }
 
 // Settings: the ceiling, and the length of the stack, at most 65,535.
-pub fn arc_swap(
+fn arc_swap(
     buffer: &mut [u8; 65536],
     place: Place,
     starts: &[u32],
@@ -264,4 +264,50 @@ pub fn arc_swap(
     let after_loads = expect_loads(buffer, told, r.loads);
     let counted = expect_counts(buffer, after_loads, answer.run);
     expect_list(buffer, counted, labels)
+}
+
+// The refiner of this code. A code that names none is no case.
+pub fn refine(
+    buffer: &mut [u8; 65536],
+    place: Place,
+    code: usize,
+    starts: &[u32],
+    neighbours: &[u32],
+    arc_weights: &[u32],
+    weights: &[u32],
+    labels: &mut [u32],
+) -> Place {
+    if code == 4 {
+        fiduccia_mattheyses(
+            buffer,
+            place,
+            starts,
+            neighbours,
+            arc_weights,
+            weights,
+            labels,
+        )
+    } else if code == 5 {
+        kernighan_lin(
+            buffer,
+            place,
+            starts,
+            neighbours,
+            arc_weights,
+            weights,
+            labels,
+        )
+    } else if code == 6 {
+        arc_swap(
+            buffer,
+            place,
+            starts,
+            neighbours,
+            arc_weights,
+            weights,
+            labels,
+        )
+    } else {
+        text::only_if(false, place)
+    }
 }

@@ -1,0 +1,131 @@
+/* The workloads: graphs and labels from a seeded generator, so that every run has the same. */
+#include "plain.h"
+#include <stdio.h>
+#include <string.h>
+
+enum { MOST_N = DAUNSREVIT_MOST_VERTICES, MOST_A = DAUNSREVIT_MOST_ARCS };
+
+/* A grid of wide times high vertices; or, where high is 0, a random graph of wide vertices and four times as many pairs. Vertex
+ * weights and arc weights are from 1 to most_weight, labels are random and below parts. */
+struct workload {
+    const char *name;
+    uint32_t wide, high, parts, most_weight;
+};
+
+/* The workload that was made last. */
+static uint32_t starts[MOST_N + 1], neighbours[MOST_A], arc_weights[MOST_A], weights[MOST_N], first_labels[MOST_N];
+static struct graph graph = {0, 0, starts, neighbours, arc_weights, weights};
+static uint32_t smaller_part; /* of parts 0 and 1, the count of vertices */
+
+static uint64_t state;
+
+static uint32_t random_below(uint32_t limit)
+{
+    state = state * 6364136223846793005u + 1442695040888963407u;
+    return (uint32_t)((state >> 33) % limit);
+}
+
+/* The same for both arcs of a pair. */
+static uint32_t arc_weight(uint32_t u, uint32_t v, uint32_t most)
+{
+    uint64_t x = ((uint64_t)(u < v ? u : v) << 32 | (u < v ? v : u)) * 0x9e3779b97f4a7c15u;
+    x ^= x >> 29;
+    x *= 0xbf58476d1ce4e5b9u;
+    return 1 + (uint32_t)((x >> 32) % most);
+}
+
+static uint8_t joined[MOST_N][MOST_N];
+
+static void join(uint32_t u, uint32_t v)
+{
+    joined[u][v] = joined[v][u] = 1;
+}
+
+static void make(const struct workload *w)
+{
+    uint32_t n = w->high ? w->wide * w->high : w->wide, a = 0, part[DAUNSREVIT_PARTS] = {0};
+    state = 2026;
+    memset(joined, 0, sizeof joined);
+    for (uint32_t v = 0; w->high && v < n; v++) {
+        if (v % w->wide + 1 < w->wide)
+            join(v, v + 1);
+        if (v + w->wide < n)
+            join(v, v + w->wide);
+    }
+    for (uint32_t pairs = 0; !w->high && pairs < 4 * n;) {
+        uint32_t u = random_below(n), v = random_below(n);
+        if (u != v && !joined[u][v]) {
+            join(u, v);
+            pairs++;
+        }
+    }
+    for (uint32_t v = 0; v < n; v++) {
+        starts[v] = a;
+        for (uint32_t u = 0; u < n; u++)
+            if (joined[v][u]) {
+                neighbours[a] = u;
+                arc_weights[a++] = arc_weight(u, v, w->most_weight);
+            }
+        weights[v] = 1 + random_below(w->most_weight);
+        first_labels[v] = random_below(w->parts);
+        part[first_labels[v]]++;
+    }
+    starts[n] = a;
+    graph.n = n;
+    graph.a = a;
+    smaller_part = part[0] < part[1] ? part[0] : part[1];
+}
+
+/* The lent lists, and the labels that a call refines. */
+static uint32_t labels[MOST_N], rows_made[DAUNSREVIT_MOST_PASSES], rows_rewound[DAUNSREVIT_MOST_PASSES];
+static int64_t gains[MOST_N];
+static struct daunsrevit_move moves[MOST_N];
+static uint8_t locks[MOST_N];
+static uint32_t swaps[MOST_N / 2], stack[MOST_A];
+static struct daunsrevit_run_record run;
+
+static void lend(void)
+{
+    memcpy(labels, first_labels, graph.n * sizeof *labels);
+    memset(gains, 0xa5, sizeof gains);
+    memset(moves, 0xa5, sizeof moves);
+    memset(locks, 0xa5, sizeof locks);
+    memset(swaps, 0xa5, sizeof swaps);
+    memset(stack, 0xa5, sizeof stack);
+    memset(&run, 0xa5, sizeof run);
+}
+
+/* The C entry points on the workload and the lent lists, which are as long as is needed; arc-swap's stack is as long as there are
+ * arcs. */
+static inline struct daunsrevit_loads_answer port_loads(void)
+{
+    return daunsrevit_compute_parts_load(weights, graph.n, labels, graph.n);
+}
+
+static inline struct daunsrevit_cut_answer port_edge_cut(void)
+{
+    return daunsrevit_edge_cut(starts, graph.n + 1, neighbours, graph.a, arc_weights, graph.a, labels, graph.n);
+}
+
+static inline struct daunsrevit_cut_answer port_lambda_cut(void)
+{
+    return daunsrevit_lambda_cut(starts, graph.n + 1, neighbours, graph.a, arc_weights, graph.a, weights, graph.n, labels, graph.n);
+}
+
+static inline struct daunsrevit_fiduccia_mattheyses_report port_fm(struct daunsrevit_fiduccia_mattheyses_settings s)
+{
+    return daunsrevit_fiduccia_mattheyses(starts, graph.n + 1, neighbours, graph.a, arc_weights, graph.a, weights, graph.n,
+        labels, graph.n, gains, graph.n, moves, graph.n, rows_made, s.passes, rows_rewound, s.passes, s);
+}
+
+static inline struct daunsrevit_kernighan_lin_report port_kl(struct daunsrevit_kernighan_lin_settings s)
+{
+    return daunsrevit_kernighan_lin(starts, graph.n + 1, neighbours, graph.a, arc_weights, graph.a, weights, graph.n,
+        labels, graph.n, gains, graph.n, locks, graph.n, swaps, graph.n / 2, s);
+}
+
+static inline struct daunsrevit_arc_swap_report port_arc_swap(struct daunsrevit_arc_swap_settings s)
+{
+    return daunsrevit_arc_swap(starts, graph.n + 1, neighbours, graph.a, arc_weights, graph.a, weights, graph.n,
+        labels, graph.n, stack, graph.a, s, &run);
+}
