@@ -1,5 +1,5 @@
 -- A move: what it asks of the loads, and that label, loads, cut and stack after it are those of the labels after it. Assumes nothing.
-use mathlib.Core.Path.{_≡_, refl, sym, ap, ap₂, _∙_}
+use mathlib.Core.Path.{_≡_, refl, sym, ap, _∙_}
 use mathlib.Core.Bool.{Bool, true, false, cond}
 use mathlib.Core.List.{List}
 use Prim.Native.Nat.{ℕ, _+_, _-_, _≤_, _<_}
@@ -13,11 +13,10 @@ use Rattle.lists.proofs.Tables.{length-table, table-at, table-set}
 use Rattle.imbalance.specs.Limit.{mostWeight}
 use Rattle.imbalance.specs.Load.{part, load}
 use Rattle.imbalance.proofs.PartLoads.{load-within}
-use Rattle.topology.specs.Graph.{Graph, into}
+use Rattle.topology.specs.Graph.{Graph}
 use Rattle.topology.specs.Cut.{cut}
 use Rattle.topology.proofs.Moves.{cut-move, load-move}
-use Rattle.arc_swap_attempt.specs.Inner.{Named, Stood, MoveAsked, MoveDone, PushDone, fresh}
-use Rattle.arc_swap_attempt.specs.declared.Standing.{Standing}
+use Rattle.arc_swap_attempt.specs.Inner.{Named, MoveAsked, MoveDone, PushDone, fresh}
 
 -- the labels stay below k
 pub named-move : (g : Graph) (k : ℕ) (p : List ℕ) (v t : ℕ) → Named g k p → v < length p → t < k → Named g k (set p v t)

@@ -1,18 +1,16 @@
 -- The pushes after a move, arc by arc of the moved vertex's row. Assumes nothing.
-use mathlib.Core.Path.{_≡_, refl, sym, ap, ap₂, _∙_}
+use mathlib.Core.Path.{_≡_, refl, sym, ap, _∙_}
 use mathlib.Core.Bool.{Bool, true, false, cond}
-use mathlib.Core.List.{List, [], _∷_, _++_}
+use mathlib.Core.List.{List, _∷_, _++_}
 use Prim.Native.Nat.{ℕ, zero, suc, _+_, _-_, _≤_, _<_}
 use native.Mathlib.Omega.{arith}
-use lib.ListN.{length, getD, set, length-set, length-append}
-use lib.Dec.{leb}
+use lib.ListN.{length, set, length-set}
 use borrow.Author.Tests.{le-leb, lt-leb}
-use Rattle.imbalance.specs.Load.{part}
 use Rattle.topology.specs.Graph.{Graph, first, past, neighbour}
 use Rattle.topology.specs.Rule.{Rows}
 use Rattle.arc_swap_attempt.specs.Trial.{gladly, pushed}
 use Rattle.arc_swap_attempt.specs.Inner.{held, fresh, PushDone}
-use Rattle.arc_swap_attempt.proofs.Stacks.{length-held, held-above, held-push}
+use Rattle.arc_swap_attempt.proofs.Stacks.{held-above, held-push}
 
 -- of v's first n arcs, those to vertices that gain by a move
 abbrev news : Graph → ℕ → List ℕ → ℕ → ℕ → List ℕ

@@ -1,5 +1,5 @@
 -- What comes of a popped vertex, and which of its neighbours are pushed when it has moved (document 01, "Arc-swap").
-use mathlib.Core.Bool.{Bool, true, false, not, cond, _&&_}
+use mathlib.Core.Bool.{Bool, false, not, cond, _&&_}
 use mathlib.Core.List.{List, [], _∷_}
 use mathlib.Core.Option.{Option, none, some}
 use Prim.Native.Nat.{ℕ, zero, suc, _+_, _-_}
@@ -9,7 +9,7 @@ use lib.IntN.{pos}
 use lib.Signed.{leZ}
 use Rattle.lists.specs.Best.{best}
 use Rattle.imbalance.specs.Load.{part, load}
-use Rattle.topology.specs.Graph.{Graph, first, past, neighbour, into, gain}
+use Rattle.topology.specs.Graph.{Graph, first, neighbour, into, gain}
 use Rattle.arc_swap_attempt.specs.declared.Trial.{Trial}
 use Rattle.arc_swap_attempt.specs.declared.Trial.the-variants.{NoGain, BadBalance, Goes}
 

@@ -1,6 +1,5 @@
 // The gains of a vertex to all parts at once: its arc weight into each, and the best of them. Document 01, "the target of largest gain, the highest part among equals".
 ghost use mathlib.Core.Path.{_≡_};
-ghost use mathlib.Core.Bool.{true};
 ghost use Prim.Native.Nat.{_<_, _≤_};
 ghost use lib.ListN.{length, getD};
 ghost use Rattle.lists.specs.Fill.{table};

@@ -2,7 +2,6 @@
 ghost use mathlib.Core.Path.{_≡_};
 ghost use Prim.Native.Nat.{_+_, _-_, _≤_, _<_};
 ghost use lib.ListN.{length, getD, set};
-ghost use Rattle.lists.specs.Sum.{weigh};
 ghost use Rattle.imbalance.specs.Limit.{mostWeight};
 ghost use Rattle.topology.specs.Graph.{inRows};
 ghost use Rattle.arc_swap_attempt.specs.Inner.{Named, fresh, PushDone, MoveAsked, MoveDone};

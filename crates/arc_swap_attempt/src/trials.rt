@@ -1,6 +1,5 @@
 // What comes of a popped vertex. Document 01, "Gain 0 or less: no-gain count. Else target load above the ceiling: bad-balance count."
 ghost use mathlib.Core.Path.{_≡_};
-ghost use lib.ListN.{length};
 ghost use Rattle.topology.specs.Graph.{inRows};
 ghost use Rattle.arc_swap_attempt.specs.Trial.{trial};
 ghost use Rattle.arc_swap_attempt.specs.Inner.{Tryable};

@@ -31,7 +31,7 @@ use Rattle.kernighan_lin.specs.Entry as KL
 use Rattle.kernighan_lin.specs.declared.Report as KLReport
 use Rattle.arc_swap.specs.Entry as Swap
 use Rattle.arc_swap.specs.declared.Report as SwapReport
-use Rattle.eight_block_grid.specs.Inputs.{noGains, quarter, fmPlan, fmLists, fmLent, klPlan, klLent, swapPlan, swapLent}
+use Rattle.eight_block_grid.specs.Inputs.{noGains, quarter, fmPlan, fmLists, klPlan, klLent, swapPlan, swapLent}
 use Rattle.eight_block_grid.specs.SelfTest.{same, sameGains, row3, cutsSeen, loadsSeen, klSeen, swapSeen, cutsGive, loadsGive, fmGives, klGives, swapGives}
 
 -- 0.25, as the code has it

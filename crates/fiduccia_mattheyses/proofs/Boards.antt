@@ -1,11 +1,11 @@
 -- Demand 3, last sentence: no board ends above the larger of the ceiling and its starting load. Assumes nothing.
-use mathlib.Core.Path.{_≡_, refl, sym, ap, _∙_}
+use mathlib.Core.Path.{_≡_, refl, ap}
 use mathlib.Core.Bool.{Bool, true, false, cond, not, _&&_}
 use mathlib.Core.List.{List}
-use mathlib.Core.Option.{Option, none, some}
+use mathlib.Core.Option.{some}
 use Prim.Native.Nat.{ℕ, zero, suc, _+_, max, _≤_, _<_}
 use native.Mathlib.Omega.{arith}
-use lib.Dec.{ltb, leb, eqb}
+use lib.Dec.{ltb, eqb}
 use lib.ListN.{length, getD}
 use borrow.Author.Tests.{leb-true, eqb-true}
 use Rattle.lists.specs.Sum.{weigh}
@@ -15,7 +15,7 @@ use Rattle.imbalance.specs.Load.{part, load}
 use Rattle.topology.specs.Cut.{cut}
 use Rattle.topology.proofs.Moves.{load-move}
 use Rattle.fiduccia_mattheyses_pass.specs.Choice.{Setting, other, flip, member, after, fits, allowed, better, choice}
-use Rattle.fiduccia_mattheyses_pass.specs.Pass.{State, start, moveOn, walk, flips, pass}
+use Rattle.fiduccia_mattheyses_pass.specs.Pass.{State, start, moveOn, flips, pass}
 use Rattle.fiduccia_mattheyses_pass.proofs.Keeps.{Keeps, keeps-start, keeps-move, walk-keeps}
 use Rattle.fiduccia_mattheyses.specs.Run.{Run, run}
 use Rattle.fiduccia_mattheyses.specs.Demand.{NoBoardAbove}

@@ -4,14 +4,13 @@ use mathlib.Core.Bool.{Bool, true, false, cond, _||_}
 use mathlib.Core.List.{List, [], _∷_, _++_, map}
 use Prim.Native.Nat.{ℕ, zero, suc, _+_, _-_, _≤_, _<_}
 use native.Mathlib.Omega.{arith}
-use lib.Dec.{ltb, eqb}
-use lib.ListN.{length, getD, set, take, drop, length-append, length-drop, List·getD-eq-default}
+use lib.Dec.{ltb}
+use lib.ListN.{length, getD, take, drop, length-append, length-drop, List·getD-eq-default}
 use lib.Seq.{ext-getD, getD-drop, drop-at}
 use lib.IntN.{ℤ, pos}
 use borrow.Author.Tests.{eq-eqb, ne-eqb, ltb-true, ltb-false, le-ltb}
 use Rattle.lists.specs.Sum.{total}
 use Rattle.lists.specs.Fill.{filled, table}
-use Rattle.lists.specs.Number.{orElse}
 use Rattle.lists.proofs.Bools.{or-false}
 use Rattle.lists.proofs.Numbers.{or-else-zero, not-given}
 use Rattle.lists.proofs.Alls.{some-nowhere}
@@ -19,23 +18,21 @@ use Rattle.lists.proofs.Fills.{length-written, written-below, written-past}
 use Rattle.lists.proofs.Tables.{length-table}
 use Rattle.imbalance.specs.Limit.{labelAbove}
 use Rattle.imbalance.specs.Load.{part, load, loadsOf, Loadable}
-use Rattle.imbalance.specs.Ceiling.{unfitChoice, ceiling, ceilings}
+use Rattle.imbalance.specs.Ceiling.{unfitChoice, ceilings}
 use Rattle.imbalance.specs.declared.Loads.{Loads}
 use Rattle.imbalance.proofs.Limits.{label-most}
-use Rattle.topology.specs.Rule.{graphNumber, Sound}
+use Rattle.topology.specs.Rule.{graphNumber}
 use Rattle.topology.specs.Cut.{cut}
 use Rattle.topology.proofs.Numbers.{sound}
 use Rattle.fiduccia_mattheyses_pass.specs.Choice.{Setting}
 use Rattle.fiduccia_mattheyses_pass.specs.Pass.{Pass}
 use Rattle.fiduccia_mattheyses_pass.specs.Standing.{Fixed}
 use Rattle.fiduccia_mattheyses.specs.declared.Move.{Move}
-use Rattle.fiduccia_mattheyses.specs.declared.Room.{Room}
-use Rattle.fiduccia_mattheyses.specs.declared.Settings.{Settings}
 use Rattle.fiduccia_mattheyses.specs.declared.Report.{Report}
 use Rattle.fiduccia_mattheyses.specs.declared.Ended.{Ended}
 use Rattle.fiduccia_mattheyses.specs.Run.{Run, run}
-use Rattle.fiduccia_mattheyses.specs.Entry.{Plan, Lent, graphOf, unfit, short, roomOf, numberOf, number, settingOf, runOf, none, bare, refused, empty, reportOf, over, leftBy, answer, left, Refined}
-use Rattle.fiduccia_mattheyses.specs.Inner.{settingBy, PassAsked, PassesAsked, PassesDone, Ready, Ran}
+use Rattle.fiduccia_mattheyses.specs.Entry.{Plan, Lent, graphOf, unfit, short, roomOf, numberOf, number, settingOf, runOf, none, refused, empty, reportOf, over, leftBy, answer, left, Refined}
+use Rattle.fiduccia_mattheyses.specs.Inner.{settingBy, PassesAsked, PassesDone, Ready, Ran}
 
 -- ---- what number 0 tells
 pub ready : (p : Plan) (l : Lent) (k : ℕ) → k ≡ number p l → k ≡ 0 → Ready p l

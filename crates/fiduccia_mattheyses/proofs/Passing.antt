@@ -1,24 +1,24 @@
 -- A pass, from what its functions promise. Assumes nothing.
 use mathlib.Core.Path.{_≡_, refl, sym, ap, ap₂, _∙_}
-use mathlib.Core.Bool.{Bool, true, false}
-use mathlib.Core.List.{List, [], _∷_, _++_}
-use Prim.Native.Nat.{ℕ, zero, suc, _+_, _-_, _≤_, _<_}
+use mathlib.Core.Bool.{true}
+use mathlib.Core.List.{List}
+use Prim.Native.Nat.{ℕ, _+_, _-_, _≤_}
 use native.Mathlib.Omega.{arith}
-use lib.ListN.{length, getD, take, drop, length-drop}
+use lib.ListN.{length, take, drop}
 use lib.Seq.{drop-append-add, drop-drop}
 use borrow.Author.Tests.{le-leb}
 use lib.IntN.{ℤ, pos}
 use lib.Signed.{leZ}
 use mir.Syntax.{w64}
 use mir.Val.{toZ, ofZ}
-use Rattle.lists.specs.Fill.{table, written}
+use Rattle.lists.specs.Fill.{table}
 use Rattle.lists.proofs.Fills.{length-written, written-below}
-use Rattle.imbalance.specs.Load.{part, load}
+use Rattle.imbalance.specs.Load.{load}
 use Rattle.imbalance.specs.declared.Loads.{Loads}
 use Rattle.topology.specs.Cut.{cut}
-use Rattle.fiduccia_mattheyses_pass.specs.Choice.{Setting, flip, worth}
+use Rattle.fiduccia_mattheyses_pass.specs.Choice.{Setting, worth}
 use Rattle.fiduccia_mattheyses_pass.specs.Pass.{State, start, walk, flips, pass}
-use Rattle.fiduccia_mattheyses_pass.specs.Standing.{Fixed, Stands, freshGains}
+use Rattle.fiduccia_mattheyses_pass.specs.Standing.{freshGains}
 use Rattle.fiduccia_mattheyses_pass.specs.declared.Standing.{Standing}
 use Rattle.fiduccia_mattheyses_pass.proofs.Updates.{back}
 use Rattle.fiduccia_mattheyses_pass.proofs.Moved.{count-few}

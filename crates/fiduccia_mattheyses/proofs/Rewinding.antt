@@ -1,11 +1,9 @@
 -- The rewind: each record puts its vertex back into the part that it was in before the move, and the loads follow. Assumes nothing.
 use mathlib.Core.Path.{_≡_, refl, sym, ap, ap₂, _∙_}
-use mathlib.Core.Bool.{Bool, true, false}
 use mathlib.Core.List.{List, [], _∷_, _++_}
 use Prim.Native.Nat.{ℕ, zero, suc, _+_, _-_, _≤_, _<_}
 use native.Mathlib.Omega.{arith}
-use native.Mathlib.Numerals.{add-one}
-use lib.ListN.{length, getD, set, take, drop, length-set, length-take, length-drop, List·getD-append}
+use lib.ListN.{length, getD, set, take, drop, length-set, length-drop, List·getD-append}
 use lib.Seq.{split-at, take-all, take-suc, getD-take, getD-drop, getD-set-same}
 use Rattle.lists.specs.Fill.{table}
 use Rattle.lists.proofs.Tables.{table-at, length-table}
@@ -19,7 +17,7 @@ use Rattle.fiduccia_mattheyses_pass.proofs.Backs.{two-flips, flips-append, flip
 use Rattle.fiduccia_mattheyses_pass.proofs.Stands.{loads-follow, load-holds}
 use Rattle.fiduccia_mattheyses.specs.declared.Move.{Move}
 use Rattle.fiduccia_mattheyses.specs.Entry.{none}
-use Rattle.fiduccia_mattheyses.specs.Inner.{records, recorded, undone, RewindAsked}
+use Rattle.fiduccia_mattheyses.specs.Inner.{records, undone, RewindAsked}
 use Rattle.fiduccia_mattheyses.proofs.Walking.{length-records, recorded-long}
 
 -- the record of the move at place i

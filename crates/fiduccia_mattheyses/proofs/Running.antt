@@ -1,21 +1,18 @@
 -- The passes of a run, turn by turn. Assumes nothing.
 use mathlib.Core.Path.{_≡_, refl, sym, ap, ap₂, _∙_}
-use mathlib.Core.Bool.{Bool, true, false}
+use mathlib.Core.Bool.{true, false}
 use mathlib.Core.List.{List, [], _∷_, _++_, map, append-assoc}
-use Prim.Native.Nat.{ℕ, zero, suc, _+_, _-_, _≤_, _<_}
+use Prim.Native.Nat.{ℕ, suc, _+_, _-_, _≤_, _<_}
 use native.Mathlib.Omega.{arith}
 use lib.Dec.{ltb}
-use lib.ListN.{length, getD, set, drop, length-set, length-append, length-drop}
+use lib.ListN.{length, getD, set, drop, length-append, length-drop}
 use lib.Seq.{drop-cons, set-at}
 use lib.IntN.{ℤ}
 use borrow.Author.Tests.{lt-ltb, le-ltb}
-use Rattle.lists.specs.Fill.{table}
-use Rattle.imbalance.specs.Load.{part, load}
 use Rattle.imbalance.specs.declared.Loads.{Loads}
 use Rattle.topology.specs.Cut.{cut}
 use Rattle.fiduccia_mattheyses_pass.specs.Choice.{Setting}
 use Rattle.fiduccia_mattheyses_pass.specs.Pass.{Pass, pass}
-use Rattle.fiduccia_mattheyses_pass.specs.Standing.{Fixed}
 use Rattle.fiduccia_mattheyses.specs.declared.Move.{Move}
 use Rattle.fiduccia_mattheyses.specs.declared.Passed.{Passed}
 use Rattle.fiduccia_mattheyses.specs.declared.Ended.{Ended}

@@ -21,7 +21,7 @@ use Rattle.imbalance.specs.declared.Loads.{Loads}
 use Rattle.fiduccia_mattheyses.specs.declared.Move.{Move}
 use Rattle.fiduccia_mattheyses.specs.declared.Passed.{Passed}
 use Rattle.fiduccia_mattheyses.specs.declared.Ended.{Ended}
-use Rattle.fiduccia_mattheyses.specs.Run.{Run, run}
+use Rattle.fiduccia_mattheyses.specs.Run.{run}
 use Rattle.fiduccia_mattheyses.specs.Entry.{Plan, Lent, graphOf, none, over, reportOf, leftBy}
 use Rattle.fiduccia_mattheyses.specs.declared.Report.{Report}
 

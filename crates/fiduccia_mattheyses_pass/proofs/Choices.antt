@@ -1,23 +1,19 @@
 -- The scan over the lists of gains and loads finds FM's choice. Assumes nothing.
-use mathlib.Core.Path.{_≡_, refl, sym, ap, ap₂, _∙_}
-use mathlib.Core.Bool.{Bool, true, false, not, cond, _&&_, _||_}
+use mathlib.Core.Path.{_≡_, refl, sym, _∙_}
+use mathlib.Core.Bool.{Bool, true, false, not, cond, _&&_}
 use mathlib.Core.List.{List}
 use mathlib.Core.Option.{Option, none, some}
-use Prim.Native.Nat.{ℕ, zero, suc, _+_, _-_, _≤_, _<_}
+use Prim.Native.Nat.{ℕ, _-_, _<_}
 use native.Mathlib.Omega.{arith}
-use lib.Dec.{ltb, leb, eqb}
 use lib.ListN.{length, getD}
 use lib.IntN.{ℤ, pos}
-use lib.Signed.{mag, ltZ, leZ}
 use borrow.Author.Tests.{not-true}
 use Rattle.lists.specs.Best.{best}
 use Rattle.lists.proofs.Bools.{and-left, and-right}
 use Rattle.imbalance.specs.Load.{part, load}
 use Rattle.fiduccia_mattheyses_pass.specs.Choice.{Setting, other, member, worth, after, fits, allowed, better, choice}
-use Rattle.fiduccia_mattheyses_pass.specs.Scan.{lock, isFree, beats, picked, may, over, pickBelow, loadAfter, ceilingAt}
+use Rattle.fiduccia_mattheyses_pass.specs.Scan.{lock, isFree, picked, may, over, pickBelow, loadAfter, ceilingAt}
 use Rattle.fiduccia_mattheyses_pass.specs.Standing.{Gains}
-use Rattle.fiduccia_mattheyses_pass.specs.declared.Pick.{Pick}
-use Rattle.fiduccia_mattheyses_pass.specs.declared.Pick.the-variants.{Nobody, Vertex}
 use Rattle.lists.proofs.Bests.{best-in, best-ext}
 use Rattle.fiduccia_mattheyses_pass.proofs.Follows.{free-small}
 use Rattle.fiduccia_mattheyses_pass.proofs.Worths.{Light, worth-small}

@@ -1,20 +1,20 @@
 -- The gains brought up to date, vertex by vertex. Assumes nothing.
-use mathlib.Core.Path.{_≡_, refl, sym, ap, ap₂, _∙_}
+use mathlib.Core.Path.{_≡_, refl, sym, ap, _∙_}
 use mathlib.Core.Logic.{_≢_}
-use mathlib.Core.Bool.{Bool, true, false, not, cond}
+use mathlib.Core.Bool.{Bool, true, false, cond}
 use mathlib.Core.List.{List}
 use Prim.Native.Nat.{ℕ, zero, suc, _+_, _-_, _*_, _≤_, _<_}
 use native.Mathlib.Omega.{arith}
 use native.Mathlib.Nat.{add-zero}
-use lib.Dec.{ltb, leb, eqb}
+use lib.Dec.{eqb}
 use lib.ListN.{length, getD, set, length-set}
 use lib.Seq.{getD-set-same, getD-set-other}
-use lib.IntN.{ℤ, pos, negsuc, negℤ, subℕ, _+ℤ_, _-ℤ_, +ℤ-assoc, +ℤ-idr, negℤ-+ℤ}
-use lib.Signed.{mag, ltZ}
-use borrow.Author.Tests.{eq-eqb, ne-eqb, eqb-true, eqb-false, lt-ltb}
+use lib.IntN.{ℤ, pos, negsuc, negℤ, _+ℤ_, _-ℤ_, +ℤ-assoc, +ℤ-idr, negℤ-+ℤ}
+use lib.Signed.{mag}
+use borrow.Author.Tests.{eqb-true, eqb-false, lt-ltb}
 use Rattle.lists.specs.Sum.{sum, weigh}
 use Rattle.fiduccia_mattheyses_pass.specs.Scan.{lock, isFree}
-use Rattle.fiduccia_mattheyses_pass.specs.Update.{shift, updateAt, updated}
+use Rattle.fiduccia_mattheyses_pass.specs.Update.{shift, updated}
 use Rattle.lists.proofs.Differences.{mag-up, mag-down}
 
 -- a small gain is no lock

@@ -7,17 +7,16 @@ use Prim.Native.Nat.{ℕ, _+_, _≤_, _<_}
 use native.Mathlib.Omega.{arith}
 use native.Mathlib.Numerals.{add-one}
 use lib.ListN.{getD}
-use lib.Dec.{ltb, leb, eqb}
+use lib.Dec.{ltb, eqb}
 use borrow.Author.Tests.{le-leb, lt-leb, ltb-true, eqb-true, eqb-false}
 use lib.IntN.{ℤ, pos}
 use lib.Signed.{ltZ, leZ}
-use Rattle.lists.specs.Best.{best, offer}
+use Rattle.lists.specs.Best.{best}
 use Rattle.lists.proofs.Bools.{and-false}
 use Rattle.lists.proofs.Orders.{clash, lt-then-le, lt-le, not-lt-le, lt-not-le, lt-not-lt}
 use Rattle.imbalance.specs.Load.{part}
 use Rattle.fiduccia_mattheyses_pass.specs.Choice.{other}
 use Rattle.fiduccia_mattheyses_pass.specs.Scan.{lock, isFree, beats, picked, loadAfter, ceilingAt, may, over, pickBelow, nextOf}
-use Rattle.fiduccia_mattheyses_pass.specs.declared.Next.{Next}
 use Rattle.fiduccia_mattheyses_pass.specs.declared.Next.the-variants.{Stop, Go}
 use Rattle.fiduccia_mattheyses_pass.specs.declared.Pick.{Pick}
 use Rattle.fiduccia_mattheyses_pass.specs.declared.Pick.the-variants.{Nobody, Vertex}

@@ -1,35 +1,32 @@
 -- One step of a pass: where the code stands as the state says, its next move is the state's next, and after the move it stands as the next state says. Assumes nothing.
 use mathlib.Core.Path.{_≡_, refl, sym, ap, ap₂, _∙_}
-use mathlib.Core.Bool.{Bool, true, false, not, cond, _&&_, _||_}
-use mathlib.Core.List.{List, [], _∷_, _++_}
+use mathlib.Core.Bool.{Bool, true, false, not, cond, _&&_}
+use mathlib.Core.List.{List, [], _∷_}
 use mathlib.Core.Option.{Option, none, some}
 use Prim.Native.Nat.{ℕ, zero, suc, _+_, _-_, _*_, _≤_, _<_}
 use native.Mathlib.Omega.{arith}
-use native.Mathlib.Numerals.{add-one}
 use lib.Dec.{ltb, leb, eqb}
 use lib.ListN.{length, getD, set, length-set, length-append, List·getD-eq-default}
 use lib.Seq.{getD-set-same, getD-set-other}
-use lib.IntN.{ℤ, pos, subℕ, _-ℤ_}
-use lib.Signed.{mag, ltZ, leZ}
+use lib.IntN.{ℤ, pos, _-ℤ_}
+use lib.Signed.{mag, ltZ}
 use borrow.Author.Tests.{eq-eqb, ne-eqb, eqb-true, eqb-false, ltb-true, ltb-false}
-use Rattle.lists.specs.Sum.{sum, total, between, weigh}
+use Rattle.lists.specs.Sum.{sum, total}
 use Rattle.lists.specs.Fill.{table}
 use Rattle.lists.proofs.Bools.{and-left, and-right}
 use Rattle.lists.proofs.Totals.{sum-holds, sum-zero}
 use Rattle.lists.proofs.Tables.{length-table, table-at, table-set}
 use Rattle.lists.proofs.Differences.{pos-minus}
 use Rattle.imbalance.specs.Load.{part, load}
-use Rattle.imbalance.specs.Limit.{mostWeight}
 use Rattle.imbalance.proofs.PartLoads.{load-within}
 use Rattle.topology.specs.Graph.{Graph, first, past, arcs, into, gain}
-use Rattle.topology.specs.Rule.{Rows, Symmetric}
-use Rattle.topology.specs.Cut.{cut, rowCut, crossing}
+use Rattle.topology.specs.Rule.{Symmetric}
+use Rattle.topology.specs.Cut.{cut, rowCut}
 use Rattle.topology.proofs.Moves.{cut-move, load-move}
 use Rattle.fiduccia_mattheyses_pass.specs.Choice.{Setting, other, flip, member, worth, after, fits, allowed, choice, isBad}
 use Rattle.fiduccia_mattheyses_pass.specs.Pass.{State, start, moveOn, next}
 use Rattle.fiduccia_mattheyses_pass.specs.Scan.{lock, picked, pickBelow, loadAfter, ceilingAt, nextOf}
-use Rattle.fiduccia_mattheyses_pass.specs.Standing.{loadsAfter, gainsAfter, standingAfter, Scannable, Moveable, Gains, Fixed, Stands}
-use Rattle.fiduccia_mattheyses_pass.specs.declared.Pick.{Pick}
+use Rattle.fiduccia_mattheyses_pass.specs.Standing.{loadsAfter, gainsAfter, standingAfter, Scannable, Moveable, Fixed, Stands}
 use Rattle.fiduccia_mattheyses_pass.specs.declared.Pick.the-variants.{Nobody, Vertex}
 use Rattle.fiduccia_mattheyses_pass.specs.declared.Next.{Next}
 use Rattle.fiduccia_mattheyses_pass.specs.declared.Next.the-variants.{Stop, Go}

@@ -1,6 +1,6 @@
 -- The walk of a pass, by its next state. Assumes nothing.
 use mathlib.Core.Path.{_≡_, refl}
-use mathlib.Core.Option.{Option, none, some}
+use mathlib.Core.Option.{none, some}
 use Prim.Native.Nat.{ℕ, zero, suc}
 use Rattle.fiduccia_mattheyses_pass.specs.Choice.{Setting}
 use Rattle.fiduccia_mattheyses_pass.specs.Pass.{State, next, walk}

@@ -1,16 +1,16 @@
 -- The worth of a vertex's move, before and after another vertex moves. Assumes nothing.
-use mathlib.Core.Path.{_≡_, refl, sym, ap, ap₂, _∙_}
+use mathlib.Core.Path.{_≡_, refl, sym, ap, _∙_}
 use mathlib.Core.Logic.{_≢_}
-use mathlib.Core.Bool.{Bool, true, false, not, cond, _&&_, _||_}
+use mathlib.Core.Bool.{Bool, true, false, cond, _||_}
 use mathlib.Core.List.{List, [], _∷_, _++_}
 use Prim.Native.Nat.{ℕ, zero, suc, _+_, _-_, _*_, _≤_, _<_}
 use native.Mathlib.Omega.{arith}
-use lib.Dec.{ltb, leb, eqb}
+use lib.Dec.{eqb}
 use lib.ListN.{length, getD, set, length-set}
 use lib.Seq.{getD-set-same, getD-set-other}
-use lib.IntN.{ℤ, pos, negsuc, subℕ, _+ℤ_, _-ℤ_}
-use lib.Signed.{mag, ltZ}
-use borrow.Author.Tests.{eq-eqb, ne-eqb, eqb-true, eqb-false, lt-ltb}
+use lib.IntN.{ℤ, pos, subℕ, _+ℤ_, _-ℤ_}
+use lib.Signed.{mag}
+use borrow.Author.Tests.{eq-eqb, ne-eqb, eqb-true, eqb-false}
 use Rattle.lists.specs.Sum.{sum, weigh}
 use Rattle.topology.specs.Graph.{Graph, first, past, neighbour, weight, arcs, into, gain}
 use Rattle.imbalance.specs.Load.{part}
@@ -20,7 +20,7 @@ use Rattle.topology.specs.Graph.{joins}
 use Rattle.topology.specs.Rule.{Symmetric}
 use Rattle.topology.proofs.Moves.{into-move}
 use Rattle.fiduccia_mattheyses_pass.specs.Scan.{lock, isFree}
-use Rattle.fiduccia_mattheyses_pass.specs.Standing.{entry, Gains}
+use Rattle.fiduccia_mattheyses_pass.specs.Standing.{Gains}
 use Rattle.fiduccia_mattheyses_pass.proofs.Moved.{member-more}
 use Rattle.fiduccia_mattheyses_pass.specs.Update.{shift, updated}
 use Rattle.lists.proofs.Differences.{mag-sub, same, plus, take-away}

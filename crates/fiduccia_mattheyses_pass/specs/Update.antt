@@ -1,10 +1,10 @@
 -- The gains brought up to date after a move, arc by arc of the moved vertex's row (document 01, "a locked neighbour has no gain and is passed over when the others are brought up to date").
-use mathlib.Core.Bool.{Bool, true, false, not, cond}
+use mathlib.Core.Bool.{Bool, cond}
 use mathlib.Core.List.{List}
 use Prim.Native.Nat.{ℕ, zero, suc, _+_, _-_, _*_}
-use lib.ListN.{length, getD, set}
+use lib.ListN.{getD, set}
 use lib.Dec.{eqb}
-use lib.IntN.{ℤ, pos, _+ℤ_, _-ℤ_, _*ℤ_}
+use lib.IntN.{ℤ, pos, _+ℤ_, _-ℤ_}
 use Rattle.fiduccia_mattheyses_pass.specs.Scan.{isFree}
 
 -- a neighbour left behind in the old part gains twice the arc's weight, one in the new part loses it

@@ -2,10 +2,9 @@
 ghost use mathlib.Core.Path.{_≡_};
 ghost use mathlib.Core.Bool.{cond};
 ghost use Prim.Native.Nat.{_+_, _<_, _≤_};
-ghost use lib.ListN.{length, getD};
+ghost use lib.ListN.{length};
 ghost use lib.Dec.{eqb};
 ghost use lib.Signed.{ltZ};
-ghost use Rattle.imbalance.specs.Limit.{mostWeight};
 ghost use Rattle.fiduccia_mattheyses_pass.specs.Choice.{other};
 ghost use Rattle.fiduccia_mattheyses_pass.specs.Scan.{slotOf, beats, loadAfter, ceilingAt, pickBelow, nextOf};
 ghost use Rattle.fiduccia_mattheyses_pass.specs.Standing.{Scannable};

@@ -7,7 +7,7 @@ use native.Mathlib.Omega.{arith}
 use lib.ListN.{length, getD}
 use lib.Dec.{ltb}
 use borrow.Author.Tests.{ltb-true, le-ltb}
-use lib.IntN.{pos, negsuc}
+use lib.IntN.{negsuc}
 use lib.Ieee.{fin, ofBits, le, add, div, ofInt, mul}
 use Rattle.lists.specs.Sum.{sum, between, total}
 use Rattle.lists.specs.All.{all, allFrom, some, someFrom}
@@ -20,7 +20,7 @@ use Rattle.imbalance.specs.Ceiling.{legalE, unfitChoice, ceilings, ceiling, cei
 use Rattle.topology.specs.Graph.{arcs, into, gain, joins}
 use Rattle.topology.specs.Cut.{cut}
 use Rattle.topology.specs.Rule.{answered, arcOk, graphNumber, hasArc, misfit, oversize, rowsNumber, rowsOk, startsOk}
-use Rattle.topology.specs.EightBlockGrid.{grid, ones, A, B}
+use Rattle.topology.specs.EightBlockGrid.{grid, ones, A}
 use Rattle.fiduccia_mattheyses_pass.specs.Choice.{flip, member, worth, after, fits, allowed, better, choice}
 use Rattle.fiduccia_mattheyses_pass.specs.Pass.{flips, moveOn, next, walk, pass}
 use Rattle.fiduccia_mattheyses.specs.Run.{run}

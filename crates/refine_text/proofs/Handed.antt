@@ -2,14 +2,13 @@
 use mathlib.Core.Path.{_≡_, refl, sym, ap, _∙_}
 use mathlib.Core.Bool.{Bool, true, false, cond}
 use mathlib.Core.List.{List}
-use Prim.Native.Nat.{ℕ, _+_, _≤_, _<_}
+use Prim.Native.Nat.{ℕ, _+_, _≤_}
 use native.Mathlib.Omega.{arith}
 use lib.ListN.{length, getD, take, drop, length-append, replicate, length-take, length-replicate}
 use lib.Seq.{take-at}
 use lib.Dec.{ltb, eqb}
 use borrow.Author.Tests.{eq-eqb, ne-eqb, eqb-true, le-ltb, ltb-true}
 use Rattle.lists.specs.Fill.{table}
-use Rattle.lists.specs.All.{all, some}
 use Rattle.lists.proofs.Tables.{length-table, table-at}
 use Rattle.lists.proofs.Alls.{all-at, some-nowhere}
 use Rattle.imbalance.specs.Limit.{labelAbove}

@@ -7,9 +7,9 @@ use native.Mathlib.Omega.{arith}
 use native.Mathlib.Numerals.{add-one}
 use native.Mathlib.Nat.{pow-suc, zero-add, add-zero, mul-suc, mul-le-mul-left}
 use lib.ListN.{length, take, drop, getD, set, length-append, take-append-drop, length-drop}
-use lib.Seq.{length-take-le, take-at, drop-at, drop-append-add, drop-drop, take-suc, take-length, set-split}
+use lib.Seq.{length-take-le, take-at, drop-append-add, drop-drop, take-suc, take-length, set-split}
 use lib.Dec.{ltb}
-use borrow.Author.Tests.{ltb-true, ltb-false, lt-ltb, le-ltb}
+use borrow.Author.Tests.{ltb-false, lt-ltb, le-ltb}
 use Rattle.refine_words.specs.Line.{endLine, cutLine, loadsLine, passesLine, opening, passLine, passLines}
 use Rattle.refine_words.specs.Text.{ascii, blank, newline, nought, decimalIn, decimal, numbers, line}
 use Rattle.refine_words.specs.Inner.{pasted, Put}

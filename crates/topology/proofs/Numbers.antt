@@ -6,8 +6,8 @@ use Prim.Native.Nat.{ℕ, zero, suc, _+_, _≤_, _<_}
 use native.Mathlib.Omega.{arith}
 use native.Mathlib.Numerals.{add-one}
 use lib.ListN.{length}
-use lib.Dec.{ltb, leb, eqb}
-use borrow.Author.Tests.{eq-eqb, ne-eqb, eqb-true, ltb-true, ltb-false, not-true, not-false}
+use lib.Dec.{ltb, eqb}
+use borrow.Author.Tests.{eq-eqb, ne-eqb, eqb-true, ltb-true, ltb-false, not-false}
 use Rattle.lists.specs.All.{all}
 use Rattle.lists.specs.Number.{orElse}
 use Rattle.lists.proofs.Bools.{and-left, and-right, or-false}
@@ -15,7 +15,7 @@ use Rattle.lists.proofs.Numbers.{or-else-zero, not-given}
 use Rattle.imbalance.specs.Limit.{mostVertices, mostArcs, heavy, labelAbove}
 use Rattle.imbalance.specs.Load.{Loadable}
 use Rattle.imbalance.proofs.Limits.{light-total}
-use Rattle.topology.specs.Graph.{Graph, first, past, neighbour}
+use Rattle.topology.specs.Graph.{Graph, first, past}
 use Rattle.topology.specs.Rule.{misfit, oversize, fallsNot, startsOk, rowsOk, rowOk, answered, rowsNumber, graphNumber, Rows, Symmetric, Sound}
 use Rattle.topology.specs.Number.{edgeCutNumber, lambdaCutNumber, answerOf}
 use Rattle.topology.proofs.Starts.{start-rises, start-inside}

@@ -1,6 +1,6 @@
 -- What looking an arc up by halving its row asks and answers.
 use mathlib.Core.List.{List}
-use Prim.Native.Nat.{ℕ, suc, _≤_, _<_}
+use Prim.Native.Nat.{ℕ, _≤_, _<_}
 use lib.ListN.{length, getD}
 
 -- the neighbours from lo up to hi stand in the list and rise strictly

@@ -1,5 +1,5 @@
 -- The stand-alone edge cut and lambda cut: their numbers, and what they answer (document 01, "Numbers a call gives back").
-use mathlib.Core.Bool.{Bool, cond}
+use mathlib.Core.Bool.{cond}
 use mathlib.Core.List.{List}
 use Prim.Native.Nat.{ℕ}
 use lib.ListN.{length}

@@ -1,9 +1,9 @@
 -- The rules of a graph (document 01, "The graph and its numbers"): numbers 1 to 5, each as its line of the table.
 use mathlib.Core.Path.{_≡_}
-use mathlib.Core.Bool.{Bool, true, false, not, cond, _&&_, _||_}
+use mathlib.Core.Bool.{Bool, not, cond, _&&_, _||_}
 use mathlib.Core.List.{List}
 use Prim.Native.Nat.{ℕ, _+_, _-_, _≤_, _<_}
-use lib.ListN.{length, getD}
+use lib.ListN.{length}
 use lib.Dec.{ltb, leb, eqb}
 use Rattle.lists.specs.All.{all, allFrom, someFrom}
 use Rattle.lists.specs.Number.{orElse}

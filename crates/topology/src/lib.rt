@@ -9,7 +9,6 @@ pub use cut::cut_of;
 pub use gain::gain_of;
 pub use lambda::lambda_of;
 ghost use mathlib.Core.Path.{_≡_};
-ghost use lib.ListN.{length};
 ghost use Rattle.topology.specs.Graph.{inRows};
 ghost use Rattle.topology.specs.Rule.{rowsNumber, graphNumber};
 ghost use Rattle.topology.specs.Number.{edgeCutNumber, lambdaCutNumber, edgeCutAnswer, lambdaCutAnswer};

@@ -1,11 +1,11 @@
 // Every arc has an opposite of equal weight: number 4. Document 01, "Arc u to v needs arc v to u of equal weight".
 ghost use mathlib.Core.Path.{_≡_};
 ghost use mathlib.Core.Bool.{true};
-ghost use Prim.Native.Nat.{ℕ, _+_, _≤_, _<_};
+ghost use Prim.Native.Nat.{_+_, _≤_, _<_};
 ghost use lib.ListN.{length, getD};
 ghost use Rattle.lists.specs.All.{allFrom};
-ghost use Rattle.topology.specs.Graph.{inRows, neighbour, weight};
-ghost use Rattle.topology.specs.Rule.{rowsOk, hasArc, rowAnswered, answered, Rows};
+ghost use Rattle.topology.specs.Graph.{inRows, weight};
+ghost use Rattle.topology.specs.Rule.{rowsOk, hasArc, answered, Rows};
 ghost use Rattle.topology.specs.Lookup.{Rises, Halved};
 
 // The first arc from lo up to hi that goes to u or above, hi where there is none. It halves the row, which rises strictly.

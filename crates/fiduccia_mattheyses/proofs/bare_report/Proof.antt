@@ -1,7 +1,6 @@
 -- `fiduccia_mattheyses::bare_report` meets its contract. Assumes nothing.
 use mathlib.Core.Path.{refl}
 use Rattle.lists.specs.Fill.{table}
-use borrow.Author.Needs.{needs}
 use Rattle.fiduccia_mattheyses.proofs.bare_report.Statement.{statement}
 use Rattle.fiduccia_mattheyses.proofs.bare_report.Tie as tie
 use Rattle.fiduccia_mattheyses.proofs.bare_report.Reads as reads

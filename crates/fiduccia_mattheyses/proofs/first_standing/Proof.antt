@@ -1,5 +1,5 @@
 -- `fiduccia_mattheyses::first_standing` meets its contract: the cut is far from the end of its type. Assumes nothing.
-use mathlib.Core.Path.{_≡_, refl}
+use mathlib.Core.Path.{refl}
 use native.Mathlib.Omega.{arith}
 use Rattle.lists.proofs.Differences.{read}
 use borrow.Author.Needs.{needs}

@@ -1,10 +1,10 @@
 -- `fiduccia_mattheyses::make_passes` meets its contract: each turn is a law of `Running`. Assumes nothing.
 mod Lts
 mod Tie
-use mathlib.Core.Path.{_≡_, refl, sym, ap, _∙_}
-use Prim.Native.Nat.{ℕ, _-_}
+use mathlib.Core.Path.{refl, sym, _∙_}
+use Prim.Native.Nat.{_-_}
 use native.Mathlib.Omega.{arith}
-use lib.ListN.{length, length-set}
+use lib.ListN.{length-set}
 use borrow.Author.Needs.{needs}
 use Rattle.fiduccia_mattheyses.specs.Inner.{settingBy}
 use Rattle.fiduccia_mattheyses.proofs.Running.{Running, running-start, rows-long, pass-small, running-full, running-gainless, running-on}

@@ -1,6 +1,6 @@
 -- `fm::move_at` meets its contract: a walk of its MIR, by hand. The place of the element is computed, the borrow is looked into, and the record there is copied out.
 -- Assumes nothing.
-use mathlib.Core.Path.{_≡_, refl, sym}
+use mathlib.Core.Path.{refl, sym}
 use Prim.Native.Nat.{ℕ, _<_, _^_}
 use mathlib.Core.List.{[], _∷_, List}
 use lib.ListN.{length, getD}

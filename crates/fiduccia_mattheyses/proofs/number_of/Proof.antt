@@ -1,5 +1,5 @@
 -- `fiduccia_mattheyses::number_of` meets its contract: each way out rewrites with the tests that led there. Assumes nothing.
-use mathlib.Core.Path.{_≡_, sym, _∙_}
+use mathlib.Core.Path.{sym, _∙_}
 use Rattle.lists.proofs.Numbers.{or-else-first, or-else-then}
 use Rattle.fiduccia_mattheyses.specs.Entry.{numberOf}
 use borrow.Author.Needs.{needs}

@@ -1,9 +1,7 @@
 -- `fiduccia_mattheyses::pass` meets its contract: each call's answer is handed on by a law of `Passing`. Assumes nothing.
 mod Lts
 mod Tie
-use mathlib.Core.Path.{_≡_, refl, sym, ap, _∙_}
-use native.Mathlib.Omega.{arith}
-use lib.ListN.{length}
+use mathlib.Core.Path.{sym, _∙_}
 use Rattle.fiduccia_mattheyses.proofs.Passing.{cut-room, walk-asked, rewind-asked, least-read, least-plain, pass-done}
 use borrow.Author.Needs.{needs}
 use Rattle.fiduccia_mattheyses.proofs.pass.Statement.{statement}

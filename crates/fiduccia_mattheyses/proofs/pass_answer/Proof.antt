@@ -1,8 +1,7 @@
 -- `fiduccia_mattheyses::pass_answer` meets its contract: a least cut is not negative. Assumes nothing.
-use mathlib.Core.Path.{_≡_, refl}
+use mathlib.Core.Path.{refl}
 use mir.Facts.{toZ-ofZ}
 use Rattle.fiduccia_mattheyses.proofs.Plain.{plain-cast, plain-is}
-use borrow.Author.Needs.{needs}
 use Rattle.fiduccia_mattheyses.proofs.pass_answer.Statement.{statement}
 use Rattle.fiduccia_mattheyses.proofs.pass_answer.Tie as tie
 use Rattle.fiduccia_mattheyses.proofs.pass_answer.Reads as reads

@@ -1,8 +1,7 @@
 -- `fiduccia_mattheyses::refine` meets its contract: each call's answer is handed on by a law of `Entering`. Assumes nothing.
 mod Lts
 mod Tie
-use mathlib.Core.Path.{_≡_, refl, sym, ap, _∙_}
-use Prim.Native.Nat.{ℕ}
+use mathlib.Core.Path.{sym, _∙_}
 use native.Mathlib.Omega.{arith}
 use lib.ListN.{length}
 use borrow.Author.Needs.{needs}

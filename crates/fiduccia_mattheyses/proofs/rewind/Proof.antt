@@ -1,8 +1,8 @@
 -- `fiduccia_mattheyses::rewind` meets its contract: each turn is a law of `Rewinding`. Assumes nothing.
 mod Lts
 mod Tie
-use mathlib.Core.Path.{_≡_, refl, sym, ap, _∙_}
-use Prim.Native.Nat.{ℕ, _-_, _≤_}
+use mathlib.Core.Path.{_≡_, ap, _∙_}
+use Prim.Native.Nat.{_-_, _≤_}
 use native.Mathlib.Omega.{arith}
 use lib.ListN.{length}
 use borrow.Author.Needs.{needs}

@@ -1,10 +1,9 @@
 -- `fiduccia_mattheyses::walk_moves` meets its contract: each turn is a law of `Walking`. Assumes nothing.
 mod Lts
 mod Tie
-use mathlib.Core.Path.{_≡_, refl, sym, ap, _∙_}
-use Prim.Native.Nat.{ℕ, _-_}
+use mathlib.Core.Path.{refl, sym, _∙_}
+use Prim.Native.Nat.{_-_}
 use native.Mathlib.Omega.{arith}
-use lib.ListN.{length}
 use borrow.Author.Needs.{needs}
 use Rattle.fiduccia_mattheyses_pass.proofs.Updates.{back}
 use Rattle.fiduccia_mattheyses.specs.Inner.{settingBy}

@@ -1,5 +1,5 @@
 -- `topology::lambda_cut_number` meets its contract: each way out rewrites with the tests that led there. Assumes nothing.
-use mathlib.Core.Path.{_≡_, sym, _∙_}
+use mathlib.Core.Path.{sym, _∙_}
 use Rattle.lists.proofs.Numbers.{or-else-first, or-else-then}
 use Rattle.topology.specs.Number.{lambdaCutNumber}
 use borrow.Author.Needs.{needs}

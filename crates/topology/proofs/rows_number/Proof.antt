@@ -1,5 +1,5 @@
 -- `topology::rows_number` meets its contract: each way out rewrites with the tests that led there. Assumes nothing.
-use mathlib.Core.Path.{_≡_, sym, _∙_}
+use mathlib.Core.Path.{sym, _∙_}
 use borrow.Author.Tests.{not-true, not-false}
 use Rattle.topology.specs.Graph.{inRows}
 use Rattle.topology.specs.Rule.{rowsNumber}

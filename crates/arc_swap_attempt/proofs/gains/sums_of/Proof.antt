@@ -1,8 +1,7 @@
-use mathlib.Core.Path.{_≡_, refl, _∙_}
-use Prim.Native.Nat.{_≤_, _<_, _-_}
+use Prim.Native.Nat.{_<_, _-_}
 use native.Mathlib.Omega.{arith}
-use lib.ListN.{length, getD}
-use Rattle.topology.specs.Graph.{Graph, inRows}
+use lib.ListN.{length}
+use Rattle.topology.specs.Graph.{inRows}
 use Rattle.topology.proofs.Rises.{arc-inside, arc-goes}
 use Rattle.arc_swap_attempt.proofs.Rowsums.{Passed, begins, room, turn, ended}
 use borrow.Author.Needs.{needs}

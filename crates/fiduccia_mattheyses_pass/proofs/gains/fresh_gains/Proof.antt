@@ -1,6 +1,6 @@
 -- `fiduccia_mattheyses_pass::gains::fresh_gains` meets its contract. The loop's invariant: the gains of the vertices so far are written. Assumes nothing.
 use mathlib.Core.Path.{_≡_, ap, _∙_}
-use Prim.Native.Nat.{ℕ, _-_, _≤_}
+use Prim.Native.Nat.{_-_, _≤_}
 use native.Mathlib.Omega.{arith}
 use lib.ListN.{length, set}
 use mir.Syntax.{w64}

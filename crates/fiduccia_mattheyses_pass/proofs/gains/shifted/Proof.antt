@@ -1,8 +1,6 @@
 -- `fiduccia_mattheyses_pass::gains::shifted` meets its contract.  Assumes nothing.
-use Prim.Native.Nat.{ℕ, _+_, _<_}
-use native.Mathlib.Omega.{arith}
 use mir.Facts.{toZ-ofZ}
-use Rattle.fiduccia_mattheyses_pass.proofs.Updates.{doubled, double-fits, through, up-fits, down-fits, shift-up, shift-down}
+use Rattle.fiduccia_mattheyses_pass.proofs.Updates.{doubled, double-fits, up-fits, down-fits, shift-up, shift-down}
 use borrow.Author.Needs.{needs}
 use Rattle.fiduccia_mattheyses_pass.proofs.gains.shifted.Statement.{statement}
 use Rattle.fiduccia_mattheyses_pass.proofs.gains.shifted.Tie as tie

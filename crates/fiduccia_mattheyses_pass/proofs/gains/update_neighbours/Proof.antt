@@ -1,12 +1,12 @@
 -- `fiduccia_mattheyses_pass::gains::update_neighbours` meets its contract. The loop's invariant: the gains are brought up to date over the arcs so far, and each has grown by at most twice a weight an arc. Assumes nothing.
-use mathlib.Core.Path.{_≡_, refl, sym, _∙_, ap, ap₂}
+use mathlib.Core.Path.{_≡_, refl}
 use Prim.Native.Nat.{ℕ, _+_, _-_, _*_, _≤_, _<_}
 use native.Mathlib.Omega.{arith}
-use lib.ListN.{length, getD, set, length-set}
-use lib.IntN.{ℤ, pos}
+use lib.ListN.{length, getD, length-set}
+use lib.IntN.{pos}
 use lib.Signed.{mag}
 use Rattle.fiduccia_mattheyses_pass.specs.Scan.{slotOf}
-use Rattle.fiduccia_mattheyses_pass.specs.Update.{shift, updated}
+use Rattle.fiduccia_mattheyses_pass.specs.Update.{updated}
 use Rattle.fiduccia_mattheyses_pass.proofs.Updates.{back, free-of}
 use Rattle.fiduccia_mattheyses_pass.proofs.Updates.{updated-none, mag-set, turn-passed, turn-updated}
 use borrow.Author.Needs.{needs}

@@ -1,5 +1,5 @@
 -- `fiduccia_mattheyses_pass::moves::make_move` meets its contract: the loads, the label and gains, and the standing, each by its function. Assumes nothing.
-use mathlib.Core.Path.{_≡_, ap, _∙_}
+use mathlib.Core.Path.{ap, _∙_}
 use mathlib.Core.List.{List}
 use Prim.Native.Nat.{ℕ}
 use native.Mathlib.Omega.{arith}

@@ -1,8 +1,8 @@
 -- `fiduccia_mattheyses_pass::moves::move_vertex` meets its contract.  Assumes nothing.
-use mathlib.Core.Path.{_≡_, refl, sym, _∙_, ap, ap₂}
-use Prim.Native.Nat.{ℕ, _+_, _-_, _*_, _≤_, _<_}
+use mathlib.Core.Path.{refl, _∙_}
+use Prim.Native.Nat.{_+_, _-_}
 use native.Mathlib.Omega.{arith}
-use lib.ListN.{length, getD, set, length-set}
+use lib.ListN.{length-set}
 use Rattle.fiduccia_mattheyses_pass.specs.Choice.{flip}
 use Rattle.fiduccia_mattheyses_pass.specs.Scan.{lock}
 use Rattle.fiduccia_mattheyses_pass.proofs.Updates.{mag-set}

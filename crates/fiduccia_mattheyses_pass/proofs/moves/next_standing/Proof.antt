@@ -1,11 +1,10 @@
 -- `fiduccia_mattheyses_pass::moves::next_standing` meets its contract: the numbers are far from the ends of their types. Assumes nothing.
-use mathlib.Core.Path.{_≡_, refl}
+use mathlib.Core.Path.{refl}
 use native.Mathlib.Omega.{arith}
 use borrow.Author.Needs.{sfits-of}
 use lib.IntN.{_-ℤ_}
 use Rattle.lists.proofs.Differences.{mag-minus}
 use Rattle.fiduccia_mattheyses_pass.proofs.Updates.{back}
-use borrow.Author.Needs.{needs}
 use Rattle.fiduccia_mattheyses_pass.proofs.moves.next_standing.Statement.{statement}
 use Rattle.fiduccia_mattheyses_pass.proofs.moves.next_standing.Tie as tie
 use Rattle.fiduccia_mattheyses_pass.proofs.moves.next_standing.Reads as reads

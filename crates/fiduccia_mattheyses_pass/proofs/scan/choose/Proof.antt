@@ -1,13 +1,12 @@
 -- `fiduccia_mattheyses_pass::scan::choose` meets its contract. The loop's invariant: what is held is the pick among the vertices so far (`Scans`). Assumes nothing.
-use mathlib.Core.Path.{_≡_, sym, ap₂, _∙_}
-use Prim.Native.Nat.{ℕ, _+_, _-_, _≤_}
+use mathlib.Core.Path.{_≡_, ap₂}
+use Prim.Native.Nat.{_+_, _-_, _≤_}
 use native.Mathlib.Omega.{arith}
 use lib.ListN.{length, getD}
 use mir.Syntax.{w64}
 use mir.Val.{toZ}
 use mir.ValLaws.{toZ-ofZ}
 use Rattle.imbalance.specs.Load.{part}
-use Rattle.fiduccia_mattheyses_pass.specs.Scan.{loadAfter, ceilingAt}
 use Rattle.fiduccia_mattheyses_pass.proofs.Scans.{Scanned, scan-none, scan-below, scan-heavy, scan-not, scan-take, opposed, opposed-most, scan-found, scan-nobody}
 use borrow.Author.Needs.{needs}
 use Rattle.fiduccia_mattheyses_pass.proofs.scan.choose.Statement.{statement}

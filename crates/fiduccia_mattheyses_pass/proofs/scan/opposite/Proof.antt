@@ -1,6 +1,5 @@
 -- `fiduccia_mattheyses_pass::scan::opposite` meets its contract. Assumes nothing.
 use borrow.Author.Tests.{eq-eqb, ne-eqb}
-use borrow.Author.Needs.{needs}
 use Rattle.fiduccia_mattheyses_pass.proofs.scan.opposite.Statement.{statement}
 use Rattle.fiduccia_mattheyses_pass.proofs.scan.opposite.Tie as tie
 use Rattle.fiduccia_mattheyses_pass.proofs.scan.opposite.Reads as reads

@@ -1,6 +1,5 @@
 -- `fiduccia_mattheyses_pass::scan::outranks` meets its contract. Assumes nothing.
 use mir.Facts.{toZ-ofZ}
-use borrow.Author.Needs.{needs}
 use Rattle.fiduccia_mattheyses_pass.proofs.scan.outranks.Statement.{statement}
 use Rattle.fiduccia_mattheyses_pass.proofs.scan.outranks.Tie as tie
 use Rattle.fiduccia_mattheyses_pass.proofs.scan.outranks.Reads as reads

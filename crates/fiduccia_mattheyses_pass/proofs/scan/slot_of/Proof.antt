@@ -1,6 +1,5 @@
 -- `fiduccia_mattheyses_pass::scan::slot_of` meets its contract. Assumes nothing.
 use mir.Facts.{toZ-ofZ}
-use borrow.Author.Needs.{needs}
 use Rattle.fiduccia_mattheyses_pass.proofs.scan.slot_of.Statement.{statement}
 use Rattle.fiduccia_mattheyses_pass.proofs.scan.slot_of.Tie as tie
 use Rattle.fiduccia_mattheyses_pass.proofs.scan.slot_of.Reads as reads

@@ -1,6 +1,5 @@
 -- `refine_words::lines::put_pass_lines` meets its contract, pass by pass. Assumes nothing.
 use Prim.Native.Nat.{_-_}
-use native.Mathlib.Omega.{arith}
 use Rattle.refine_words.specs.Line.{passLines}
 use Rattle.refine_words.proofs.Texts.{Here, here-none, here-more, here-room, here-all, passes-none, passes-next}
 use borrow.Author.Needs.{needs}

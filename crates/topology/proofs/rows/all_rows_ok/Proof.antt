@@ -1,15 +1,14 @@
 -- `topology::rows::all_rows_ok` meets its contract. The loop's invariant: every row so far is in order. Assumes nothing.
-use mathlib.Core.Path.{_≡_, refl, sym, _∙_}
+use mathlib.Core.Path.{_≡_, sym, _∙_}
 use mathlib.Core.Bool.{true}
 use mathlib.Core.List.{[]}
-use Prim.Native.Nat.{ℕ, _+_, _-_, _≤_}
+use Prim.Native.Nat.{_-_, _≤_}
 use native.Mathlib.Omega.{arith}
-use lib.ListN.{getD}
 use borrow.Author.Tests.{not-true, not-false}
 use Rattle.lists.specs.All.{all}
 use Rattle.lists.proofs.Alls.{all-none, all-more, all-fails}
 use Rattle.topology.specs.Graph.{inRows}
-use Rattle.topology.specs.Rule.{rowOk, arcOk}
+use Rattle.topology.specs.Rule.{rowOk}
 use Rattle.topology.proofs.Rules.{row-read}
 use Rattle.topology.proofs.Starts.{start-rises, start-inside}
 use borrow.Author.Needs.{needs}

@@ -1,6 +1,5 @@
 use borrow.Author.Tests.{lt-ltb, le-ltb}
 use Rattle.topology.specs.Rule.{oversize}
-use borrow.Author.Needs.{needs}
 use Rattle.topology.proofs.rows.oversized.Statement.{statement}
 use Rattle.topology.proofs.rows.oversized.Tie as tie
 use Rattle.topology.proofs.rows.oversized.Reads as reads

@@ -1,5 +1,5 @@
 -- `topology::rows::rows_ok` meets its contract: the starts' rule, then every row's. Assumes nothing.
-use mathlib.Core.Path.{_≡_, sym, _∙_}
+use mathlib.Core.Path.{sym, _∙_}
 use Rattle.topology.specs.Rule.{rowsOk}
 use borrow.Author.Needs.{needs}
 use Rattle.topology.proofs.rows.rows_ok.Statement.{statement}
