@@ -1,13 +1,11 @@
 /* Counts the instructions of coupe's Rust, of plain C and of the port on the same inputs, and holds their answers against each
- * other. It prints the tables of docs/SPEED.md, and ends with 1 where answers differ. It runs under callgrind alone (bench/run):
+ * other. It prints the tables of docs/SPEED.md, and ends with 1 where answers differ. It runs under a counter alone (bench/run):
  *
- *     bench FILE        FILE is the one that callgrind was given by --callgrind-out-file
- *
- * Callgrind collects between two requests and then writes what it collected to FILE.1, FILE.2, .. which are read here. */
+ *     bench FILE        under callgrind, which was given FILE by --callgrind-out-file
+ *     bench             under qemu-x86_64 with the plugin count.c */
 #include "workload.h"
+#include "count.h"
 #include "reference.h"
-#include <stdlib.h>
-#include <valgrind/callgrind.h>
 
 static const struct workload WORKLOADS[] = {
     {"grid, weights 1", 8, 8, 2, 1},
@@ -17,14 +15,25 @@ static const struct workload WORKLOADS[] = {
     {"random, weights 1 to 100", 512, 0, 2, 100},
     {"random, weights 1 to 100", 4096, 0, 2, 100},
 };
-static const struct workload SCANNED[] = {
-    {"random, weights 1 to 100", 4096, 0, 2, 100},
-    {"grid, weights 1 to 3", 64, 64, 2, 3},
-    {"grid, weights 1", 64, 64, 2, 1},
-    {"path, weights 1", 4096, 1, 2, 1},
+/* What the scan is counted on. Where the shape is null it is a grid or a random graph. A count of moves of 0 stands for no row. */
+static const struct scanned {
+    struct workload workload;
+    void (*shape)(void);
+    uint32_t ceiling, moves[2];
+} SCANNED[] = {
+    {{"random, weights 1 to 100", 4096, 0, 2, 100}, NULL, DAUNSREVIT_IMBALANCE, {1000, 4096}},
+    {{"grid, weights 1 to 3", 64, 64, 2, 3}, NULL, DAUNSREVIT_IMBALANCE, {1000, 4096}},
+    {{"grid, weights 1", 64, 64, 2, 1}, NULL, DAUNSREVIT_IMBALANCE, {1000, 4096}},
+    {{"path, weights 1", 4096, 1, 2, 1}, NULL, DAUNSREVIT_IMBALANCE, {1000, 4096}},
+    {{.name = "no arcs, weights 1"}, no_arcs, DAUNSREVIT_IMBALANCE, {1000, 4096}},
+    {{.name = "path, weights rising"}, rising, DAUNSREVIT_IMBALANCE, {1000, 4096}},
+    {{.name = "one board full"}, one_full, DAUNSREVIT_CARRIED, {1000, 4096}},
+    {{.name = "nine tenths on one board, the other full"}, nine_tenths, DAUNSREVIT_CARRIED, {300, 4096}},
+    {{.name = "most gains too heavy"}, too_heavy, DAUNSREVIT_CARRIED, {90, 0}},
+    {{.name = "against the sample"}, against_sample, DAUNSREVIT_IMBALANCE, {1000, 4096}},
 };
 static const double IMBALANCE = 0.1;
-enum { FM_PASSES = 64, KL_PASSES = 4, KL_SWAPS = 32, UNCHANGED_RUNS = 3, SCANNED_MOVES = 1000 };
+enum { FM_PASSES = 64, KL_PASSES = 4, KL_SWAPS = 32, UNCHANGED_RUNS = 3 };
 
 /* A HashSet of Rust's takes its seed from here, so that the unchanged FM repeats too. Each later set has another seed. */
 long getrandom(void *buffer, size_t count, unsigned flags)
@@ -33,37 +42,6 @@ long getrandom(void *buffer, size_t count, unsigned flags)
     memset(buffer, 0x5a, count);
     return (long)count;
 }
-
-static const char *out_file;
-static unsigned dumps;
-static uint64_t empty; /* what is collected of no call at all */
-
-/* The count that callgrind has just written. */
-static uint64_t collected(void)
-{
-    char name[4096], line[4096];
-    unsigned long long count = 0;
-    int found = 0;
-    snprintf(name, sizeof name, "%s.%u", out_file, ++dumps);
-    FILE *file = fopen(name, "r");
-    while (file && fgets(line, sizeof line, file))
-        found |= sscanf(line, "totals: %llu", &count) == 1;
-    if (!found) {
-        fprintf(stderr, "bench: no count in %s\n", name);
-        exit(2);
-    }
-    fclose(file);
-    remove(name);
-    return count - empty;
-}
-#define COUNT(into, call) \
-    do { \
-        CALLGRIND_TOGGLE_COLLECT; \
-        call; \
-        CALLGRIND_TOGGLE_COLLECT; \
-        CALLGRIND_DUMP_STATS; \
-        into = collected(); \
-    } while (0)
 
 static struct workload now;
 static const char *call;
@@ -319,25 +297,30 @@ static const struct {
     {"loads", 2, loads},
 };
 
-/* The scan for the next vertex: one pass of so many moves, less the same call without a move, by the vertices looked at. */
-static void scan(uint32_t most_moves)
+/* The scan for the next vertex: one pass of so many moves, less the same call without a move, by the vertices looked at. The
+ * ceiling can end the pass before the limit, so the moves made are what counts. */
+static void scan(uint32_t ceiling, uint32_t most_moves)
 {
-    struct daunsrevit_fiduccia_mattheyses_settings s = {.passes = 1, .bad = graph.n, .choice = DAUNSREVIT_IMBALANCE,
-        .imbalance = IMBALANCE};
-    struct daunsrevit_fiduccia_mattheyses_report r;
+    struct daunsrevit_fiduccia_mattheyses_settings s = {.passes = 1, .bad = graph.n, .choice = ceiling, .imbalance = IMBALANCE};
+    struct daunsrevit_fiduccia_mattheyses_report from_plain, from_port;
+    static uint32_t plain_labels[MOST_N];
     uint64_t plain_count[2], port_count[2];
+    uint32_t made, rewound;
     for (int i = 0; i < 2; i++) {
         s.moves = i == 0 ? 0 : most_moves;
         lend();
-        COUNT(plain_count[i], r = plain_fm(&graph, labels, gains, moves, rows_made, rows_rewound, s));
-        expect(r.number == 0 && rows_made[0] == s.moves, "the moves of plain C");
+        COUNT(plain_count[i], from_plain = plain_fm(&graph, labels, gains, moves, &made, &rewound, s));
+        memcpy(plain_labels, labels, sizeof labels);
         lend();
-        COUNT(port_count[i], r = port_fm(s));
-        expect(r.number == 0 && rows_made[0] == s.moves, "the moves of the port");
+        COUNT(port_count[i], from_port = port_fm(s));
+        expect(from_plain.number == 0 && from_port.number == 0 && rows_made[0] == made && rows_rewound[0] == rewound &&
+            from_port.last == from_plain.last && !memcmp(labels, plain_labels, graph.n * sizeof *labels), "port and plain C");
+        expect(made <= s.moves && (made > 0) == (s.moves > 0), "moves");
     }
-    double looked_at = (double)most_moves * graph.n;
-    printf("| %s | %s | %s | %.2f | %.2f |\n", now.name, grouped(graph.n), grouped(most_moves),
+    double looked_at = (double)made * graph.n;
+    printf("| %s | %s | %s | %.2f | %.2f |\n", now.name, grouped(graph.n), grouped(made),
         (double)(plain_count[1] - plain_count[0]) / looked_at, (double)(port_count[1] - port_count[0]) / looked_at);
+    fflush(stdout);
 }
 
 static void all(void)
@@ -360,22 +343,25 @@ static void all(void)
         "| Rust, lowest vertex | Plain C | Port |\n|---|---|---|---|---|---|---|---|---|---|---|\n%s", details);
     printf("\n| Graph | n | Moves | Plain C, a vertex | Port, a vertex |\n|---|---|---|---|---|\n");
     call = "the scan";
-    for (size_t k = 0; k < sizeof SCANNED / sizeof *SCANNED; k++) {
-        now = SCANNED[k];
-        make(&now);
-        scan(SCANNED_MOVES);
-        scan(graph.n);
+    for (const struct scanned *t = SCANNED; t < SCANNED + sizeof SCANNED / sizeof *SCANNED; t++) {
+        now = t->workload;
+        if (t->shape)
+            t->shape();
+        else
+            make(&now);
+        for (int i = 0; i < 2; i++)
+            if (t->moves[i])
+                scan(t->ceiling, t->moves[i]);
     }
     printf("\n%s\n", differing ? "ANSWERS DIFFER" : "All answers agree.");
 }
 
 int main(int count, char **words)
 {
-    if (count != 2 || !RUNNING_ON_VALGRIND) {
+    if (!can_count(count > 1 ? words[1] : NULL)) {
         fprintf(stderr, "bench: run it by bench/run\n");
         return 2;
     }
-    out_file = words[1];
     reference_inside(all);
     return differing;
 }

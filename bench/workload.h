@@ -34,46 +34,138 @@ static uint32_t arc_weight(uint32_t u, uint32_t v, uint32_t most)
     return 1 + (uint32_t)((x >> 32) % most);
 }
 
-static uint8_t joined[MOST_N][MOST_N];
+static uint16_t joined[MOST_N][MOST_N]; /* the weight of the arc, or 0 */
 
-static void join(uint32_t u, uint32_t v)
+static void begin(void)
 {
-    joined[u][v] = joined[v][u] = 1;
-}
-
-static void make(const struct workload *w)
-{
-    uint32_t n = w->high ? w->wide * w->high : w->wide, a = 0, part[DAUNSREVIT_PARTS] = {0};
     state = 2026;
     memset(joined, 0, sizeof joined);
-    for (uint32_t v = 0; w->high && v < n; v++) {
-        if (v % w->wide + 1 < w->wide)
-            join(v, v + 1);
-        if (v + w->wide < n)
-            join(v, v + w->wide);
-    }
-    for (uint32_t pairs = 0; !w->high && pairs < 4 * n;) {
-        uint32_t u = random_below(n), v = random_below(n);
-        if (u != v && !joined[u][v]) {
-            join(u, v);
-            pairs++;
-        }
-    }
+}
+
+static void join(uint32_t u, uint32_t v, uint32_t weight)
+{
+    joined[u][v] = joined[v][u] = (uint16_t)weight;
+}
+
+/* The rows of what was joined. */
+static void collect(uint32_t n)
+{
+    uint32_t a = 0;
     for (uint32_t v = 0; v < n; v++) {
         starts[v] = a;
         for (uint32_t u = 0; u < n; u++)
             if (joined[v][u]) {
                 neighbours[a] = u;
-                arc_weights[a++] = arc_weight(u, v, w->most_weight);
+                arc_weights[a++] = joined[v][u];
             }
-        weights[v] = 1 + random_below(w->most_weight);
-        first_labels[v] = random_below(w->parts);
-        part[first_labels[v]]++;
     }
     starts[n] = a;
     graph.n = n;
     graph.a = a;
+}
+
+static void make(const struct workload *w)
+{
+    uint32_t n = w->high ? w->wide * w->high : w->wide, part[DAUNSREVIT_PARTS] = {0};
+    begin();
+    for (uint32_t v = 0; w->high && v < n; v++) {
+        if (v % w->wide + 1 < w->wide)
+            join(v, v + 1, arc_weight(v, v + 1, w->most_weight));
+        if (v + w->wide < n)
+            join(v, v + w->wide, arc_weight(v, v + w->wide, w->most_weight));
+    }
+    for (uint32_t pairs = 0; !w->high && pairs < 4 * n;) {
+        uint32_t u = random_below(n), v = random_below(n);
+        if (u != v && !joined[u][v]) {
+            join(u, v, arc_weight(u, v, w->most_weight));
+            pairs++;
+        }
+    }
+    collect(n);
+    for (uint32_t v = 0; v < n; v++) {
+        weights[v] = 1 + random_below(w->most_weight);
+        first_labels[v] = random_below(w->parts);
+        part[first_labels[v]]++;
+    }
     smaller_part = part[0] < part[1] ? part[0] : part[1];
+}
+
+/* The graphs from here on are made for FM's scan: two parts and as many vertices as can be. */
+static inline void no_arcs(void)
+{
+    begin();
+    collect(MOST_N);
+    for (uint32_t v = 0; v < MOST_N; v++) {
+        weights[v] = 1;
+        first_labels[v] = random_below(2);
+    }
+}
+
+/* A path whose arcs are all cut and weigh more from one to the next, so that each vertex has a larger gain than the one before. No
+ * arc goes to a vertex that is a multiple of gap, if that is not 0. */
+static inline void rising_path(uint32_t gap)
+{
+    begin();
+    for (uint32_t v = 1; v < MOST_N; v++)
+        if (gap == 0 || (v % gap && (v - 1) % gap))
+            join(v - 1, v, v);
+    collect(MOST_N);
+    for (uint32_t v = 0; v < MOST_N; v++) {
+        weights[v] = 1;
+        first_labels[v] = v % 2;
+    }
+}
+
+static inline void rising(void)
+{
+    rising_path(0);
+}
+
+/* The scan samples every 64th vertex, and finds no gain there. */
+static inline void against_sample(void)
+{
+    rising_path(64);
+}
+
+/* Part 1 is a ring of the last vertices, with heavy arcs. Each vertex of part 0 has one arc, to the ring, and so would gain by a
+ * move, for which there may be no room. */
+static inline void ring(uint32_t count, uint32_t weight)
+{
+    uint32_t first = MOST_N - count;
+    begin();
+    for (uint32_t v = 0; v < first; v++)
+        join(v, first + v % count, 2);
+    for (uint32_t i = 0; i < count; i++)
+        join(first + i, first + (i + 1) % count, weight);
+    collect(MOST_N);
+    for (uint32_t v = 0; v < MOST_N; v++) {
+        weights[v] = 1 + random_below(3);
+        first_labels[v] = v >= first;
+    }
+}
+
+static inline void one_full(void)
+{
+    ring(MOST_N / 2, 3);
+}
+
+/* Part 1 is the heavier one. */
+static inline void nine_tenths(void)
+{
+    ring(MOST_N / 10, 30);
+    for (uint32_t v = 0; v < MOST_N; v++)
+        if (first_labels[v])
+            weights[v] = 20;
+}
+
+/* One vertex makes part 1 the heavier one. For the first moves, which are out of it and by light vertices, no vertex of part 0 has
+ * room there. */
+static inline void too_heavy(void)
+{
+    ring(MOST_N / 10, 30);
+    for (uint32_t v = 0; v < MOST_N; v++)
+        weights[v] = first_labels[v] ? 1 : 100;
+    weights[MOST_N - 1] = 400000;
 }
 
 /* The lent lists, and the labels that a call refines. */

@@ -22,7 +22,8 @@
  *
  * STACK. Nothing is on the heap. The most stack that a call takes below the caller's frame, in bytes, measured (docs/SPEED.md):
  *
- *     loads 304, edge cut 256, lambda cut 272, FM 976, KL 464, arc-swap 1,152, reading a plan 112, writing one 112, self-test 2,112
+ *     loads 304, edge cut 256, lambda cut 272, FM 1,024, KL 464, arc-swap 1,152, reading a plan 112, writing one 112,
+ *     self-test 2,160
  *
  * WHAT C MUST SEE TO. Nothing can prove this of the caller, and without it nothing is promised:
  *   - a pointer points to as many elements as its count says, properly aligned; it may be null only if the count is 0;

@@ -1,15 +1,14 @@
 -- What the code's tests tell of a trial: which of its three outcomes it is. Assumes nothing.
 use mathlib.Core.Path.{_≡_, refl, sym, ap, _∙_}
-use mathlib.Core.Bool.{Bool, true, false, not, cond}
+use mathlib.Core.Bool.{Bool, true, false, not}
 use mathlib.Core.List.{List}
 use mathlib.Core.Option.{Option, none, some}
 use Prim.Native.Nat.{ℕ, _+_, _-_, _≤_, _<_}
 use native.Mathlib.Omega.{arith}
 use lib.ListN.{length, getD}
 use lib.Dec.{ltb, leb, eqb}
-use lib.IntN.{pos}
 use lib.Signed.{leZ}
-use borrow.Author.Tests.{lt-ltb, le-ltb, le-leb, lt-leb, leb-true, leb-false, ltb-false, eqb-false, not-true}
+use borrow.Author.Tests.{lt-ltb, le-ltb, le-leb, lt-leb, leb-true, leb-false, eqb-false, not-true}
 use Rattle.lists.specs.Best.{best}
 use Rattle.lists.specs.Fill.{table}
 use Rattle.lists.proofs.Bests.{best-in}
@@ -21,7 +20,6 @@ use Rattle.topology.specs.Graph.{Graph, into, gain}
 use Rattle.arc_swap_attempt.specs.Trial.{aim, gladly, trial}
 use Rattle.arc_swap_attempt.specs.Inner.{picked, bestBy, Named, Tryable}
 use Rattle.arc_swap_attempt.specs.declared.Target.{Target}
-use Rattle.arc_swap_attempt.specs.declared.Trial.{Trial}
 use Rattle.arc_swap_attempt.specs.declared.Trial.the-variants.{NoGain, BadBalance, Goes}
 use Rattle.arc_swap_attempt.proofs.Aims.{target-is, gain-none, glad-is}
 
@@ -32,6 +30,73 @@ aim-in g k p v t e =
     let r = best-in (λ t. not (eqb t (part p v))) (λ t u. leZ (gain g p v u) (gain g p v t)) k t e in
     (r .0, eqb-false t (part p v) (not-true (eqb t (part p v)) (r .1)))
 
+-- What a trial that goes tells: the aim, its gain x, which is above 0, and the room in it.
+pub record Goal (g : Graph) (k : ℕ) (ws ceilings p : List ℕ) (v t x : ℕ) : Type 0 where
+  pub aim-is : aim g k p v ≡ some t
+  pub sums : into g p v t ≡ x + into g p v (part p v)
+  pub positive : 0 < x
+  pub room : load ws p t + getD ws v 0 ≤ getD ceilings t 0
+
+-- ---- the trial by its aim: no other part has a say in it
+module _ (g : Graph) (k : ℕ) (ws ceilings p : List ℕ) (v : ℕ) where
+  aimless : aim g k p v ≡ none → trial g k ws ceilings p v ≡ NoGain
+  unfolding trial
+  aimless e = rw (e, trial)
+
+  module _ (t : ℕ) (e : aim g k p v ≡ some t) where
+    gainless : into g p v t ≤ into g p v (part p v) → trial g k ws ceilings p v ≡ NoGain
+    unfolding trial
+    gainless l = rw (e, trial) (rw (gain-none g k p v t, le-leb (into g p v t) (into g p v (part p v)) l))
+
+    -- "Else target load above the ceiling: bad-balance count": also where the next best part has room and a gain
+    full : into g p v (part p v) < into g p v t → getD ceilings t 0 < load ws p t + getD ws v 0 → trial g k ws ceilings p v ≡ BadBalance
+    unfolding trial
+    full l m =
+        rw (e, trial)
+        (rw (gain-none g k p v t, lt-leb (into g p v t) (into g p v (part p v)) l, lt-ltb (getD ceilings t 0) (load ws p t + getD ws v 0) m))
+
+    roomy : into g p v (part p v) < into g p v t → load ws p t + getD ws v 0 ≤ getD ceilings t 0 → trial g k ws ceilings p v ≡ Goes t (into g p v t - into g p v (part p v))
+    unfolding trial
+    roomy l m =
+        rw (e, trial)
+        (rw (gain-none g k p v t, lt-leb (into g p v t) (into g p v (part p v)) l, le-ltb (getD ceilings t 0) (load ws p t + getD ws v 0) m))
+
+  pub goal : (t x : ℕ) → trial g k ws ceilings p v ≡ Goes t x → Goal g k ws ceilings p v t x
+  goal t x e = go (aim g k p v) refl
+    where
+      pick : (u : ℕ) → aim g k p v ≡ some u → (b : Bool) → leb (into g p v u) (into g p v (part p v)) ≡ b → (d : Bool) → leb (load ws p u + getD ws v 0) (getD ceilings u 0) ≡ d → Goal g k ws ceilings p v t x
+      pick u q true r d s =
+          let n = gainless u q (leb-true (into g p v u) (into g p v (part p v)) r) in
+          let o : _≡_ {A = ℕ} 0 1 = cc in
+          absurd (omega arith)
+      pick u q false r false s =
+          let n = full u q (leb-false (into g p v u) (into g p v (part p v)) r) (leb-false (load ws p u + getD ws v 0) (getD ceilings u 0) s) in
+          let o : _≡_ {A = ℕ} 0 1 = cc in
+          absurd (omega arith)
+      pick u q false r true s =
+          let l = leb-false (into g p v u) (into g p v (part p v)) r in
+          let m = leb-true (load ws p u + getD ws v 0) (getD ceilings u 0) s in
+          let n = roomy u q l m in
+          let ut : u ≡ t = cc in
+          let ix : into g p v u - into g p v (part p v) ≡ x = cc in
+          record { aim-is = q ∙ ap some ut; sums = rw (← ut) (omega arith); positive = omega arith; room = rw (← ut) m }
+
+      go : (o : Option ℕ) → aim g k p v ≡ o → Goal g k ws ceilings p v t x
+      go none q =
+          let n = aimless q in
+          let o : _≡_ {A = ℕ} 0 1 = cc in
+          absurd (omega arith)
+      go (some u) q = pick u q (leb (into g p v u) (into g p v (part p v))) refl (leb (load ws p u + getD ws v 0) (getD ceilings u 0)) refl
+
+  -- an attempt that does not go has no positive gain to its aim, or no room in it
+  pub not-goes : (t : ℕ) → aim g k p v ≡ some t → ((u x : ℕ) → trial g k ws ceilings p v ≡ Goes u x → ⊥) → load ws p t + getD ws v 0 ≤ getD ceilings t 0 → into g p v t ≤ into g p v (part p v)
+  not-goes t e stays fits = go (leb (into g p v t) (into g p v (part p v))) refl
+    where
+      go : (b : Bool) → leb (into g p v t) (into g p v (part p v)) ≡ b → into g p v t ≤ into g p v (part p v)
+      go true q = leb-true (into g p v t) (into g p v (part p v)) q
+      go false q = absurd (stays t (into g p v t - into g p v (part p v)) (roomy t e (leb-false (into g p v t) (into g p v (part p v)) q) fits))
+
+-- ---- the trial by the code's sums and loads
 module _ (g : Graph) (k : ℕ) (p : List ℕ) (v : ℕ) (ok : Named g k p) (here : v < length p) (at : List ℕ) (own : ℕ) (c : Target)
     (own-is : own ≡ part p v) (at-is : at ≡ table 16 (into g p v)) (best-is : c ≡ picked own (λ t. getD at t 0) (bestBy (λ t. getD at t 0) own k)) where
   pub own-below : own < 16
@@ -71,68 +136,21 @@ module _ (g : Graph) (k : ℕ) (p : List ℕ) (v : ℕ) (ok : Named g k p) (here
     load-small l = omega (arith, load-is l, load-within ws p (ask .weighed) (c .part), ask .light)
 
     pub no-gain : c .sum ≤ getD at own 0 → NoGain ≡ trial g k ws ceilings p v
-    unfolding trial
     no-gain l = go (aim g k p v) refl
       where
-        go : (o : Option ℕ) → aim g k p v ≡ o → NoGain ≡ elim o [ none ↦ NoGain | some t ↦ cond (leZ (gain g p v t) (pos 0)) NoGain (cond (ltb (getD ceilings t 0) (load ws p t + getD ws v 0)) BadBalance (Goes t (into g p v t - into g p v (part p v)))) ]
-        go none q = refl
+        go : (o : Option ℕ) → aim g k p v ≡ o → NoGain ≡ trial g k ws ceilings p v
+        go none q = sym (aimless g k ws ceilings p v q)
         go (some t) q =
             let r : c .sum ≡ into g p v t = ap (λ (x : Target). x .sum) (aimed ∙ ap (picked (part p v) (into g p v)) q) in
-            let s = own-sum in
-            rw (gain-none g k p v t, le-leb (into g p v t) (into g p v (part p v)) (omega arith))
+            sym (gainless g k ws ceilings p v t q (omega (arith, own-sum)))
 
     -- with a positive gain the load decides
-    by-load : getD at own 0 < c .sum → trial g k ws ceilings p v ≡ cond (ltb (getD ceilings (c .part) 0) (getD loads (c .part) 0 + getD ws v 0)) BadBalance (Goes (c .part) (c .sum - getD at own 0))
-    unfolding trial
-    by-load l =
-        let s = own-sum in
-        let r = gains-to l in
-        let m : into g p v (part p v) < into g p v (c .part) = omega (arith, r .1) in
-        rw (r .0, trial) (rw (gain-none g k p v (c .part), lt-leb (into g p v (c .part)) (into g p v (part p v)) m, load-is l, r .1, s))
+    module _ (l : getD at own 0 < c .sum) (x : ℕ) (x-is : x ≡ getD loads (c .part) 0 + getD ws v 0) where
+      gains : into g p v (part p v) < into g p v (c .part)
+      gains = omega (arith, own-sum, gains-to l .1)
 
-    pub heavy : getD at own 0 < c .sum → (x : ℕ) → x ≡ getD loads (c .part) 0 + getD ws v 0 → getD ceilings (c .part) 0 < x → BadBalance ≡ trial g k ws ceilings p v
-    heavy l x e m = sym (by-load l ∙ rw (← e, lt-ltb (getD ceilings (c .part) 0) x m))
+      pub heavy : getD ceilings (c .part) 0 < x → BadBalance ≡ trial g k ws ceilings p v
+      heavy m = sym (full g k ws ceilings p v (c .part) (gains-to l .0) gains (omega (arith, load-is l)))
 
-    pub goes : getD at own 0 < c .sum → (x : ℕ) → x ≡ getD loads (c .part) 0 + getD ws v 0 → x ≤ getD ceilings (c .part) 0 → Goes (c .part) (c .sum - getD at own 0) ≡ trial g k ws ceilings p v
-    goes l x e m = sym (by-load l ∙ rw (← e, le-ltb (getD ceilings (c .part) 0) x m))
-
--- What a trial that goes tells: the aim, its gain x, which is above 0, and the room in it.
-pub record Goal (g : Graph) (k : ℕ) (ws ceilings p : List ℕ) (v t x : ℕ) : Type 0 where
-  pub aim-is : aim g k p v ≡ some t
-  pub sums : into g p v t ≡ x + into g p v (part p v)
-  pub positive : 0 < x
-  pub room : load ws p t + getD ws v 0 ≤ getD ceilings t 0
-
-module _ (g : Graph) (k : ℕ) (ws ceilings p : List ℕ) (v : ℕ) where
-  abbrev outcome : Option ℕ → Trial
-  outcome o = elim o [ none ↦ NoGain | some t ↦ cond (leZ (gain g p v t) (pos 0)) NoGain (cond (ltb (getD ceilings t 0) (load ws p t + getD ws v 0)) BadBalance (Goes t (into g p v t - into g p v (part p v)))) ]
-
-  goal-by : (o : Option ℕ) → aim g k p v ≡ o → (t x : ℕ) → outcome o ≡ Goes t x → Goal g k ws ceilings p v t x
-  goal-by none q t x e = let o : _≡_ {A = ℕ} 0 1 = cc in absurd (omega arith)
-  goal-by (some u) q t x e = pick (leZ (gain g p v u) (pos 0)) refl (ltb (getD ceilings u 0) (load ws p u + getD ws v 0)) refl e
-    where
-      pick : (b : Bool) → leZ (gain g p v u) (pos 0) ≡ b → (d : Bool) → ltb (getD ceilings u 0) (load ws p u + getD ws v 0) ≡ d → cond b NoGain (cond d BadBalance (Goes u (into g p v u - into g p v (part p v)))) ≡ Goes t x → Goal g k ws ceilings p v t x
-      pick true r d s e = let o : _≡_ {A = ℕ} 0 1 = cc in absurd (omega arith)
-      pick false r true s e = let o : _≡_ {A = ℕ} 0 1 = cc in absurd (omega arith)
-      pick false r false s e =
-          let ut : u ≡ t = cc in
-          let ix : into g p v u - into g p v (part p v) ≡ x = cc in
-          let l = leb-false (into g p v u) (into g p v (part p v)) (sym (gain-none g k p v u) ∙ r) in
-          let m = ltb-false (getD ceilings u 0) (load ws p u + getD ws v 0) s in
-          record { aim-is = q ∙ ap some ut; sums = rw (← ut) (omega arith); positive = omega arith; room = rw (← ut) m }
-
-  pub goal : (t x : ℕ) → trial g k ws ceilings p v ≡ Goes t x → Goal g k ws ceilings p v t x
-  unfolding trial
-  goal t x e = goal-by (aim g k p v) refl t x e
-
-  -- an attempt that does not go has no positive gain to its aim, or no room in it
-  pub not-goes : (t : ℕ) → aim g k p v ≡ some t → ((u x : ℕ) → trial g k ws ceilings p v ≡ Goes u x → ⊥) → load ws p t + getD ws v 0 ≤ getD ceilings t 0 → into g p v t ≤ into g p v (part p v)
-  unfolding trial
-  not-goes t e stays fits = go (leb (into g p v t) (into g p v (part p v))) refl
-    where
-      go : (b : Bool) → leb (into g p v t) (into g p v (part p v)) ≡ b → into g p v t ≤ into g p v (part p v)
-      go true q = leb-true (into g p v t) (into g p v (part p v)) q
-      go false q =
-          absurd
-          (stays t (into g p v t - into g p v (part p v))
-          (ap outcome e ∙ rw (gain-none g k p v t, q, le-ltb (getD ceilings t 0) (load ws p t + getD ws v 0) fits)))
+      pub goes : x ≤ getD ceilings (c .part) 0 → Goes (c .part) (c .sum - getD at own 0) ≡ trial g k ws ceilings p v
+      goes m = rw (gains-to l .1, own-sum) (sym (roomy g k ws ceilings p v (c .part) (gains-to l .0) gains (omega (arith, load-is l))))

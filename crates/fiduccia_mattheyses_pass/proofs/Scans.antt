@@ -1,204 +1,216 @@
--- The scan over the list of gains, turn by turn: what it holds is the pick among the vertices so far. Assumes nothing.
-use mathlib.Core.Path.{_≡_, refl, sym, ap, ap₂, _∙_}
-use mathlib.Core.Bool.{Bool, true, false, cond, _&&_, _||_}
+-- The scan's answer: with a sample to begin from, what is held once all vertices have had their turn is the pick; and what is done with it. Assumes nothing.
+use mathlib.Core.Path.{_≡_, refl, sym, ap₂, _∙_}
+use mathlib.Core.Bool.{Bool, true, false, cond, _&&_}
 use mathlib.Core.List.{List}
-use mathlib.Core.Option.{Option, none, some}
-use Prim.Native.Nat.{ℕ, _+_, _≤_, _<_}
+use mathlib.Core.Option.{some}
+use Prim.Native.Nat.{ℕ, _+_, _-_, _≤_, _<_}
 use native.Mathlib.Omega.{arith}
-use native.Mathlib.Numerals.{add-one}
-use lib.ListN.{getD}
-use lib.Dec.{ltb, eqb}
-use borrow.Author.Tests.{le-leb, lt-leb, ltb-true, eqb-true, eqb-false}
-use lib.IntN.{ℤ, pos}
-use lib.Signed.{ltZ, leZ}
+use lib.ListN.{length, getD}
+use lib.Dec.{ltb, leb, eqb}
+use borrow.Author.Tests.{lt-ltb, le-ltb, le-leb, lt-leb, leb-true, leb-false, ltb-true, ltb-false, eqb-true, eqb-false}
+use lib.IntN.{ℤ, pos, negsuc}
+use lib.Signed.{leZ}
 use Rattle.lists.specs.Best.{best}
-use Rattle.lists.proofs.Bools.{and-false}
-use Rattle.lists.proofs.Orders.{clash, lt-then-le, lt-le, not-lt-le, lt-not-le, lt-not-lt}
+use Rattle.lists.proofs.Bests.{best-is, best-none}
+use Rattle.lists.proofs.Bools.{and-left}
+use Rattle.lists.proofs.Orders.{clash, lt-self, not-lt-le}
 use Rattle.imbalance.specs.Load.{part}
 use Rattle.fiduccia_mattheyses_pass.specs.Choice.{other}
-use Rattle.fiduccia_mattheyses_pass.specs.Scan.{lock, isFree, beats, picked, loadAfter, ceilingAt, may, over, pickBelow, nextOf}
+use Rattle.fiduccia_mattheyses_pass.specs.Scan.{isFree, beats, picked, loadAfter, ceilingAt, pickBelow, nextOf}
+use Rattle.fiduccia_mattheyses_pass.specs.Turn.{far, roomOf, aimsOf, nobody, Sighted, Standable, gainOf, loadOf, fitsOf, mayOf, Holds, Swept}
+use Rattle.fiduccia_mattheyses_pass.specs.Standing.{Scannable}
+use Rattle.fiduccia_mattheyses_pass.specs.declared.Aims.{Aims}
+use Rattle.fiduccia_mattheyses_pass.specs.declared.Held.{Held}
 use Rattle.fiduccia_mattheyses_pass.specs.declared.Next.the-variants.{Stop, Go}
 use Rattle.fiduccia_mattheyses_pass.specs.declared.Pick.{Pick}
 use Rattle.fiduccia_mattheyses_pass.specs.declared.Pick.the-variants.{Nobody, Vertex}
+use Rattle.fiduccia_mattheyses_pass.proofs.Beats.{by-load}
+use Rattle.fiduccia_mattheyses_pass.proofs.Turns.{opposed-most}
 
--- what the scan's three locals stand for
-abbrev pub held : ℕ → ℤ → ℕ → Pick
-held best g l = cond (isFree g) (Vertex best g l) Nobody
+-- a free vertex's gain is not below the lowest
+free-low : (g : ℤ) → isFree g ≡ true → leZ (negsuc 4611686018427387902) g ≡ true
+free-low (pos g) p = refl
+free-low (negsuc g) p = let x = ltb-true g 4611686018427387903 p in le-leb g 4611686018427387902 (omega arith)
 
--- what the scan knows before vertex v
-pub record Scanned (gains : List ℤ) (load ceiling : ℕ → ℕ) (v best : ℕ) (g : ℤ) (l : ℕ) : Type 0 where
-  pub pick : held best g l ≡ pickBelow gains load ceiling v
-  pub idle : isFree g ≡ false → (g ≡ lock) × (l ≡ 0)
+-- the sample's gain, and one above its load and slack
+abbrev pub startOf : Held → Held
+startOf found = record { from = 0; step = 0; gain = found .gain; load = found .load + 1; slack = found .slack + 1 }
 
--- a gain that is not above one that is not free is not free
-not-free : (g h : ℤ) → ltZ h g ≡ false → isFree h ≡ false → isFree g ≡ false
-not-free g h p q = go (isFree g) refl
+pub start-stands : (aims : Aims) (found : Held) → Standable aims found → Standable aims (startOf found)
+start-stands aims found s = let h = s .slack in let k = s .within in record { slack = omega arith; within = omega arith; free = s .free }
+
+module _
+    (aims : Aims) (gains : List ℤ) (labels weights : List ℕ) (found held : Held)
+    (small : (v : ℕ) → loadOf aims gains labels weights v + 1 < far)
+    (h : Holds aims gains labels weights nobody found)
+    (s : Swept aims gains labels weights (startOf found) (length labels) held)
   where
-    go : (t : Bool) → isFree g ≡ t → isFree g ≡ false
-    go true r = clash (isFree h) (lt-then-le lock g h r (not-lt-le h g p)) q
-    go false r = r
+    abbrev G : ℕ → ℤ
+    G = gainOf aims gains labels weights
 
--- the lower gain does not beat the higher
-below-not : (g : ℤ) (l : ℕ) (h : ℤ) (m : ℕ) → ltZ g h ≡ true → beats g l h m ≡ false
-below-not g l h m p = rw (lt-not-lt g h p, lt-not-le h g p)
+    abbrev L : ℕ → ℕ
+    L = loadOf aims gains labels weights
 
-not-beats : (g : ℤ) (l : ℕ) (h : ℤ) (m : ℕ) → beats g l h m ≡ false → ltZ h g ≡ false
-not-beats g l h m p = go (ltZ h g) refl p
+    abbrev M : ℕ → Bool
+    M = mayOf aims gains labels weights
+
+    abbrev B : ℕ → ℕ → Bool
+    B u v = beats (G u) (L u) (G v) (L v)
+
+    abbrev at : ℕ
+    at = held .from + held .step
+
+    -- a vertex that is held is the pick
+    is-best : s .holds .found ≡ true → best M B (length labels) ≡ some at
+    is-best f =
+        let g = s .holds .gain-is f in
+        let l = s .holds .load-is f in
+        best-is M B (length labels) at (s .holds .here f) (s .holds .may-is f) (λ u k m. rw (← g, ← l) (s .beaten u k m)) (λ u k m. rw (← g, ← l) (s .ahead f u k m))
+
+    -- the vertex sampled goes before the start, so that a vertex comes to be held
+    sampled : h .found ≡ true → s .holds .found ≡ false → ⊥
+    sampled f n =
+        let x = found .from + found .step in
+        let g = s .holds .gain-was n ∙ h .gain-is f in
+        let l = s .holds .load-was n in
+        let k = h .load-is f in
+        clash (beats (G x) (L x) (held .gain) (held .load))
+        (by-load (G x) (L x) (held .gain) (held .load) (rw g (not-lt-le (G x) (G x) (lt-self (G x)))) (omega arith))
+        (s .beaten x (h .here f) (h .may-is f))
+
+    -- with nothing sampled and nothing held, nothing may move
+    none-may : h .found ≡ false → s .holds .found ≡ false → (u : ℕ) → u < length labels → (t : Bool) → M u ≡ t → t ≡ false
+    none-may f n u l false e = refl
+    none-may f n u l true e =
+        let g = s .holds .gain-was n ∙ h .gain-was f in
+        let k = s .holds .load-was n in
+        let j = h .load-was f in
+        let i = small u in
+        clash (beats (G u) (L u) (held .gain) (held .load))
+        (by-load (G u) (L u) (held .gain) (held .load) (rw g (free-low (G u) (and-left (isFree (G u)) (fitsOf aims gains labels weights u) e))) (omega arith))
+        (s .beaten u l e)
+
+    abbrev pickOf : Pick
+    pickOf = picked G L (best M B (length labels))
+
+    -- a load that is near is that of a vertex
+    is-found : held .load < far → (t : Bool) → s .holds .found ≡ t → (u : Bool) → h .found ≡ u → t ≡ true
+    is-found l true f u q = refl
+    is-found l false n true q = absurd (sampled q n)
+    is-found l false n false q = let k = s .holds .load-was n in let j = h .load-was q in absurd (omega arith)
+
+    answer-here : held .load < far → at < length labels
+    answer-here l = s .holds .here (is-found l (s .holds .found) refl (h .found) refl)
+
+    answer-found : held .load < far → Vertex at (held .gain) (held .load) ≡ pickOf
+    answer-found l = let f = is-found l (s .holds .found) refl (h .found) refl in rw (is-best f, s .holds .gain-is f, s .holds .load-is f)
+
+    answer-nobody : far ≤ held .load → Nobody ≡ pickOf
+    answer-nobody l = go (s .holds .found) refl (h .found) refl
+      where
+        go : (t : Bool) → s .holds .found ≡ t → (u : Bool) → h .found ≡ u → Nobody ≡ pickOf
+        go true f u q = let k = s .holds .load-is f in let i = small at in absurd (omega arith)
+        go false n true q = absurd (sampled q n)
+        go false n false q = rw (best-none M B (length labels) (λ u k. none-may q n u k (M u) refl))
+
+-- the weights below the room are those that fit
+room-is : (load ceiling w : ℕ) → w < far → ltb w (roomOf load ceiling) ≡ leb (load + w) ceiling
+room-is load ceiling w l = go (ltb ceiling load) refl (ltb (ceiling - load) far) refl (leb (load + w) ceiling) refl
   where
-    go : (t : Bool) → ltZ h g ≡ t → t || (leZ h g && ltb l m) ≡ false → ltZ h g ≡ false
-    go true q r = clash true refl r
-    go false q r = q
+    go : (a : Bool) → ltb ceiling load ≡ a → (b : Bool) → ltb (ceiling - load) far ≡ b → (c : Bool) → leb (load + w) ceiling ≡ c → ltb w (cond a 0 (cond b (ceiling - load + 1) far)) ≡ c
+    go true p b q true r = let x = ltb-true ceiling load p in let y = leb-true (load + w) ceiling r in absurd (omega arith)
+    go true p b q false r = le-ltb w 0 (omega arith)
+    go false p true q true r = let x = ltb-false ceiling load p in let y = leb-true (load + w) ceiling r in lt-ltb w (ceiling - load + 1) (omega arith)
+    go false p true q false r = let x = ltb-false ceiling load p in let y = leb-false (load + w) ceiling r in le-ltb w (ceiling - load + 1) (omega arith)
+    go false p false q true r = lt-ltb w far l
+    go false p false q false r = let x = ltb-false (ceiling - load) far q in let y = leb-false (load + w) ceiling r in absurd (omega arith)
 
--- with nothing held, only a free gain beats
-idle-beats : (g : ℤ) (l : ℕ) (h : ℤ) (m : ℕ) → h ≡ lock → m ≡ 0 → beats g l h m ≡ true → isFree g ≡ true
-idle-beats g l h m e z p = go (ltZ h g) refl p
+-- of the two parts the scan asks the one other than the vertex's own
+opposed-is : (f : ℕ → ℕ) (p : ℕ) → p < 2 → cond (eqb p 0) (f 1) (f 0) ≡ f (other p)
+opposed-is f p l = go (eqb p 0) refl
   where
-    never : (t : Bool) → ltb l m ≡ t → leZ h g && t ≡ true → isFree g ≡ true
-    never true q r = let x = ltb-true l m q in absurd (omega arith)
-    never false q r = clash (leZ h g && false) r (and-false (leZ h g))
-
-    go : (t : Bool) → ltZ h g ≡ t → t || (leZ h g && ltb l m) ≡ true → isFree g ≡ true
-    go true q r = rw e at q
-    go false q r = never (ltb l m) refl r
-
-same-beats : (a : ℤ) (x : ℕ) (g h : ℤ) (l m : ℕ) (t : Bool) → g ≡ h → l ≡ m → beats a x g l ≡ t → beats a x h m ≡ t
-same-beats a x g h l m t e f b = rw (e, f) at b
-
-module _ (gains : List ℤ) (load ceiling : ℕ → ℕ) (v best′ : ℕ) (g : ℤ) (l : ℕ) (s : Scanned gains load ceiling v best′ g l) where
-  abbrev new : ℤ
-  new = getD gains v (pos 0)
-
-  abbrev so-far : Option ℕ
-  so-far = best (may gains load ceiling) (over gains load ceiling) v
-
-  -- a vertex that may not move changes nothing
-  skip : may gains load ceiling v ≡ false → held best′ g l ≡ pickBelow gains load ceiling (v + 1)
-  unfolding best
-  skip m = s .pick ∙ rw (add-one, m)
-
-  -- where something is held it is the one chosen so far
-  chosen : (o : Option ℕ) → Vertex best′ g l ≡ picked (λ u. getD gains u (pos 0)) load o → (u : ℕ) × (o ≡ some u) × (best′ ≡ u) × (g ≡ getD gains u (pos 0)) × (l ≡ load u)
-  chosen none e = let z : _≡_ {A = ℕ} 0 1 = cc in absurd (omega arith)
-  chosen (some u) e = (u, refl, cc, cc, cc)
-
-  as-held : {t : Bool} → isFree g ≡ t → cond t (Vertex best′ g l) Nobody ≡ held best′ g l
-  as-held f = ap (λ (t : Bool). cond t (Vertex best′ g l) Nobody) (sym f)
-
-  nobody : (o : Option ℕ) → Nobody ≡ picked (λ u. getD gains u (pos 0)) load o → o ≡ none
-  nobody none e = refl
-  nobody (some u) e = let z : _≡_ {A = ℕ} 0 1 = cc in absurd (omega arith)
-
-  stays : (t : Bool) → isFree g ≡ t → beats new (load v) g l ≡ false → held best′ g l ≡ pickBelow gains load ceiling (v + 1)
-  unfolding best
-  stays false f b = skip (rw (not-free new g (not-beats new (load v) g l b) f))
-  stays true f b = go (may gains load ceiling v) refl
-    where
-      go : (m : Bool) → may gains load ceiling v ≡ m → held best′ g l ≡ pickBelow gains load ceiling (v + 1)
-      go false m = skip m
-      go true m =
-          let c = chosen so-far (as-held f ∙ s .pick) in
-          let u = c .0 in
-          let e1 : best′ ≡ u = c .2 in
-          let e2 : g ≡ getD gains u (pos 0) = c .3 in
-          let e3 : l ≡ load u = c .4 in
-          let o : over gains load ceiling v u ≡ false = same-beats new (load v) g (getD gains u (pos 0)) l (load u) false e2 e3 b in
-          rw (f, add-one, m, c .1, o) (cc)
-
-  -- the turn's ways, as the code reads its gain z, its target's load m and its ceiling k: a lower gain, a target too heavy, not better, better
-  pub scan-below : (z : ℤ) (r : Bool) → z ≡ new → r ≡ ltZ z g → r ≡ true → Scanned gains load ceiling (v + 1) best′ g l
-  scan-below z r a e t = record { pick = stays (isFree g) refl (below-not new (load v) g l (ap (λ (y : ℤ). ltZ y g) (sym a) ∙ sym e ∙ t)); idle = s .idle }
-
-  pub scan-heavy : (m k : ℕ) → m ≡ load v → k ≡ ceiling v → k < m → Scanned gains load ceiling (v + 1) best′ g l
-  scan-heavy m k a b h = record { pick = skip (rw (lt-leb (load v) (ceiling v) (rw (a, b) at h)) (and-false (isFree new))); idle = s .idle }
-
-  pub scan-not : (z : ℤ) (m : ℕ) (r : Bool) → z ≡ new → m ≡ load v → r ≡ beats z m g l → r ≡ false → Scanned gains load ceiling (v + 1) best′ g l
-  scan-not z m r a b e t = record { pick = stays (isFree g) refl (ap₂ (λ (y : ℤ) (n : ℕ). beats y n g l) (sym a) (sym b) ∙ sym e ∙ t); idle = s .idle }
-
-  pub scan-take : (z : ℤ) (m k : ℕ) (r : Bool) → z ≡ new → m ≡ load v → k ≡ ceiling v → r ≡ beats z m g l → r ≡ true → m ≤ k → Scanned gains load ceiling (v + 1) v z m
-  unfolding best
-  scan-take z m k r a c d e t h′ = rw (a, c) (record { pick = go (isFree g) refl; idle = λ q. clash (isFree new) (free (isFree g) refl) q })
-    where
-      b : beats new (load v) g l ≡ true
-      b = ap₂ (λ (y : ℤ) (n : ℕ). beats y n g l) (sym a) (sym c) ∙ sym e ∙ t
-
-      h : load v ≤ ceiling v
-      h = rw (c, d) at h′
-
-      free : (t : Bool) → isFree g ≡ t → isFree new ≡ true
-      free false q = let i = s .idle q in idle-beats new (load v) g l (i .0) (i .1) b
-      free true q = go′ (ltZ g new) refl b
-        where
-          level : (t : Bool) → leZ g new ≡ t → t && ltb (load v) l ≡ true → isFree new ≡ true
-          level true r e = lt-then-le lock g new q r
-          level false r e = clash false e refl
-
-          go′ : (t : Bool) → ltZ g new ≡ t → t || (leZ g new && ltb (load v) l) ≡ true → isFree new ≡ true
-          go′ true r e = lt-then-le lock g new q (lt-le g new r)
-          go′ false r e = level (leZ g new) refl e
-
-      allowed : may gains load ceiling v ≡ true
-      allowed = rw (free (isFree g) refl, le-leb (load v) (ceiling v) h)
-
-      go : (t : Bool) → isFree g ≡ t → held v new (load v) ≡ pickBelow gains load ceiling (v + 1)
-      go false q =
-          let c = nobody so-far (as-held q ∙ s .pick) in
-          rw (free (isFree g) refl, add-one, allowed, c)
-      go true q =
-          let c = chosen so-far (as-held q ∙ s .pick) in
-          let u = c .0 in
-          let e2 : g ≡ getD gains u (pos 0) = c .3 in
-          let e3 : l ≡ load u = c .4 in
-          let o : over gains load ceiling v u ≡ true = same-beats new (load v) g (getD gains u (pos 0)) l (load u) true e2 e3 b in
-          rw (free (isFree g) refl, add-one, allowed, c .1, o)
-
-pub scan-none : (gains : List ℤ) (load ceiling : ℕ → ℕ) → Scanned gains load ceiling 0 0 lock 0
-unfolding best
-scan-none gains load ceiling = record { pick = refl; idle = λ q. (refl, refl) }
-
--- of two numbers by part, that of the other part, as the scan reads it
-abbrev pub opposed : ℕ → ℕ → ℕ → ℕ
-opposed p here there = cond (eqb p 0) there here
-
-pub opposed-is : (xs : List ℕ) (p : ℕ) → p < 2 → opposed p (getD xs 0 0) (getD xs 1 0) ≡ getD xs (other p) 0
-opposed-is xs p l = go (eqb p 0) refl
-  where
-    go : (t : Bool) → eqb p 0 ≡ t → cond t (getD xs 1 0) (getD xs 0 0) ≡ getD xs (other p) 0
+    go : (t : Bool) → eqb p 0 ≡ t → cond t (f 1) (f 0) ≡ f (other p)
     go true e = rw (eqb-true p 0 e)
     go false e = let ne = eqb-false p 0 e in let q : p ≡ 1 = omega (arith, ne) in rw q
 
-pub opposed-most : (p a b m : ℕ) → a ≤ m → b ≤ m → opposed p a b ≤ m
-opposed-most p a b m ha hb = go (eqb p 0)
+module _ (loads ceilings : List ℕ) where
+  -- so that its answer is the pick by loads and ceilings
+  pub pick-aims :
+      (gains : List ℤ) (labels weights : List ℕ) (n : ℕ)
+      → ((v : ℕ) → part labels v < 2)
+      → ((v : ℕ) → getD weights v 0 < far)
+      → picked (gainOf (aimsOf loads ceilings) gains labels weights) (loadOf (aimsOf loads ceilings) gains labels weights)
+      (best (mayOf (aimsOf loads ceilings) gains labels weights) (λ u v. beats (getD gains u (pos 0)) (loadOf (aimsOf loads ceilings) gains labels weights u) (getD gains v (pos 0)) (loadOf (aimsOf loads ceilings) gains labels weights v)) n)
+      ≡ pickBelow gains (loadAfter loads weights labels) (ceilingAt ceilings labels) n
+  pick-aims gains labels weights n two narrow =
+      ap₂ (λ (f : ℕ → ℕ) (m : ℕ → Bool). picked (λ v. getD gains v (pos 0)) f (best m (λ u v. beats (getD gains u (pos 0)) (f u) (getD gains v (pos 0)) (f v)) n))
+      (λ i v. opposed-is (λ t. getD loads t 0) (part labels v) (two v) i + getD weights v 0)
+      (λ i v. isFree (getD gains v (pos 0)) && fits v i)
+    where
+      fits : (v : ℕ) → fitsOf (aimsOf loads ceilings) gains labels weights v ≡ leb (loadAfter loads weights labels v) (ceilingAt ceilings labels v)
+      fits v = rw (opposed-is (λ t. roomOf (getD loads t 0) (getD ceilings t 0)) (part labels v) (two v)) (room-is (getD loads (other (part labels v)) 0) (getD ceilings (other (part labels v)) 0) (getD weights v 0) (narrow v))
+
+-- what the scan asks holds of the aims
+pub sighted : (gains : List ℤ) (labels weights loads ceilings : List ℕ) → Scannable gains labels weights loads → Sighted gains labels weights (aimsOf loads ceilings)
+sighted gains labels weights loads ceilings q =
+    record {
+      gained = q .gained;
+      weighed = q .weighed;
+      light-0 = q .light 0 (omega arith);
+      light-1 = q .light 1 (omega arith);
+      least-0 = go (ltb (getD loads 0 0) (getD loads 1 0)) refl .0;
+      least-1 = go (ltb (getD loads 0 0) (getD loads 1 0)) refl .1;
+    }
   where
-    go : (t : Bool) → cond t b a ≤ m
-    go true = hb
-    go false = ha
+    go : (t : Bool) → ltb (getD loads 0 0) (getD loads 1 0) ≡ t → (cond t (getD loads 0 0) (getD loads 1 0) ≤ getD loads 0 0) × (cond t (getD loads 0 0) (getD loads 1 0) ≤ getD loads 1 0)
+    go true e = let l = ltb-true (getD loads 0 0) (getD loads 1 0) e in (omega arith, omega arith)
+    go false e = let l = ltb-false (getD loads 0 0) (getD loads 1 0) e in (omega arith, omega arith)
 
--- the pick by the two loads and ceilings is the pick by the lists of sixteen
-pick-opposed :
-    (gains : List ℤ) (labels weights loads ceilings : List ℕ) (n : ℕ)
-    → ((v : ℕ) → part labels v < 2)
-    → pickBelow gains (λ v. opposed (part labels v) (getD loads 0 0) (getD loads 1 0) + getD weights v 0) (λ v. opposed (part labels v) (getD ceilings 0 0) (getD ceilings 1 0)) n
-    ≡ pickBelow gains (loadAfter loads weights labels) (ceilingAt ceilings labels) n
-pick-opposed gains labels weights loads ceilings n two =
-    ap₂ (λ (f h : ℕ → ℕ). pickBelow gains f h n)
-    (λ i v. opposed-is loads (part labels v) (two v) i + getD weights v 0)
-    (λ i v. opposed-is ceilings (part labels v) (two v) i)
+-- what is sampled has a load within the bound
+pub sample-near :
+    (aims : Aims) (gains : List ℤ) (labels weights : List ℕ) (found : Held)
+    → ((v : ℕ) → loadOf aims gains labels weights v + 1 < far)
+    → Holds aims gains labels weights nobody found
+    → found .load ≤ far
+sample-near aims gains labels weights found small h = go (h .found) refl
+  where
+    go : (t : Bool) → h .found ≡ t → found .load ≤ far
+    go true f = let k = h .load-is f in let i = small (found .from + found .step) in omega arith
+    go false f = let k = h .load-was f in omega arith
 
--- what the scan answers once every vertex is passed
+pub loads-small : (aims : Aims) (gains : List ℤ) (labels weights : List ℕ) → Sighted gains labels weights aims → ((v : ℕ) → getD weights v 0 < 4294967296) → (v : ℕ) → loadOf aims gains labels weights v + 1 < far
+loads-small aims gains labels weights q narrow v = let m = opposed-most (aims .loads) (part labels v) _ (q .light-0) (q .light-1) in omega (arith, narrow v)
+
+-- the whole scan
 module _
-    (gains : List ℤ) (labels weights loads ceilings : List ℕ) (n best′ : ℕ) (g : ℤ) (l : ℕ) (r : Bool)
-    (two : (v : ℕ) → part labels v < 2)
-    (s : Scanned gains (λ v. opposed (part labels v) (getD loads 0 0) (getD loads 1 0) + getD weights v 0) (λ v. opposed (part labels v) (getD ceilings 0 0) (getD ceilings 1 0)) n best′ g l)
-    (e : r ≡ isFree g)
+    (gains : List ℤ) (labels weights loads ceilings : List ℕ) (aims : Aims) (found start held : Held)
+    (aims-are : aims ≡ aimsOf loads ceilings)
+    (start-is : start ≡ startOf found)
+    (q : Scannable gains labels weights loads)
+    (narrow : (v : ℕ) → getD weights v 0 < 4294967296)
+    (h : Holds aims gains labels weights nobody found)
+    (s : Swept aims gains labels weights start (length labels) held)
   where
-    answered : {t : Bool} → r ≡ t → cond t (Vertex best′ g l) Nobody ≡ pickBelow gains (loadAfter loads weights labels) (ceilingAt ceilings labels) n
-    answered f = ap (λ (t : Bool). cond t (Vertex best′ g l) Nobody) (sym f ∙ e) ∙ s .pick ∙ pick-opposed gains labels weights loads ceilings n two
+    small : (v : ℕ) → loadOf (aimsOf loads ceilings) gains labels weights v + 1 < far
+    small = loads-small (aimsOf loads ceilings) gains labels weights (sighted gains labels weights loads ceilings q) narrow
 
-    pub scan-found : r ≡ true → Vertex best′ g l ≡ pickBelow gains (loadAfter loads weights labels) (ceilingAt ceilings labels) n
-    scan-found f = answered f
+    h′ : Holds (aimsOf loads ceilings) gains labels weights nobody found
+    h′ = rw aims-are at h
 
-    pub scan-nobody : r ≡ false → Nobody ≡ pickBelow gains (loadAfter loads weights labels) (ceilingAt ceilings labels) n
-    scan-nobody f = answered f
+    s′ : Swept (aimsOf loads ceilings) gains labels weights (startOf found) (length labels) held
+    s′ = rw (aims-are, start-is) at s
+
+    pick-same : pickOf (aimsOf loads ceilings) gains labels weights found held small h′ s′ ≡ pickBelow gains (loadAfter loads weights labels) (ceilingAt ceilings labels) (length labels)
+    pick-same = pick-aims loads ceilings gains labels weights (length labels) (q .two) (λ v. omega (arith, narrow v))
+
+    pub scan-here : held .load < far → held .from + held .step < length labels
+    scan-here l = answer-here (aimsOf loads ceilings) gains labels weights found held small h′ s′ l
+
+    pub scan-found : held .load < far → (g : ℤ) → g ≡ held .gain → Vertex (held .from + held .step) g (held .load) ≡ pickBelow gains (loadAfter loads weights labels) (ceilingAt ceilings labels) (length labels)
+    scan-found l g e = rw e (answer-found (aimsOf loads ceilings) gains labels weights found held small h′ s′ l ∙ pick-same)
+
+    pub scan-nobody : far ≤ held .load → Nobody ≡ pickBelow gains (loadAfter loads weights labels) (ceilingAt ceilings labels) (length labels)
+    scan-nobody l = answer-nobody (aimsOf loads ceilings) gains labels weights found held small h′ s′ l ∙ pick-same
 
 -- what is done with the scan's answer: nobody; a gain of 0 or less at the bad limit, and below it; a positive gain
 module _ (q q′ : Pick) (bad limit : ℕ) (e : q ≡ q′) where

@@ -2,5 +2,6 @@
 pub mod Choice
 pub mod Pass
 pub mod Scan
+pub mod Turn
 pub mod Update
 pub mod Standing

@@ -4,6 +4,8 @@ use mathlib.Core.Bool.{Bool, true, false, cond}
 use mathlib.Core.Option.{Option, none, some}
 use Prim.Native.Nat.{ℕ, zero, suc, _<_}
 use native.Mathlib.Omega.{arith}
+use lib.Dec.{eqb}
+use borrow.Author.Tests.{eqb-true, eqb-false}
 use Rattle.lists.specs.Best.{best, offer}
 
 module _ (a : ℕ → Bool) (b : ℕ → ℕ → Bool) where
@@ -21,6 +23,29 @@ module _ (a : ℕ → Bool) (b : ℕ → ℕ → Bool) where
       go false t o q e ih = let r = ih v (q ∙ e) in let l = r .0 in (omega arith, r .1)
       go true t none q e ih = let r : n ≡ v = cc in (omega arith, rw (← r) t)
       go true t (some u) q e ih = pick (b n u) u t (ih u q) e
+
+  -- v is chosen where it is allowed, better than each lower one that is, and none is better than it
+  pub best-is : (n v : ℕ) → v < n → a v ≡ true → ((u : ℕ) → u < n → a u ≡ true → b u v ≡ false) → ((u : ℕ) → u < v → a u ≡ true → b v u ≡ true) → best a b n ≡ some v
+  unfolding best
+  best-is zero v l e top low = absurd (omega arith)
+  best-is (suc n) v l e top low = go (eqb v n) refl (best-is n v)
+    where
+      last : v ≡ n → (o : Option ℕ) → best a b n ≡ o → offer (a n) b n o ≡ some v
+      last q none r = rw (← q, e)
+      last q (some u) r = let s = best-in n u r in let k = s .0 in rw (← q, e, low u (omega arith) (s .1))
+
+      stays : (t : Bool) → a n ≡ t → best a b n ≡ some v → offer t b n (best a b n) ≡ some v
+      stays false r ih = ih
+      stays true r ih = rw (ih, top n (omega arith) r)
+
+      go : (t : Bool) → eqb v n ≡ t → (v < n → a v ≡ true → ((u : ℕ) → u < n → a u ≡ true → b u v ≡ false) → ((u : ℕ) → u < v → a u ≡ true → b v u ≡ true) → best a b n ≡ some v) → offer (a n) b n (best a b n) ≡ some v
+      go true q ih = last (eqb-true v n q) (best a b n) refl
+      go false q ih = let ne = eqb-false v n q in stays (a n) refl (ih (omega (arith, ne)) e (λ u k. top u (omega arith)) low)
+
+  pub best-none : (n : ℕ) → ((u : ℕ) → u < n → a u ≡ false) → best a b n ≡ none
+  unfolding best
+  best-none zero h = refl
+  best-none (suc n) h = rw (h n (omega arith)) (best-none n (λ u l. h u (omega arith)))
 
 -- two choices by tests that agree
 module _ (a a′ : ℕ → Bool) (b b′ : ℕ → ℕ → Bool) where

@@ -51,6 +51,14 @@ lt-not-le (pos a) (negsuc b) p = refl
 lt-not-le (negsuc a) (pos b) p = clash false p refl
 lt-not-le (negsuc a) (negsuc b) p = lt-leb b a (ltb-true a b p)
 
+-- what is at most another is not above it
+pub le-not : (a b : ℤ) → leZ a b ≡ true → ltZ b a ≡ false
+le-not a b p = go (ltZ b a) refl
+  where
+    go : (t : Bool) → ltZ b a ≡ t → t ≡ false
+    go true q = clash (leZ a b) p (lt-not-le a b q)
+    go false q = refl
+
 pub lt-self : (a : ℤ) → ltZ a a ≡ false
 lt-self (pos a) = le-ltb a a (omega arith)
 lt-self (negsuc a) = le-ltb a a (omega arith)

@@ -55,7 +55,7 @@ loop-again c =
     let t = c .before .before .loop .t in (
       search needs,
       ⊎-elim
-          (λ w. rw (w .2, w .3) (pass-take sums own t _ e (w .0 .taken) (w .1 .taken)))
+          (λ w. rw (w .2, w .3) (pass-take sums own t _ e (w .0 .taken) (omega (arith, w .1 .taken))))
           (λ x. ⊎-elim (λ w. rw (w .2, w .3) (pass-by sums own t _ e (w .0 .taken) (w .1 .left))) (λ w. rw (w .1, w .2) (pass-own sums own t _ e (w .0 .left))) x)
           (c .if1 .came),
     )
