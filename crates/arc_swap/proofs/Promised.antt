@@ -49,6 +49,7 @@ module _ (p : Plan) (l : Lent) (r : Report) (k : Lent) (some : length (l .labels
   unfolding reportOf
   gains-sum = rw report-is (all-kept .sums)
 
+  -- one gain for each move made
   pub a-gain-a-move : k .run .moves ≡ length (runOf p l .state .gains)
   a-gain-a-move = ap (λ (c : RunRecord). c .moves) run-is ∙ all-kept .counted
 

@@ -19,7 +19,7 @@ use Rattle.arc_swap_attempt.specs.declared.Standing.{Standing}
 use Rattle.arc_swap_attempt.proofs.Stacks.{held-push, held-none}
 use Rattle.arc_swap.specs.declared.RunRecord.{RunRecord}
 use Rattle.arc_swap.specs.Run.{Setting, State, drain, onCut, firstPush, turn}
-use Rattle.arc_swap.specs.Inner.{nobody, also, Ready, at, standing, spent, Asked, TurnAsked, Done, FirstDone}
+use Rattle.arc_swap.specs.Inner.{nobody, also, at, standing, spent, Asked, TurnAsked, Done, FirstDone}
 use Rattle.arc_swap.proofs.Drains.{drain-empty}
 
 -- ---- the neighbours in another part
@@ -86,9 +86,6 @@ module _ (s : Setting) (anyone : s .movable ≡ (λ v. true)) where
   module _ (p stack : List ℕ) (c : Standing) (counts : RunRecord) (ask : TurnAsked s p stack c counts 1) (v : ℕ) (here : v < length p) where
     abbrev fuel : ℕ
     fuel = (cut (s .graph) p + 1) * (s .room + 1)
-
-    ready₀ : Ready s (length p) p stack 0 (c .cut) (c .loads .at) counts
-    ready₀ = rw (ask .none) at (ask .asked .ready)
 
     modest₀ : spent counts 0 (c .cut) + 1 ≤ 4611686018427387904
     modest₀ = rw (ask .none) at (ask .asked .modest)

@@ -43,10 +43,6 @@ pub weigh-zero : (t : Bool) → weigh t 0 ≡ 0
 weigh-zero true = refl
 weigh-zero false = refl
 
-pub weigh-add : (t : Bool) (a b : ℕ) → weigh t (a + b) ≡ weigh t a + weigh t b
-weigh-add true a b = refl
-weigh-add false a b = refl
-
 pub weigh-weigh : (s t : Bool) (x : ℕ) → weigh s (weigh t x) ≡ weigh t (weigh s x)
 weigh-weigh true t x = refl
 weigh-weigh false true x = refl

@@ -9,7 +9,7 @@ use borrow.Author.Tests.{lt-ltb, le-ltb, le-leb, lt-leb, ltb-true, ltb-false}
 use lib.IntN.{ℤ, pos, negsuc, negℤ, subℕ, _+ℤ_, _-ℤ_, _*ℤ_}
 use lib.Signed.{mag, ltZ, leZ}
 use mir.Syntax.{w64}
-use mir.Val.{SFits, toZ, ofZ}
+use mir.Val.{SFits, toZ}
 use mir.ValLaws.{toZ-ofZ}
 use Rattle.lists.proofs.Orders.{lt-not-le, not-lt-le}
 
@@ -151,37 +151,9 @@ read-minus a b h k = ap (λ (z : ℤ). z -ℤ toZ w64 b) (read a h) ∙ ap (λ (
 pub read-minus-fits : (a b : ℕ) → a < 2 ^ 63 → b < 2 ^ 63 → SFits w64 (toZ w64 a -ℤ toZ w64 b)
 read-minus-fits a b h k = rw (read-minus a b h k) (fits a b h (omega arith))
 
--- ---- the order of any two integers, as one of naturals
-pub order-is : (x y : ℤ) → ltZ x y ≡ ltb (above x + beneath y) (above y + beneath x)
-order-is x y = ap (λ (z : ℤ). ltZ z y) (is-diff x) ∙ ap (λ (z : ℤ). ltZ (subℕ (above x) (beneath x)) z) (is-diff y) ∙ order (above x) (beneath x) (above y) (beneath y)
-
--- x is at most y, which is below z
-pub le-lt : (x y z : ℤ) → ltZ y x ≡ false → ltZ y z ≡ true → ltZ x z ≡ true
-le-lt x y z h k =
-    let a = ltb-false (above y + beneath x) (above x + beneath y) (sym (order-is y x) ∙ h) in
-    let b = ltb-true (above y + beneath z) (above z + beneath y) (sym (order-is y z) ∙ k) in
-    order-is x z ∙ lt-ltb (above x + beneath z) (above z + beneath x) (omega arith)
-
-pub lt-not : (x y : ℤ) → ltZ x y ≡ true → ltZ y x ≡ false
-lt-not x y h =
-    let a = ltb-true (above x + beneath y) (above y + beneath x) (sym (order-is x y) ∙ h) in
-    order-is y x ∙ le-ltb (above y + beneath x) (above x + beneath y) (omega arith)
-
--- ---- an operation on g and twice w, as the machine does it on bits
+-- ---- twice w, as the machine reads it
 pub doubled : (w : ℕ) → w < 2 ^ 32 → pos 2 *ℤ toZ w64 w ≡ pos (2 * w)
 doubled w h = ap (λ (z : ℤ). pos 2 *ℤ z) (read w (omega arith))
-
-pub on-bits : (op : ℤ → ℤ → ℤ) (g : ℤ) (w : ℕ) → SFits w64 g → w < 2 ^ 32 → op (toZ w64 (ofZ w64 g)) (toZ w64 (ofZ w64 (pos 2 *ℤ toZ w64 w))) ≡ op g (pos (2 * w))
-on-bits op g w f h =
-    ap (λ (z : ℤ). op z (toZ w64 (ofZ w64 (pos 2 *ℤ toZ w64 w)))) (toZ-ofZ w64 g f)
-    ∙ ap (λ (z : ℤ). op g (toZ w64 (ofZ w64 z))) (doubled w h)
-    ∙ ap (op g) (read (2 * w) (omega arith))
-
-pub not-itself : (x : ℤ) → ltZ x x ≡ false
-not-itself x = order-is x x ∙ le-ltb (above x + beneath x) (above x + beneath x) (omega arith)
-
-pub on-one : (op : ℤ → ℤ → ℤ) (g : ℤ) (w : ℕ) → SFits w64 g → w < 2 ^ 32 → op (toZ w64 (ofZ w64 g)) (toZ w64 w) ≡ op g (pos w)
-on-one op g w f h = ap (λ (z : ℤ). op z (toZ w64 w)) (toZ-ofZ w64 g f) ∙ ap (op g) (read w (omega arith))
 
 -- ---- sizes: `mag z` is z without its sign
 pub mag-sub : (a b : ℕ) → mag (subℕ a b) ≤ a + b

@@ -116,10 +116,6 @@ module _ (n : ℕ) (g : Graph) (rows : rowsOk n g ≡ true) where
 
 -- the row rules look at the starts and the neighbours alone
 module _ (n : ℕ) (starts neighbours weights : List ℕ) where
-  pub arc-alone : (u lo e : ℕ) → arcOk n (inRows [] neighbours []) u lo e ≡ arcOk n (inRows starts neighbours weights) u lo e
-  unfolding arcOk
-  arc-alone u lo e = refl
-
   pub rows-alone : rowsOk n (inRows starts neighbours []) ≡ rowsOk n (inRows starts neighbours weights)
   unfolding rowsOk startsOk arcOk
   rows-alone = refl
