@@ -17,7 +17,7 @@ use Rattle.lists.proofs.Orders.{clash, lt-self, not-lt-le}
 use Rattle.imbalance.specs.Load.{part}
 use Rattle.fiduccia_mattheyses_pass.specs.Choice.{other}
 use Rattle.fiduccia_mattheyses_pass.specs.Scan.{isFree, beats, picked, loadAfter, ceilingAt, pickBelow, nextOf}
-use Rattle.fiduccia_mattheyses_pass.specs.Turn.{far, roomOf, aimsOf, nobody, Sighted, Standable, gainOf, loadOf, fitsOf, mayOf, Holds, Swept}
+use Rattle.fiduccia_mattheyses_pass.specs.Turn.{far, roomOf, aimsOf, nobody, Sighted, Holdable, gainOf, loadOf, fitsOf, mayOf, Holds, Swept}
 use Rattle.fiduccia_mattheyses_pass.specs.Standing.{Scannable}
 use Rattle.fiduccia_mattheyses_pass.specs.declared.Aims.{Aims}
 use Rattle.fiduccia_mattheyses_pass.specs.declared.Held.{Held}
@@ -36,7 +36,7 @@ free-low (negsuc g) p = let x = ltb-true g 4611686018427387903 p in le-leb g 461
 abbrev pub startOf : Held → Held
 startOf found = record { from = 0; step = 0; gain = found .gain; load = found .load + 1; slack = found .slack + 1 }
 
-pub start-stands : (aims : Aims) (found : Held) → Standable aims found → Standable aims (startOf found)
+pub start-stands : (aims : Aims) (found : Held) → Holdable aims found → Holdable aims (startOf found)
 start-stands aims found s = let h = s .slack in let k = s .within in record { slack = omega arith; within = omega arith; free = s .free }
 
 module _

@@ -13,7 +13,7 @@ use Rattle.lists.proofs.Bools.{and-false, and-left, and-right}
 use Rattle.lists.proofs.Orders.{clash, le-not}
 use Rattle.imbalance.specs.Load.{part}
 use Rattle.fiduccia_mattheyses_pass.specs.Scan.{isFree, beats}
-use Rattle.fiduccia_mattheyses_pass.specs.Turn.{opposed, Standable, gainOf, loadOf, fitsOf, mayOf, turned, turns, Holds, Swept}
+use Rattle.fiduccia_mattheyses_pass.specs.Turn.{opposed, Holdable, gainOf, loadOf, fitsOf, mayOf, turned, turns, Holds, Swept}
 use Rattle.fiduccia_mattheyses_pass.specs.declared.ByPart.{ByPart}
 use Rattle.fiduccia_mattheyses_pass.specs.declared.Aims.{Aims}
 use Rattle.fiduccia_mattheyses_pass.specs.declared.Held.{Held}
@@ -103,83 +103,75 @@ module _ (aims : Aims) (gains : List ℤ) (labels weights : List ℕ) where
       go true = omega arith
       go false = h
 
-  module _ (start held : Held) (from step : ℕ) (here : from + step < length labels) (h : Holds aims gains labels weights start held) where
+  module _ (start held : Held) (from step : ℕ) (here : from + step < length labels) where
     abbrev v : ℕ
     v = from + step
 
     abbrev wins : Bool
     wins = F v && beats (G v) (L v) (held .gain) (held .load)
 
-    fits-v : wins ≡ true → F v ≡ true
-    fits-v e = and-left (F v) (beats (G v) (L v) (held .gain) (held .load)) e
-
     beats-v : wins ≡ true → beats (G v) (L v) (held .gain) (held .load) ≡ true
     beats-v e = and-right (F v) (beats (G v) (L v) (held .gain) (held .load)) e
 
-    free-v : wins ≡ true → isFree (G v) ≡ true
-    free-v e = free-beats (G v) (L v) (held .gain) (held .load) (h .stands .free) (beats-v e)
+    module _ (h : Holds aims gains labels weights start held) where
+      free-v : wins ≡ true → isFree (G v) ≡ true
+      free-v e = free-beats (G v) (L v) (held .gain) (held .load) (h .stands .free) (beats-v e)
 
-    held-by : (t : Bool) → wins ≡ t → Holds aims gains labels weights start (cond t (taken from step) held)
-    held-by true e =
-        record {
-          found = true;
-          here = λ q. here;
-          may-is = λ q. rw (free-v e, fits-v e);
-          gain-is = λ q. refl;
-          load-is = λ q. refl;
-          gain-was = λ q. clash true refl q;
-          load-was = λ q. clash true refl q;
-          stands = record { slack = omega arith; within = omega arith; free = free-v e };
-        }
-    held-by false e = h
+      held-by : (t : Bool) → wins ≡ t → Holds aims gains labels weights start (cond t (taken from step) held)
+      held-by true e =
+          record {
+            found = true;
+            here = λ q. here;
+            may-is = λ q. rw (free-v e, and-left (F v) (beats (G v) (L v) (held .gain) (held .load)) e);
+            gain-is = λ q. refl;
+            load-is = λ q. refl;
+            gain-was = λ q. clash true refl q;
+            load-was = λ q. clash true refl q;
+            stands = record { slack = omega arith; within = omega arith; free = free-v e };
+          }
+      held-by false e = h
 
-    -- a turn keeps what is held a vertex that may move, or the start
-    pub hold-turn : Holds aims gains labels weights start (turned aims gains labels weights held from step)
-    hold-turn = held-by wins refl
+      -- a turn keeps what is held a vertex that may move, or the start
+      pub hold-turn : Holds aims gains labels weights start (turned aims gains labels weights held from step)
+      hold-turn = held-by wins refl
 
-  module _ (start held : Held) (from step : ℕ) (here : from + step < length labels) (s : Swept aims gains labels weights start (from + step) held) where
-    abbrev w : ℕ
-    w = from + step
+    module _ (s : Swept aims gains labels weights start (from + step) held) where
+      -- where v is held, it goes before all that had their turn
+      over : wins ≡ true → (u : ℕ) → u < v → M u ≡ true → beats (G v) (L v) (G u) (L u) ≡ true
+      over e u l m = beats-on (G v) (L v) (held .gain) (held .load) (G u) (L u) (beats-v e) (s .beaten u l m)
 
-    abbrev leads : Bool
-    leads = F w && beats (G w) (L w) (held .gain) (held .load)
+      -- where it is not, it does not go before what is held
+      not-over : (t : Bool) → F v ≡ t → M v ≡ true → (b : Bool) → t && b ≡ false → b ≡ false
+      not-over true f m true q = clash true refl q
+      not-over true f m false q = refl
+      not-over false f m b q = clash (F v) (and-right (isFree (G v)) (F v) m) f
 
-    -- where w is held, it goes before all that had their turn
-    over : leads ≡ true → (u : ℕ) → u < w → M u ≡ true → beats (G w) (L w) (G u) (L u) ≡ true
-    over e u l m = beats-on (G w) (L w) (held .gain) (held .load) (G u) (L u) (beats-v start held from step here (s .holds) e) (s .beaten u l m)
+      by-turn : (t : Bool) → wins ≡ t → Swept aims gains labels weights start (from + step + 1) (cond t (taken from step) held)
+      by-turn true e =
+          record {
+            holds = held-by (s .holds) true e;
+            beaten = λ u l m. go u l m (eqb u v) refl;
+            ahead = λ q u l m. over e u l m;
+          }
+        where
+          go : (u : ℕ) → u < from + step + 1 → M u ≡ true → (t : Bool) → eqb u v ≡ t → beats (G u) (L u) (G v) (L v) ≡ false
+          go u l m true q = rw (eqb-true u v q) (beats-self (G v) (L v))
+          go u l m false q = let ne = eqb-false u v q in beats-not (G v) (L v) (G u) (L u) (over e u (omega (arith, ne)) m)
+      by-turn false e =
+          record {
+            holds = s .holds;
+            beaten = λ u l m. go u l m (eqb u v) refl;
+            ahead = s .ahead;
+          }
+        where
+          go : (u : ℕ) → u < from + step + 1 → M u ≡ true → (t : Bool) → eqb u v ≡ t → beats (G u) (L u) (held .gain) (held .load) ≡ false
+          go u l m true q =
+              let r = eqb-true u v q in
+              rw r (not-over (F v) refl (rw r at m) (beats (G v) (L v) (held .gain) (held .load)) e)
+          go u l m false q = let ne = eqb-false u v q in s .beaten u (omega (arith, ne)) m
 
-    -- where it is not, it does not go before what is held
-    not-over : leads ≡ false → (t : Bool) → F w ≡ t → M w ≡ true → (b : Bool) → beats (G w) (L w) (held .gain) (held .load) ≡ b → t && b ≡ false → b ≡ false
-    not-over e true f m true p q = clash true refl q
-    not-over e true f m false p q = refl
-    not-over e false f m b p q = clash (F w) (and-right (isFree (G w)) (F w) m) f
-
-    by-turn : (t : Bool) → leads ≡ t → Swept aims gains labels weights start (from + step + 1) (cond t (taken from step) held)
-    by-turn true e =
-        record {
-          holds = held-by start held from step here (s .holds) true e;
-          beaten = λ u l m. go u l m (eqb u w) refl;
-          ahead = λ q u l m. over e u l m;
-        }
-      where
-        go : (u : ℕ) → u < from + step + 1 → M u ≡ true → (t : Bool) → eqb u w ≡ t → beats (G u) (L u) (G w) (L w) ≡ false
-        go u l m true q = rw (eqb-true u w q) (beats-self (G w) (L w))
-        go u l m false q = let ne = eqb-false u w q in beats-not (G w) (L w) (G u) (L u) (over e u (omega (arith, ne)) m)
-    by-turn false e =
-        record {
-          holds = s .holds;
-          beaten = λ u l m. go u l m (eqb u w) refl;
-          ahead = s .ahead;
-        }
-      where
-        go : (u : ℕ) → u < from + step + 1 → M u ≡ true → (t : Bool) → eqb u w ≡ t → beats (G u) (L u) (held .gain) (held .load) ≡ false
-        go u l m true q =
-            let r = eqb-true u w q in
-            rw r (not-over e (F w) refl (rw r at m) (beats (G w) (L w) (held .gain) (held .load)) refl e)
-        go u l m false q = let ne = eqb-false u w q in s .beaten u (omega (arith, ne)) m
-
-    pub sweep-turn : Swept aims gains labels weights start (from + step + 1) (turned aims gains labels weights held from step)
-    sweep-turn = by-turn leads refl
+      pub sweep-turn : Swept aims gains labels weights start (from + step + 1) (turned aims gains labels weights held from step)
+      sweep-turn = by-turn wins refl
 
   -- one turn more
   pub turns-on : (held h r : Held) (from k : ℕ) → h ≡ turns aims gains labels weights held from k → r ≡ turned aims gains labels weights h from k → r ≡ turns aims gains labels weights held from (suc k)
@@ -199,7 +191,7 @@ module _ (aims : Aims) (gains : List ℤ) (labels weights : List ℕ) where
       rw e (sweep-turn start (turns aims gains labels weights held from k) from k (omega arith) (sweep-turns start held from k (omega arith) s))
 
   -- before the first turn
-  pub hold-none : (start : Held) → Standable aims start → Holds aims gains labels weights start start
+  pub hold-none : (start : Held) → Holdable aims start → Holds aims gains labels weights start start
   hold-none start st =
       record {
         found = false;
@@ -212,7 +204,7 @@ module _ (aims : Aims) (gains : List ℤ) (labels weights : List ℕ) where
         stands = st;
       }
 
-  pub sweep-none : (start : Held) → Standable aims start → Swept aims gains labels weights start 0 start
+  pub sweep-none : (start : Held) → Holdable aims start → Swept aims gains labels weights start 0 start
   unfolding hold-none
   sweep-none start st = record { holds = hold-none start st; beaten = λ u l. absurd (omega arith); ahead = λ q. clash false q refl }
 

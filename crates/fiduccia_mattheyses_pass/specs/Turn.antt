@@ -1,4 +1,4 @@
--- How the scan finds its answer: what one vertex's turn makes of what is held, and what is held once some vertices have had theirs.
+-- How the scan finds the vertex of document 01's "Before each move take ..": what one vertex's turn makes of what is held, and what is held once some vertices have had theirs. What `choose` promises is said in Scan.antt and rests on nothing here.
 use mathlib.Core.Path.{_≡_}
 use mathlib.Core.Bool.{Bool, true, false, cond, _&&_}
 use mathlib.Core.List.{List}
@@ -47,7 +47,7 @@ pub record Sighted (gains : List ℤ) (labels weights : List ℕ) (aims : Aims) 
   pub least-1 : aims .least ≤ aims .loads .one
 
 -- What can be held: its slack is no more than its load and no less than its load is above the least, and a locked vertex does not come up to its gain.
-pub record Standable (aims : Aims) (held : Held) : Type 0 where
+pub record Holdable (aims : Aims) (held : Held) : Type 0 where
   pub slack : held .load ≤ held .slack + aims .least
   pub within : held .slack ≤ held .load
   pub free : isFree (held .gain) ≡ true
@@ -87,7 +87,7 @@ module _ (aims : Aims) (gains : List ℤ) (labels weights : List ℕ) where
     pub load-is : found ≡ true → held .load ≡ loadOf (held .from + held .step)
     pub gain-was : found ≡ false → held .gain ≡ start .gain
     pub load-was : found ≡ false → held .load ≡ start .load
-    pub stands : Standable aims held
+    pub stands : Holdable aims held
 
   -- Once the vertices below v have had their turn, none of them goes before what is held, and it goes before each that is lower than it.
   pub record Swept (start : Held) (v : ℕ) (held : Held) : Type 0 where

@@ -4,7 +4,7 @@ ghost use Prim.Native.Nat.{_+_, _*_, _<_, _≤_};
 ghost use lib.ListN.{length};
 ghost use lib.Signed.{ltZ};
 ghost use Rattle.fiduccia_mattheyses_pass.specs.Scan.{slotOf, beats, loadAfter, ceilingAt, pickBelow, nextOf};
-ghost use Rattle.fiduccia_mattheyses_pass.specs.Turn.{opposed, roomOf, aimsOf, Sighted, Standable, turned, turns, nobody, Holds, Swept};
+ghost use Rattle.fiduccia_mattheyses_pass.specs.Turn.{opposed, roomOf, aimsOf, Sighted, Holdable, turned, turns, nobody, Holds, Swept};
 ghost use Rattle.fiduccia_mattheyses_pass.specs.Standing.{Scannable};
 use crate::Aims;
 use crate::ByPart;
@@ -185,7 +185,7 @@ fn blocks_of_eight(
     aims: Aims,
     blocks: usize,
 ) -> Held
-    requires { ⌜ Sighted (now gains) (now labels) (now weights) aims × (blocks * 8 ≤ length (now labels)) × Standable aims start ⌝ }
+    requires { ⌜ Sighted (now gains) (now labels) (now weights) aims × (blocks * 8 ≤ length (now labels)) × Holdable aims start ⌝ }
     ensures { λ r. ⌜ Swept aims (now (gains .entry)) (now (labels .entry)) (now (weights .entry)) start (blocks * 8) r ⌝ }
 {
     let mut held = start;
@@ -199,7 +199,7 @@ fn blocks_of_eight(
 
 // All vertices: blocks of eight, and then those that are left.
 fn sweep(start: Held, gains: &[i64], labels: &[u32], weights: &[u32], aims: Aims) -> Held
-    requires { ⌜ Sighted (now gains) (now labels) (now weights) aims × Standable aims start ⌝ }
+    requires { ⌜ Sighted (now gains) (now labels) (now weights) aims × Holdable aims start ⌝ }
     ensures { λ r. ⌜ Swept aims (now (gains .entry)) (now (labels .entry)) (now (weights .entry)) start (length (now (labels .entry))) r ⌝ }
 {
     let blocks = labels.len() / 8;

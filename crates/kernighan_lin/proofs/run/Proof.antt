@@ -60,7 +60,7 @@ returns c =
     let s = c .before .before .before .before .before .before .before .before .before .before .before .before .before .before .before .before .before .before .before .before .before .before .before .before .before in
     let l = c .before .before .before .before .before .before .before .before .before .before .before .before .before .before .loop in
     let m = c .before .before .before .before .before .before .before .before .make-pass in
-    pass-ends (S s) (s .args .settings .swaps) (s .args .settings .passes) (s .args .labels .now) (l .i) (l .last) (l .labels) (l .gains) (l .locks) (l .swaps) (l .inv) (c .before .before .before .before .before .before .before .before .before .before .before .before .before .loop-test .taken) _ (c .before .before .before .before .before .before .before .before .before .before .before .before .before .before .before .before .before .most-swaps .ensures) _ (m .ensures .0) _ (m .ensures .1) _ (c .before .before .before .before .before .before .before .before .before .before .before .before .before .before .before .cut-of .ensures) (c .if1 .taken)
+    pass-ends (S s) (s .args .settings .swaps) (s .args .settings .passes) (s .args .labels .now) (l .i) (l .last) (l .labels) (l .gains) (l .locks) (l .swaps) (l .inv) (c .before .before .before .before .before .before .before .before .before .before .before .before .before .loop-test .taken) _ (c .before .before .before .before .before .before .before .before .before .before .before .before .before .before .before .before .before .most-swaps .ensures) _ (m .ensures .0) _ (m .ensures .1) _ (c .before .before .before .before .before .before .before .before .before .before .before .before .before .before .before .cut-of .ensures) (omega (arith, c .if1 .taken))
 
 loop-less : tie.Need-loop-less Inv-loop μ-loop
 loop-less c = omega (arith, c .before .before .before .before .before .before .before .before .before .before .before .before .before .loop-test .taken)

@@ -21,8 +21,9 @@ enum-told c = search needs
 returns : tie.Need-returns
 returns c = next-nobody _ _ _ _ (c .before .before .choose .ensures) (c .enum-told .given .1)
 
-returns-2 : tie.Need-returns-2
-returns-2 c = let b = c .before .before .before .v .given in let h = (toZ-ofZ w64 (b .0 .1 .0) (record { sfits = c .before .before .known-told .given .1 .0 .1 })) in next-stop _ _ _ _ (c .before .before .before .before .before .choose .ensures) _ _ _ (b .1) (rw h at (c .before .if1 .taken)) (c .if2 .taken)
+-- The ways past a test stand before the ways into it: where a test lets too little in, the first refusal is at the way that is then wrong.
+returns-4 : tie.Need-returns-4
+returns-4 c = let b = c .before .before .v .given in let h = (toZ-ofZ w64 (b .0 .1 .0) (record { sfits = c .before .known-told .given .1 .0 .1 })) in rw h (next-good _ _ _ _ (c .before .before .before .before .choose .ensures) _ _ _ (b .1) (rw h at (c .if1 .left)))
 
 add-t14 : tie.Need-add-t14
 add-t14 c = search needs
@@ -30,8 +31,8 @@ add-t14 c = search needs
 returns-3 : tie.Need-returns-3
 returns-3 c = let b = c .before .before .before .v .given in let h = (toZ-ofZ w64 (b .0 .1 .0) (record { sfits = c .before .before .known-told .given .1 .0 .1 })) in rw h (next-bad _ _ _ _ (c .before .before .before .before .before .choose .ensures) _ _ _ (b .1) (rw h at (c .before .if1 .taken)) (c .if2 .left))
 
-returns-4 : tie.Need-returns-4
-returns-4 c = let b = c .before .before .v .given in let h = (toZ-ofZ w64 (b .0 .1 .0) (record { sfits = c .before .known-told .given .1 .0 .1 })) in rw h (next-good _ _ _ _ (c .before .before .before .before .choose .ensures) _ _ _ (b .1) (rw h at (c .if1 .left)))
+returns-2 : tie.Need-returns-2
+returns-2 c = let b = c .before .before .before .v .given in let h = (toZ-ofZ w64 (b .0 .1 .0) (record { sfits = c .before .before .known-told .given .1 .0 .1 })) in next-stop _ _ _ _ (c .before .before .before .before .before .choose .ensures) _ _ _ (b .1) (rw h at (c .before .if1 .taken)) (c .if2 .taken)
 
 pub next-move-spec : {M : Type 1} → statement M
 next-move-spec =
