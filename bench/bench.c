@@ -30,7 +30,10 @@ static const struct scanned {
     {{.name = "one board full"}, one_full, DAUNSREVIT_CARRIED, {1000, 4096}},
     {{.name = "nine tenths on one board, the other full"}, nine_tenths, DAUNSREVIT_CARRIED, {300, 4096}},
     {{.name = "most gains too heavy"}, too_heavy, DAUNSREVIT_CARRIED, {90, 0}},
-    {{.name = "against the sample"}, against_sample, DAUNSREVIT_IMBALANCE, {1000, 4096}},
+    {{.name = "rising, against one sample of 64"}, against_one_sample, DAUNSREVIT_IMBALANCE, {1000, 4096}},
+    {{.name = "rising, against half of the samples"}, against_half, DAUNSREVIT_IMBALANCE, {1000, 4096}},
+    {{.name = "ties that the label ends"}, ties_by_label, DAUNSREVIT_IMBALANCE, {100, 1000}},
+    {{.name = "falling ties, against half of the samples"}, falling_ties, DAUNSREVIT_IMBALANCE, {100, 1000}},
 };
 static const double IMBALANCE = 0.1;
 enum { FM_PASSES = 64, KL_PASSES = 4, KL_SWAPS = 32, UNCHANGED_RUNS = 3 };

@@ -101,13 +101,13 @@ static inline void no_arcs(void)
     }
 }
 
-/* A path whose arcs are all cut and weigh more from one to the next, so that each vertex has a larger gain than the one before. No
- * arc goes to a vertex that is a multiple of gap, if that is not 0. */
-static inline void rising_path(uint32_t gap)
+/* A path whose arcs are all cut and weigh more from one to the next, so that each vertex has a larger gain than the one before. Of
+ * every 64 vertices the first so many have no arc. */
+static inline void rising_path(uint32_t without)
 {
     begin();
     for (uint32_t v = 1; v < MOST_N; v++)
-        if (gap == 0 || (v % gap && (v - 1) % gap))
+        if (v % 64 >= without && (v - 1) % 64 >= without)
             join(v - 1, v, v);
     collect(MOST_N);
     for (uint32_t v = 0; v < MOST_N; v++) {
@@ -121,10 +121,37 @@ static inline void rising(void)
     rising_path(0);
 }
 
-/* The scan samples every 64th vertex, and finds no gain there. */
-static inline void against_sample(void)
+/* The scan samples every 64th vertex, and finds no gain there in one of 64 samples, or in half of them. */
+static inline void against_one_sample(void)
 {
-    rising_path(64);
+    rising_path(1);
+}
+
+static inline void against_half(void)
+{
+    rising_path(32);
+}
+
+/* All vertices tie, and those of part 0 weigh less. Where part 1 is the heavier one, only their label tells that they would not be
+ * lighter there than a vertex of part 1 in part 0. */
+static inline void ties_by_label(void)
+{
+    no_arcs();
+    for (uint32_t v = 0; v < MOST_N; v++) {
+        first_labels[v] = v % 2;
+        weights[v] = 99 + v % 2;
+    }
+}
+
+/* All vertices tie. One half of every 64 weigh less from one to the next, and the others, which half of the samples find, weigh
+ * more than any of them. */
+static inline void falling_ties(void)
+{
+    no_arcs();
+    for (uint32_t v = 0; v < MOST_N; v++) {
+        first_labels[v] = v % 2;
+        weights[v] = v % 64 < 32 ? 9000 : 100 + MOST_N - v;
+    }
 }
 
 /* Part 1 is a ring of the last vertices, with heavy arcs. Each vertex of part 0 has one arc, to the ring, and so would gain by a

@@ -21,26 +21,11 @@ pub enum Pick {
     Vertex(usize, i64, u64),
 }
 
-// A number of each of the two parts.
-pub struct ByPart {
-    pub zero: u64,
-    pub one: u64,
-}
-
-// What a scan asks of the two parts: their loads, the bound of the weights that each has room for, and the lesser of the loads.
-pub struct Aims {
-    pub loads: ByPart,
-    pub rooms: ByPart,
-    pub least: u64,
-}
-
-// What a scan holds on its way: the vertex from + step, its gain and its target's load after the move, and how far that load is above the lesser of the two.
+// What a scan holds on its way: one past the vertex, its gain, and how far its target's load after the move is above the lesser of the two loads.
 pub struct Held {
-    pub from: usize,
-    pub step: usize,
+    pub past: usize,
     pub gain: i64,
     pub load: u64,
-    pub slack: u64,
 }
 
 // What a pass does next: it ends, or a vertex moves, with its gain and the bad counter after it.

@@ -1,13 +1,12 @@
 // The choice of the next vertex: largest gain, then smallest target load after the move, then lowest vertex. Document 01, "Before each move take ..".
 ghost use mathlib.Core.Path.{_≡_};
+ghost use mathlib.Core.Bool.{true};
 ghost use Prim.Native.Nat.{_+_, _*_, _<_, _≤_};
 ghost use lib.ListN.{length};
 ghost use lib.Signed.{ltZ};
-ghost use Rattle.fiduccia_mattheyses_pass.specs.Scan.{slotOf, beats, loadAfter, ceilingAt, pickBelow, nextOf};
-ghost use Rattle.fiduccia_mattheyses_pass.specs.Turn.{opposed, roomOf, aimsOf, Sighted, Holdable, turned, turns, nobody, Holds, Swept};
+ghost use Rattle.fiduccia_mattheyses_pass.specs.Scan.{isFree, slotOf, beats, loadAfter, ceilingAt, pickBelow, nextOf};
+ghost use Rattle.fiduccia_mattheyses_pass.specs.Turn.{lesser, roomOf, roomsOf, liftsOf, Sighted, turned, turns, nobody, Holds, Swept};
 ghost use Rattle.fiduccia_mattheyses_pass.specs.Standing.{Scannable};
-use crate::Aims;
-use crate::ByPart;
 use crate::Held;
 use crate::Next;
 use crate::Pick;
@@ -56,13 +55,6 @@ fn outranks(g: i64, l: u64, h: i64, m: u64) -> bool
     false
 }
 
-// Of two numbers by part, that of the other part.
-fn opposite(p: u32, of: ByPart) -> u64
-    ensures { λ r. ⌜ r ≡ opposed of p ⌝ }
-{
-    if p == 0 { of.one } else { of.zero }
-}
-
 // The weights that a part of this load and ceiling has room for are those below the answer.
 fn room(load: u64, ceiling: u64) -> u64
     ensures { λ r. ⌜ r ≡ roomOf load ceiling ⌝ }
@@ -74,36 +66,48 @@ fn room(load: u64, ceiling: u64) -> u64
     if rest < FAR { rest + 1 } else { FAR }
 }
 
-// What a scan asks of the two parts, in plain numbers, so that no list is copied for a vertex.
-fn aims_of(loads: Loads, ceilings: Ceilings) -> Aims
-    requires { ⌜ (length (loads .at) ≡ 16) × (length (ceilings .at) ≡ 16) ⌝ }
-    ensures { λ r. ⌜ r ≡ aimsOf (loads .at) (ceilings .at) ⌝ }
+// The lesser of the two loads.
+fn lesser_load(loads: Loads) -> u64
+    requires { ⌜ length (loads .at) ≡ 16 ⌝ }
+    ensures { λ r. ⌜ r ≡ lesser (loads .at) ⌝ }
 {
     let zero = loads.at[0];
     let one = loads.at[1];
-    let least = if zero < one { zero } else { one };
-    Aims {
-        loads: ByPart { zero, one },
-        rooms: ByPart {
-            zero: room(zero, ceilings.at[0]),
-            one: room(one, ceilings.at[1]),
-        },
-        least,
-    }
+    if zero < one { zero } else { one }
 }
 
-// The turn of vertex from + step. Most vertices end at the first test, by their gain. Of those that tie with what is held most end at the second, by their weight alone: with the lesser of the two loads they would still not be lighter. Only the rest have their label read. The two numbers are added where a vertex is held, and not for each vertex.
+// By a vertex's label, the bound of the weights that its target has room for.
+fn rooms_of(loads: Loads, ceilings: Ceilings) -> [u64; 2]
+    requires { ⌜ (length (loads .at) ≡ 16) × (length (ceilings .at) ≡ 16) ⌝ }
+    ensures { λ r. ⌜ r ≡ roomsOf (loads .at) (ceilings .at) ⌝ }
+{
+    let zero = room(loads.at[0], ceilings.at[0]);
+    let one = room(loads.at[1], ceilings.at[1]);
+    [one, zero]
+}
+
+// By a vertex's label, how far its target's load is above the lesser of the two.
+fn lifts_of(loads: Loads) -> [u64; 2]
+    requires { ⌜ length (loads .at) ≡ 16 ⌝ }
+    ensures { λ r. ⌜ r ≡ liftsOf (loads .at) ⌝ }
+{
+    let least = lesser_load(loads);
+    [loads.at[1] - least, loads.at[0] - least]
+}
+
+// The turn of vertex from + step. Most vertices end at the first test, by their gain. Of those that tie with what is held most end at the second, by their weight alone: on the lesser of the two loads they would still not be lighter. Only the rest have their label read. One past the vertex is held, and not the vertex, as the sum of from and step would then be worked out for each vertex.
 fn turn(
     held: Held,
     gains: &[i64],
     labels: &[u32],
     weights: &[u32],
-    aims: Aims,
+    rooms: &[u64],
+    lifts: &[u64],
     from: usize,
     step: usize,
 ) -> Held
-    requires { ⌜ Sighted (now gains) (now labels) (now weights) aims × (from + step < length (now labels)) × (held .load ≤ held .slack + aims .least) ⌝ }
-    ensures { λ r. ⌜ r ≡ turned aims (now (gains .entry)) (now (labels .entry)) (now (weights .entry)) held from step ⌝ }
+    requires { ⌜ Sighted (now gains) (now labels) (now weights) (now rooms) (now lifts) × (from + step < length (now labels)) ⌝ }
+    ensures { λ r. ⌜ r ≡ turned (now (rooms .entry)) (now (lifts .entry)) (now (gains .entry)) (now (labels .entry)) (now (weights .entry)) held (from + step) ⌝ }
 {
     let v = from + step;
     let g = gains[v];
@@ -112,131 +116,161 @@ fn turn(
     }
     let w = lists::wide(weights[v]);
     if g <= held.gain {
-        if held.slack <= w {
+        if held.load <= w {
             return held;
         }
     }
-    let p = labels[v];
-    if opposite(p, aims.rooms) <= w {
+    let p = lists::index(labels[v]);
+    if rooms[p] <= w {
         return held;
     }
-    let load = opposite(p, aims.loads) + w;
+    let load = lifts[p] + w;
     if outranks(g, load, held.gain, held.load) {
         return Held {
-            from,
-            step,
+            past: v + 1,
             gain: g,
             load,
-            slack: load - aims.least,
         };
     }
     held
 }
 
-// The turns of eight vertices, so that the loop's own instructions are shared by eight.
-fn eight(
+// The turns of twenty vertices, so that the loop's own instructions are shared by twenty.
+fn twenty(
     held: Held,
     gains: &[i64],
     labels: &[u32],
     weights: &[u32],
-    aims: Aims,
+    rooms: &[u64],
+    lifts: &[u64],
     from: usize,
 ) -> Held
-    requires { ⌜ Sighted (now gains) (now labels) (now weights) aims × (from + 8 ≤ length (now labels)) × (held .load ≤ held .slack + aims .least) ⌝ }
-    ensures { λ r. ⌜ r ≡ turns aims (now (gains .entry)) (now (labels .entry)) (now (weights .entry)) held from 8 ⌝ }
+    requires { ⌜ Sighted (now gains) (now labels) (now weights) (now rooms) (now lifts) × (from + 20 ≤ length (now labels)) ⌝ }
+    ensures { λ r. ⌜ r ≡ turns (now (rooms .entry)) (now (lifts .entry)) (now (gains .entry)) (now (labels .entry)) (now (weights .entry)) held from 20 ⌝ }
 {
-    let held_1 = turn(held, gains, labels, weights, aims, from, 0);
-    let held_2 = turn(held_1, gains, labels, weights, aims, from, 1);
-    let held_3 = turn(held_2, gains, labels, weights, aims, from, 2);
-    let held_4 = turn(held_3, gains, labels, weights, aims, from, 3);
-    let held_5 = turn(held_4, gains, labels, weights, aims, from, 4);
-    let held_6 = turn(held_5, gains, labels, weights, aims, from, 5);
-    let held_7 = turn(held_6, gains, labels, weights, aims, from, 6);
-    turn(held_7, gains, labels, weights, aims, from, 7)
+    let held_1 = turn(held, gains, labels, weights, rooms, lifts, from, 0);
+    let held_2 = turn(held_1, gains, labels, weights, rooms, lifts, from, 1);
+    let held_3 = turn(held_2, gains, labels, weights, rooms, lifts, from, 2);
+    let held_4 = turn(held_3, gains, labels, weights, rooms, lifts, from, 3);
+    let held_5 = turn(held_4, gains, labels, weights, rooms, lifts, from, 4);
+    let held_6 = turn(held_5, gains, labels, weights, rooms, lifts, from, 5);
+    let held_7 = turn(held_6, gains, labels, weights, rooms, lifts, from, 6);
+    let held_8 = turn(held_7, gains, labels, weights, rooms, lifts, from, 7);
+    let held_9 = turn(held_8, gains, labels, weights, rooms, lifts, from, 8);
+    let held_10 = turn(held_9, gains, labels, weights, rooms, lifts, from, 9);
+    let held_11 = turn(held_10, gains, labels, weights, rooms, lifts, from, 10);
+    let held_12 = turn(held_11, gains, labels, weights, rooms, lifts, from, 11);
+    let held_13 = turn(held_12, gains, labels, weights, rooms, lifts, from, 12);
+    let held_14 = turn(held_13, gains, labels, weights, rooms, lifts, from, 13);
+    let held_15 = turn(held_14, gains, labels, weights, rooms, lifts, from, 14);
+    let held_16 = turn(held_15, gains, labels, weights, rooms, lifts, from, 15);
+    let held_17 = turn(held_16, gains, labels, weights, rooms, lifts, from, 16);
+    let held_18 = turn(held_17, gains, labels, weights, rooms, lifts, from, 17);
+    let held_19 = turn(held_18, gains, labels, weights, rooms, lifts, from, 18);
+    turn(held_19, gains, labels, weights, rooms, lifts, from, 19)
 }
 
-// The best of every 64th vertex: with its gain and load to begin from, few vertices of the whole scan come to be held on the way, even where the gains rise from vertex to vertex.
-fn sample(gains: &[i64], labels: &[u32], weights: &[u32], aims: Aims) -> Held
-    requires { ⌜ Sighted (now gains) (now labels) (now weights) aims ⌝ }
-    ensures { λ r. ⌜ Holds aims (now (gains .entry)) (now (labels .entry)) (now (weights .entry)) nobody r ⌝ }
+// The best of every 64th vertex, the first of which is given: with its gain and load to begin from, few vertices of the whole scan come to be held on the way, even where the gains rise from vertex to vertex.
+fn sample(
+    gains: &[i64],
+    labels: &[u32],
+    weights: &[u32],
+    rooms: &[u64],
+    lifts: &[u64],
+    first: usize,
+) -> Held
+    requires { ⌜ Sighted (now gains) (now labels) (now weights) (now rooms) (now lifts) ⌝ }
+    ensures { λ r. ⌜ Holds (now (rooms .entry)) (now (lifts .entry)) (now (gains .entry)) (now (labels .entry)) (now (weights .entry)) nobody r ⌝ }
 {
-    let samples = labels.len() / 64;
     let mut held = Held {
-        from: 0,
-        step: 0,
+        past: 0,
         gain: LOWEST,
         load: FAR,
-        slack: FAR,
     };
-    let mut next: usize = 0;
-    while next < samples {
-        held = turn(held, gains, labels, weights, aims, next * 64, 0);
-        next += 1;
+    let mut next = first;
+    while next < labels.len() {
+        held = turn(held, gains, labels, weights, rooms, lifts, next, 0);
+        next += 64;
     }
     held
 }
 
-// The vertices of so many blocks of eight.
-fn blocks_of_eight(
+// The vertices of so many blocks of twenty.
+fn blocks_of_twenty(
     start: Held,
     gains: &[i64],
     labels: &[u32],
     weights: &[u32],
-    aims: Aims,
+    rooms: &[u64],
+    lifts: &[u64],
     blocks: usize,
 ) -> Held
-    requires { ⌜ Sighted (now gains) (now labels) (now weights) aims × (blocks * 8 ≤ length (now labels)) × Holdable aims start ⌝ }
-    ensures { λ r. ⌜ Swept aims (now (gains .entry)) (now (labels .entry)) (now (weights .entry)) start (blocks * 8) r ⌝ }
+    requires { ⌜ Sighted (now gains) (now labels) (now weights) (now rooms) (now lifts) × (blocks * 20 ≤ length (now labels)) × (isFree (start .gain) ≡ true) ⌝ }
+    ensures { λ r. ⌜ Swept (now (rooms .entry)) (now (lifts .entry)) (now (gains .entry)) (now (labels .entry)) (now (weights .entry)) start (blocks * 20) r ⌝ }
 {
     let mut held = start;
     let mut block: usize = 0;
     while block < blocks {
-        held = eight(held, gains, labels, weights, aims, block * 8);
+        held = twenty(held, gains, labels, weights, rooms, lifts, block * 20);
         block += 1;
     }
     held
 }
 
-// All vertices: blocks of eight, and then those that are left.
-fn sweep(start: Held, gains: &[i64], labels: &[u32], weights: &[u32], aims: Aims) -> Held
-    requires { ⌜ Sighted (now gains) (now labels) (now weights) aims × Holdable aims start ⌝ }
-    ensures { λ r. ⌜ Swept aims (now (gains .entry)) (now (labels .entry)) (now (weights .entry)) start (length (now (labels .entry))) r ⌝ }
+// All vertices: blocks of twenty, and then those that are left.
+fn sweep(
+    start: Held,
+    gains: &[i64],
+    labels: &[u32],
+    weights: &[u32],
+    rooms: &[u64],
+    lifts: &[u64],
+) -> Held
+    requires { ⌜ Sighted (now gains) (now labels) (now weights) (now rooms) (now lifts) × (isFree (start .gain) ≡ true) ⌝ }
+    ensures { λ r. ⌜ Swept (now (rooms .entry)) (now (lifts .entry)) (now (gains .entry)) (now (labels .entry)) (now (weights .entry)) start (length (now (labels .entry))) r ⌝ }
 {
-    let blocks = labels.len() / 8;
-    let mut held = blocks_of_eight(start, gains, labels, weights, aims, blocks);
-    let mut next = blocks * 8;
+    let blocks = labels.len() / 20;
+    let mut held = blocks_of_twenty(start, gains, labels, weights, rooms, lifts, blocks);
+    let mut next = blocks * 20;
     while next < labels.len() {
-        held = turn(held, gains, labels, weights, aims, next, 0);
+        held = turn(held, gains, labels, weights, rooms, lifts, next, 0);
         next += 1;
     }
     held
 }
 
-// The scan: a sample first, and then all vertices, from one above the sample's load, so that the vertex sampled can itself be held, and a lower one that equals it before it.
+// The scan: a sample first, and then all vertices, from one above the sample's load, so that the vertex sampled can itself be held, and a lower one that equals it before it. The sample's first vertex bears on the time alone.
 pub fn choose(
     gains: &[i64],
     labels: &[u32],
     weights: &[u32],
     loads: Loads,
     ceilings: Ceilings,
+    first: usize,
 ) -> Pick
     requires { ⌜ Scannable (now gains) (now labels) (now weights) (loads .at) × (length (ceilings .at) ≡ 16) ⌝ }
     ensures { λ r. ⌜ r ≡ pickBelow (now (gains .entry)) (loadAfter (loads .at) (now (weights .entry)) (now (labels .entry))) (ceilingAt (ceilings .at) (now (labels .entry))) (length (now (labels .entry))) ⌝ }
 {
-    let aims = aims_of(loads, ceilings);
-    let found = sample(gains, labels, weights, aims);
+    let rooms = rooms_of(loads, ceilings);
+    let lifts = lifts_of(loads);
+    let found = sample(gains, labels, weights, &rooms, &lifts, first);
     let start = Held {
-        from: 0,
-        step: 0,
+        past: 0,
         gain: found.gain,
         load: found.load + 1,
-        slack: found.slack + 1,
     };
-    let held = sweep(start, gains, labels, weights, aims);
+    let held = sweep(start, gains, labels, weights, &rooms, &lifts);
     if held.load < FAR {
-        return Pick::Vertex(held.from + held.step, held.gain, held.load);
+        return Pick::Vertex(held.past - 1, held.gain, lesser_load(loads) + held.load);
     }
     Pick::Nobody
+}
+
+// Where the sample begins: at another vertex after each move that lowers the least cut and after each bad one, so that what one sample misses is met by others.
+fn sample_from(st: Standing) -> usize
+    ensures { λ r. ⌜ r < 64 ⌝ }
+{
+    (st.kept % 64 + (st.bad % 64) as usize) % 64
 }
 
 // The next move, or the pass's end: a gain of 0 or less ends it where the bad counter has reached the limit, and counts as bad otherwise.
@@ -252,7 +286,8 @@ pub fn next_move(
     ensures { λ r. ⌜ r ≡ nextOf (pickBelow (now (gains .entry)) (loadAfter (st .loads .at) (now (weights .entry)) (now (labels .entry))) (ceilingAt (ceilings .at) (now (labels .entry))) (length (now (labels .entry)))) (st .bad) «bad_limit» ⌝ }
 {
     let loads = st.loads;
-    let Pick::Vertex(v, g, _) = choose(gains, labels, weights, loads, ceilings) else {
+    let first = sample_from(st);
+    let Pick::Vertex(v, g, _) = choose(gains, labels, weights, loads, ceilings, first) else {
         return Next::Stop;
     };
     if g <= 0 {

@@ -1,83 +1,128 @@
 -- `fiduccia_mattheyses_pass::scan::choose` meets its contract: what is held at the end is the pick (`Scans`). Assumes nothing.
-use mathlib.Core.Path.{_≡_}
-use Prim.Native.Nat.{ℕ, _+_, _≤_, _<_}
+use mathlib.Core.Path.{refl}
+use Prim.Native.Nat.{ℕ, _<_}
 use native.Mathlib.Omega.{arith}
-use lib.ListN.{getD}
-use lib.IntN.{ℤ}
+use lib.ListN.{length, getD}
 use mir.Syntax.{w64}
 use mir.ValLaws.{toZ-ofZ}
-use Rattle.fiduccia_mattheyses_pass.specs.Turn.{far, Sighted}
-use Rattle.fiduccia_mattheyses_pass.specs.declared.Held.{Held}
-use Rattle.fiduccia_mattheyses_pass.proofs.Scans.{startOf, start-stands, sighted, sample-near, loads-small, scan-here, scan-found, scan-nobody}
+use Rattle.fiduccia_mattheyses_pass.specs.Turn.{roomsOf, liftsOf, nobody, Sighted, Holds, Swept}
+use Rattle.fiduccia_mattheyses_pass.proofs.Scans.{startOf, begun, lesser-0, sighted, sample-near, scan-past, scan-found, scan-nobody}
 use borrow.Author.Needs.{needs}
 use Rattle.fiduccia_mattheyses_pass.proofs.scan.choose.Statement.{statement}
 use Rattle.fiduccia_mattheyses_pass.proofs.scan.choose.Tie as tie
 use Rattle.fiduccia_mattheyses_pass.proofs.scan.choose.Reads as reads
 use Rattle.fiduccia_mattheyses_pass.proofs.scan.choose.Lts as lts
 
-aims-of-requires : tie.Need-aims-of-requires
-aims-of-requires c κs = let q = c .before .before .pre in (q .0 .sixteen, q .1)
+rooms-of-requires : tie.Need-rooms-of-requires
+rooms-of-requires c κs = let q = c .before .before .pre in (q .0 .sixteen, q .1)
+
+lifts-of-requires : tie.Need-lifts-of-requires
+lifts-of-requires c κs = c .before .before .before .pre .0 .sixteen
+
+narrow : (c : tie.After-shared-slice-known2) (v : ℕ) → getD (c .before .before .args .weights .now) v 0 < 4294967296
+narrow c v = c .shared-slice-known2 .given v .fits
 
 -- what the scan asks
-sees : (c : tie.After-aims-of) → Sighted (c .before .before .before .args .gains .now) (c .before .before .before .args .labels .now) (c .before .before .before .args .weights .now) (c .aims-of .result)
+sees : (c : tie.After-lifts-of) → let x = c .before .before .before .before .args in Sighted (x .gains .now) (x .labels .now) (x .weights .now) (c .before .rooms-of .result) (c .lifts-of .result)
 sees c =
-    let x = c .before .before .before .args in
-    rw (c .aims-of .ensures) (sighted (x .gains .now) (x .labels .now) (x .weights .now) (x .loads .at) (x .ceilings .at) (c .before .before .before .pre .0))
+    let s = c .before .before .before .before in
+    let x = s .args in
+    rw (c .before .rooms-of .ensures, c .lifts-of .ensures) (sighted (x .gains .now) (x .labels .now) (x .weights .now) (x .loads .at) (x .ceilings .at) (s .pre .0) (narrow (c .before .before)))
 
-narrow : (c : tie.After-aims-of) (v : ℕ) → getD (c .before .before .before .args .weights .now) v 0 < 4294967296
-narrow c v = c .before .shared-slice-known2 .given v .fits
+slice-aggregate-sample : tie.Need-slice-aggregate-sample
+slice-aggregate-sample c = search needs
+
+slice-aggregate-sample-2 : tie.Need-slice-aggregate-sample-2
+slice-aggregate-sample-2 c = search needs
 
 sample-requires : tie.Need-sample-requires
-sample-requires c κs = sees c
+sample-requires c κs = sees (c .before .before)
 
-near : (c : tie.After-sample) → c .sample .result .load ≤ far
-near c = sample-near _ _ _ _ _ (loads-small _ _ _ _ (sees (c .before)) (narrow (c .before))) (c .sample .ensures)
+-- what the sample found, by loads and ceilings
+found-is : (c : tie.After-sample) → let x = c .before .before .before .before .before .before .before .args in Holds (roomsOf (x .loads .at) (x .ceilings .at)) (liftsOf (x .loads .at)) (x .gains .now) (x .labels .now) (x .weights .now) nobody (c .sample .result)
+found-is c = rw (c .before .before .before .before .rooms-of .ensures, c .before .before .before .lifts-of .ensures) at (c .sample .ensures)
 
-add-t10 : tie.Need-add-t10
-add-t10 c = omega (arith, near (c .before))
+add-t17 : tie.Need-add-t17
+add-t17 c =
+    let a = c .before in
+    let s = a .before .before .before .before .before .before .before in
+    let x = s .args in
+    omega (arith, sample-near (x .gains .now) (x .labels .now) (x .weights .now) (x .loads .at) (x .ceilings .at) (s .pre .0) (narrow (a .before .before .before .before .before)) (a .sample .result) (found-is a))
 
-add-t11 : tie.Need-add-t11
-add-t11 c = let k = c .before .before .sample .ensures .stands .within in omega (arith, near (c .before .before))
+slice-aggregate-sweep : tie.Need-slice-aggregate-sweep
+slice-aggregate-sweep c = search needs
+
+slice-aggregate-sweep-2 : tie.Need-slice-aggregate-sweep-2
+slice-aggregate-sweep-2 c = search needs
 
 sweep-requires : tie.Need-sweep-requires
 sweep-requires c κs =
-    let found = c .before .before .before .sample .result in
-    let z = toZ-ofZ w64 (found .gain) (record { sfits = c .struct-told .given .1 .1 .0 .1 }) in
-    (sees (c .before .before .before .before), rw z (start-stands _ found (c .before .before .before .sample .ensures .stands)))
+    let t = c .before .before in
+    let a = t .before .before in
+    let z = toZ-ofZ w64 (a .sample .result .gain) (record { sfits = t .struct-told .given .1 .0 .1 }) in
+    (sees (a .before .before .before), rw z (a .sample .ensures .free))
 
--- the start is one above the sample
-start-is : (c : tie.After-struct-told) → (g : ℤ) → g ≡ c .before .before .before .sample .result .gain → _≡_ {A = Held} (record { from = 0; step = 0; gain = g; load = c .before .before .before .sample .result .load + 1; slack = c .before .before .before .sample .result .slack + 1 }) (startOf (c .before .before .before .sample .result))
-start-is c g e = rw e
+-- all vertices have had their turn, by loads and ceilings
+swept : (c : tie.After-sweep) → let x = c .before .before .before .before .before .before .before .before .before .before .before .before .args in Swept (roomsOf (x .loads .at) (x .ceilings .at)) (liftsOf (x .loads .at)) (x .gains .now) (x .labels .now) (x .weights .now) (startOf (c .before .before .before .before .before .sample .result)) (length (x .labels .now)) (c .sweep .result)
+swept c =
+    let t = c .before .before .before in
+    let a = t .before .before in
+    let z = toZ-ofZ w64 (a .sample .result .gain) (record { sfits = t .struct-told .given .1 .0 .1 }) in
+    begun _ _ _ _ _ (a .sample .result) _ _ _ _ (rw (a .before .before .before .before .rooms-of .ensures, a .before .before .before .lifts-of .ensures) at (c .sweep .ensures)) z refl
 
-add-t13 : tie.Need-add-t13
-add-t13 c =
-    let t = c .before .before .before .before in
-    let a = t .before .before .before .before in
-    let x = a .before .before .before .args in
-    let found = t .before .before .before .sample .result in
-    let z = toZ-ofZ w64 (found .gain) (record { sfits = t .struct-told .given .1 .1 .0 .1 }) in
-    let l = scan-here (x .gains .now) (x .labels .now) (x .weights .now) (x .loads .at) (x .ceilings .at) _ found _ _ (a .aims-of .ensures) (start-is t _ z) (a .before .before .before .pre .0) (narrow a) (t .before .before .before .sample .ensures) (c .before .before .before .sweep .ensures) (c .before .if1 .taken) in
-    search needs
+sub-t23 : tie.Need-sub-t23
+sub-t23 c =
+    let w = c .before .before .before in
+    let a = w .before .before .before .before .before in
+    let s = a .before .before .before .before .before .before .before in
+    let x = s .args in
+    scan-past (x .gains .now) (x .labels .now) (x .weights .now) (x .loads .at) (x .ceilings .at) (s .pre .0) (narrow (a .before .before .before .before .before)) _ _ (found-is a) (swept w) (c .before .if1 .taken)
+
+lesser-load-requires : tie.Need-lesser-load-requires
+lesser-load-requires c κs = c .before .before .before .before .before .before .before .before .before .before .before .before .before .before .before .pre .0 .sixteen
+
+add-t25 : tie.Need-add-t25
+add-t25 c =
+    let s = c .before .before .before .before .before .before .before .before .before .before .before .before .before .before .before .before .before in
+    let l = s .pre .0 .light 0 (omega arith) in
+    let m = lesser-0 (s .args .loads .at) in
+    let k = c .before .before .before .if1 .taken in
+    omega (arith, c .before .lesser-load .ensures)
 
 returns : tie.Need-returns
 returns c =
-    let t = c .before .before .before .before .before in
-    let a = t .before .before .before .before in
-    let x = a .before .before .before .args in
-    let found = t .before .before .before .sample .result in
-    let held = c .before .before .before .before .sweep .result in
-    let z = toZ-ofZ w64 (found .gain) (record { sfits = t .struct-told .given .1 .1 .0 .1 }) in
-    let y = toZ-ofZ w64 (held .gain) (record { sfits = c .struct-told2 .given .1 .1 .0 .1 }) in
-    scan-found (x .gains .now) (x .labels .now) (x .weights .now) (x .loads .at) (x .ceilings .at) _ found _ held (a .aims-of .ensures) (start-is t _ z) (a .before .before .before .pre .0) (narrow a) (t .before .before .before .sample .ensures) (c .before .before .before .before .sweep .ensures) (c .before .before .if1 .taken) _ y
+    let w = c .before .before .before .before .before .before in
+    let a = w .before .before .before .before .before in
+    let s = a .before .before .before .before .before .before .before in
+    let x = s .args in
+    let y = toZ-ofZ w64 (w .sweep .result .gain) (record { sfits = c .struct-told2 .given .1 .0 .1 }) in
+    let l = c .before .before .before .before .if1 .taken in
+    let p = scan-past (x .gains .now) (x .labels .now) (x .weights .now) (x .loads .at) (x .ceilings .at) (s .pre .0) (narrow (a .before .before .before .before .before)) _ _ (found-is a) (swept w) l in
+    scan-found (x .gains .now) (x .labels .now) (x .weights .now) (x .loads .at) (x .ceilings .at) (s .pre .0) (narrow (a .before .before .before .before .before)) _ _ (found-is a) (swept w) _ _ _ l (omega arith) y (c .before .before .lesser-load .ensures)
 
 returns-2 : tie.Need-returns-2
 returns-2 c =
-    let t = c .before .before .before in
-    let a = t .before .before .before .before in
-    let x = a .before .before .before .args in
-    let found = t .before .before .before .sample .result in
-    let z = toZ-ofZ w64 (found .gain) (record { sfits = t .struct-told .given .1 .1 .0 .1 }) in
-    scan-nobody (x .gains .now) (x .labels .now) (x .weights .now) (x .loads .at) (x .ceilings .at) _ found _ _ (a .aims-of .ensures) (start-is t _ z) (a .before .before .before .pre .0) (narrow a) (t .before .before .before .sample .ensures) (c .before .before .sweep .ensures) (c .if1 .left)
+    let w = c .before .before in
+    let a = w .before .before .before .before .before in
+    let s = a .before .before .before .before .before .before .before in
+    let x = s .args in
+    scan-nobody (x .gains .now) (x .labels .now) (x .weights .now) (x .loads .at) (x .ceilings .at) (s .pre .0) (narrow (a .before .before .before .before .before)) _ _ (found-is a) (swept w) (c .if1 .left)
 
 pub choose-spec : {M : Type 1} → statement M
-choose-spec = tie.close (tie.spec aims-of-requires sample-requires add-t10 add-t11 sweep-requires add-t13 returns returns-2)
+choose-spec =
+    tie.close
+    (tie.spec
+    rooms-of-requires
+    lifts-of-requires
+    slice-aggregate-sample
+    slice-aggregate-sample-2
+    sample-requires
+    add-t17
+    slice-aggregate-sweep
+    slice-aggregate-sweep-2
+    sweep-requires
+    sub-t23
+    lesser-load-requires
+    add-t25
+    returns
+    returns-2)

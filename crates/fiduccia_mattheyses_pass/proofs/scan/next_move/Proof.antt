@@ -9,6 +9,9 @@ use Rattle.fiduccia_mattheyses_pass.proofs.scan.next_move.Reads as read
 use Rattle.fiduccia_mattheyses_pass.proofs.scan.next_move.Lts as lts
 use Rattle.fiduccia_mattheyses_pass.proofs.scan.choose.Reads as choose-reads
 
+sample-from-requires : tie.Need-sample-from-requires
+sample-from-requires c κs = search needs
+
 choose-requires : tie.Need-choose-requires
 choose-requires c κs = search needs
 
@@ -25,8 +28,8 @@ returns c = next-nobody _ _ _ _ (c .before .before .choose .ensures) (c .enum-to
 returns-4 : tie.Need-returns-4
 returns-4 c = let b = c .before .before .v .given in let h = (toZ-ofZ w64 (b .0 .1 .0) (record { sfits = c .before .known-told .given .1 .0 .1 })) in rw h (next-good _ _ _ _ (c .before .before .before .before .choose .ensures) _ _ _ (b .1) (rw h at (c .if1 .left)))
 
-add-t14 : tie.Need-add-t14
-add-t14 c = search needs
+add-t15 : tie.Need-add-t15
+add-t15 c = search needs
 
 returns-3 : tie.Need-returns-3
 returns-3 c = let b = c .before .before .before .v .given in let h = (toZ-ofZ w64 (b .0 .1 .0) (record { sfits = c .before .before .known-told .given .1 .0 .1 })) in rw h (next-bad _ _ _ _ (c .before .before .before .before .before .choose .ensures) _ _ _ (b .1) (rw h at (c .before .if1 .taken)) (c .if2 .left))
@@ -37,4 +40,4 @@ returns-2 c = let b = c .before .before .before .v .given in let h = (toZ-ofZ w6
 pub next-move-spec : {M : Type 1} → statement M
 next-move-spec =
     tie.close
-    (tie.spec choose-requires enum-known-v enum-told returns returns-2 add-t14 returns-3 returns-4)
+    (tie.spec sample-from-requires choose-requires enum-known-v enum-told returns returns-2 add-t15 returns-3 returns-4)

@@ -1,10 +1,10 @@
 -- `fiduccia_mattheyses_pass::scan::sample` meets its contract. The loop's invariant: what is held may move, or nobody is held yet. Assumes nothing.
 use mathlib.Core.Path.{refl}
-use Prim.Native.Nat.{_*_, _-_, _≤_}
+use Prim.Native.Nat.{_-_}
 use native.Mathlib.Omega.{arith}
 use lib.ListN.{length}
 use Rattle.fiduccia_mattheyses_pass.specs.Turn.{nobody, Holds}
-use Rattle.fiduccia_mattheyses_pass.proofs.Turns.{hold-none, hold-one}
+use Rattle.fiduccia_mattheyses_pass.proofs.Turns.{hold-none, hold-turn}
 use borrow.Author.Needs.{needs}
 use Rattle.fiduccia_mattheyses_pass.proofs.scan.sample.Statement.{statement}
 use Rattle.fiduccia_mattheyses_pass.proofs.scan.sample.Tie as tie
@@ -12,21 +12,16 @@ use Rattle.fiduccia_mattheyses_pass.proofs.scan.sample.Reads as reads
 use Rattle.fiduccia_mattheyses_pass.proofs.scan.sample.Lts as lts
 
 abbrev Inv-loop : tie.InvT-loop
-Inv-loop gains labels weights aims samples held₀ next₀ held next = (samples * 64 ≤ length labels) × Holds aims gains labels weights nobody held
+Inv-loop gains labels weights rooms lifts first held₀ next₀ held next = Holds rooms lifts gains labels weights nobody held
 
 abbrev μ-loop : tie.MeasureT-loop
-μ-loop gains labels weights aims samples held₀ next₀ held next = samples - next
+μ-loop gains labels weights rooms lifts first held₀ next₀ held next = length labels - next
 
 loop-holds : tie.Need-loop-holds Inv-loop μ-loop
-loop-holds c = (omega arith, hold-none _ _ _ _ nobody (record { slack = omega arith; within = omega arith; free = refl }))
-
-mul-turn : tie.Need-mul-turn Inv-loop μ-loop
-mul-turn c = search needs
+loop-holds c = hold-none _ _ _ _ _ nobody refl
 
 turn-requires : tie.Need-turn-requires Inv-loop μ-loop
-turn-requires c κs =
-    let k = c .before .loop .inv .0 in
-    (c .before .before .before .before .pre, omega arith, c .before .loop .inv .1 .stands .slack)
+turn-requires c κs = (c .before .before .before .before .before .before .pre, omega arith)
 
 add-next : tie.Need-add-next Inv-loop μ-loop
 add-next c = search needs
@@ -35,12 +30,10 @@ loop-less : tie.Need-loop-less Inv-loop μ-loop
 loop-less c = search needs
 
 loop-again : tie.Need-loop-again Inv-loop μ-loop
-loop-again c =
-    let k = c .before .before .loop .inv .0 in
-    (k, hold-one _ _ _ _ nobody _ _ _ (omega arith) (c .turn .ensures) (c .before .before .loop .inv .1))
+loop-again c = hold-turn _ _ _ _ _ nobody _ _ (omega arith) (c .before .before .loop .inv) _ (c .turn .ensures)
 
 returns : tie.Need-returns Inv-loop μ-loop
-returns c = c .before .loop .inv .1
+returns c = c .before .loop .inv
 
 pub sample-spec : {M : Type 1} → statement M
-sample-spec = tie.close (tie.spec Inv-loop μ-loop loop-holds mul-turn turn-requires add-next loop-less loop-again returns)
+sample-spec = tie.close (tie.spec Inv-loop μ-loop loop-holds turn-requires add-next loop-less loop-again returns)

@@ -13,16 +13,16 @@ use Rattle.fiduccia_mattheyses_pass.proofs.scan.sweep.Reads as reads
 use Rattle.fiduccia_mattheyses_pass.proofs.scan.sweep.Lts as lts
 
 abbrev Inv-loop : tie.InvT-loop
-Inv-loop gains labels weights aims blocks held₀ next₀ held next =
+Inv-loop gains labels weights rooms lifts blocks held₀ next₀ held next =
     (next ≤ length labels)
-    × ((start : Held) → Swept aims gains labels weights start next₀ held₀ → Swept aims gains labels weights start next held)
+    × ((start : Held) → Swept rooms lifts gains labels weights start next₀ held₀ → Swept rooms lifts gains labels weights start next held)
 
 abbrev μ-loop : tie.MeasureT-loop
-μ-loop gains labels weights aims blocks held₀ next₀ held next = length labels - next
+μ-loop gains labels weights rooms lifts blocks held₀ next₀ held next = length labels - next
 
-blocks-of-eight-requires : tie.Need-blocks-of-eight-requires Inv-loop μ-loop
-blocks-of-eight-requires c κs =
-    let q = c .before .before .pre in
+blocks-of-twenty-requires : tie.Need-blocks-of-twenty-requires Inv-loop μ-loop
+blocks-of-twenty-requires c κs =
+    let q = c .before .before .before .before .pre in
     (q .0, omega arith, q .1)
 
 mul-next : tie.Need-mul-next Inv-loop μ-loop
@@ -32,9 +32,7 @@ loop-holds : tie.Need-loop-holds Inv-loop μ-loop
 loop-holds c = (omega arith, λ start s. s)
 
 turn-requires : tie.Need-turn-requires Inv-loop μ-loop
-turn-requires c κs =
-    let s = c .before .loop .inv .1 _ (c .before .before .blocks-of-eight .ensures) in
-    (c .before .before .before .before .before .pre .0, omega arith, s .holds .stands .slack)
+turn-requires c κs = (c .before .before .before .before .before .before .before .pre .0, omega arith)
 
 add-next : tie.Need-add-next Inv-loop μ-loop
 add-next c = search needs
@@ -43,13 +41,13 @@ loop-less : tie.Need-loop-less Inv-loop μ-loop
 loop-less c = search needs
 
 loop-again : tie.Need-loop-again Inv-loop μ-loop
-loop-again c = (search needs, λ start s. sweep-one _ _ _ _ start _ _ _ (omega arith) (c .turn .ensures) (c .before .before .loop .inv .1 start s))
+loop-again c = (search needs, λ start s. sweep-one _ _ _ _ _ start _ _ _ (omega arith) (c .before .before .loop .inv .1 start s) (c .turn .ensures))
 
 returns : tie.Need-returns Inv-loop μ-loop
 returns c =
-    let x = c .before .before .before .before .before .args in
+    let x = c .before .before .before .before .before .before .before .args in
     let e : c .before .loop .next ≡ length (x .labels .now) = omega arith in
-    rw e at (c .before .loop .inv .1 _ (c .before .before .blocks-of-eight .ensures))
+    rw e at (c .before .loop .inv .1 _ (c .before .before .blocks-of-twenty .ensures))
 
 pub sweep-spec : {M : Type 1} → statement M
-sweep-spec = tie.close (tie.spec Inv-loop μ-loop blocks-of-eight-requires mul-next loop-holds turn-requires add-next loop-less loop-again returns)
+sweep-spec = tie.close (tie.spec Inv-loop μ-loop blocks-of-twenty-requires mul-next loop-holds turn-requires add-next loop-less loop-again returns)

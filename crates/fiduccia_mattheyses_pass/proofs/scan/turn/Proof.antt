@@ -1,11 +1,11 @@
 -- `fiduccia_mattheyses_pass::scan::turn` meets its contract: each way out is one of the turn's ways (`Turns`). Assumes nothing.
-use mathlib.Core.Path.{ap₂}
-use Prim.Native.Nat.{_+_}
+use mathlib.Core.Path.{ap, ap₂}
+use Prim.Native.Nat.{_+_, _<_}
 use native.Mathlib.Omega.{arith}
+use lib.ListN.{getD}
 use mir.Syntax.{w64}
 use mir.ValLaws.{toZ-ofZ}
-use Rattle.imbalance.specs.Load.{part}
-use Rattle.fiduccia_mattheyses_pass.proofs.Turns.{opposed-least, opposed-most, turn-lower, turn-level, turn-heavy, turn-not, turn-takes}
+use Rattle.fiduccia_mattheyses_pass.proofs.Turns.{turn-lower, turn-level, turn-heavy, turn-not, turn-takes}
 use borrow.Author.Needs.{needs}
 use Rattle.fiduccia_mattheyses_pass.proofs.scan.turn.Statement.{statement}
 use Rattle.fiduccia_mattheyses_pass.proofs.scan.turn.Tie as tie
@@ -26,9 +26,9 @@ below-requires c κs = search needs
 
 returns : tie.Need-returns
 returns c =
-    let x = c .before .before .before .before .before .before .args in
-    let q = c .before .before .before .before .before .before .pre in
-    turn-lower (x .aims) (x .gains .now) (x .labels .now) (x .weights .now) (x .held) (x .from) (x .step) _ _ _ (toZ-ofZ w64 _ (record { sfits = c .before .before .before .g .given })) (toZ-ofZ w64 _ (record { sfits = c .before .before .struct-told .given .1 .1 .0 .1 })) (c .before .below .ensures) (c .if1 .taken)
+    let t = c .before .before in
+    let x = t .before .before .before .before .before .before .args in
+    turn-lower (x .rooms .now) (x .lifts .now) (x .gains .now) (x .labels .now) (x .weights .now) (x .held) (x .from + x .step) _ _ _ (toZ-ofZ w64 _ (record { sfits = t .before .g .given })) (toZ-ofZ w64 _ (record { sfits = t .struct-told .given .1 .0 .1 })) (c .before .below .ensures) (c .if1 .taken)
 
 mul-wide : tie.Need-mul-wide
 mul-wide c = search needs
@@ -41,59 +41,83 @@ wide-requires c κs = search needs
 
 returns-2 : tie.Need-returns-2
 returns-2 c =
-    let x = c .before .before .before .before .before .before .before .before .before .before .before .before .before .args in
-    let q = c .before .before .before .before .before .before .before .before .before .before .before .before .before .pre in
-    let a = q .0 in
-    turn-level (x .aims) (x .gains .now) (x .labels .now) (x .weights .now) (x .held) (x .from) (x .step) _ _ _ (toZ-ofZ w64 _ (record { sfits = c .before .before .before .before .before .before .before .before .before .before .g .given })) (toZ-ofZ w64 _ (record { sfits = c .before .before .before .before .before .before .before .before .before .struct-told .given .1 .1 .0 .1 })) (c .before .before .before .before .before .wide .ensures) (opposed-least (x .aims .loads) (part (x .labels .now) (x .from + x .step)) _ (a .least-0) (a .least-1)) (q .2) (c .before .before .if2 .taken) (c .if3 .taken)
+    let w = c .before .before .before .before .before in
+    let t = w .before .before .before .before in
+    let x = t .before .before .before .before .before .before .args in
+    turn-level (x .rooms .now) (x .lifts .now) (x .gains .now) (x .labels .now) (x .weights .now) (x .held) (x .from + x .step) _ _ _ (toZ-ofZ w64 _ (record { sfits = t .before .g .given })) (toZ-ofZ w64 _ (record { sfits = t .struct-told .given .1 .0 .1 })) (w .wide .ensures) (c .before .before .if2 .taken) (c .if3 .taken)
 
-mul-p : tie.Need-mul-p
-mul-p c = search needs
+mul-index : tie.Need-mul-index
+mul-index c = search needs
 
-shared-slice-read-p : tie.Need-shared-slice-read-p
-shared-slice-read-p c = search needs
+shared-slice-read-index : tie.Need-shared-slice-read-index
+shared-slice-read-index c = search needs
 
-opposite-requires : tie.Need-opposite-requires
-opposite-requires c κs = search needs
+index-requires : tie.Need-index-requires
+index-requires c κs = search needs
+
+-- the label has a room and a lift
+label-low : (c : tie.After-index) → c .index .result < 2
+label-low c =
+    let s = c .before .before .before .before .before .before .before .before .before .before .before .before .before .before .before in
+    let x = s .args in
+    let two = s .pre .0 .two (x .from + x .step) in
+    omega (arith, c .index .ensures)
+
+mul-if4 : tie.Need-mul-if4
+mul-if4 c = let l = label-low c in search needs
+
+shared-slice-read-if4 : tie.Need-shared-slice-read-if4
+shared-slice-read-if4 c =
+    let l = label-low (c .before) in
+    let s = c .before .before .before .before .before .before .before .before .before .before .before .before .before .before .before .before in
+    omega (arith, s .pre .0 .roomed)
 
 returns-3 : tie.Need-returns-3
 returns-3 c =
-    let x = c .before .before .before .before .before .before .before .before .before .before .before .before .before .before .args in
-    let q = c .before .before .before .before .before .before .before .before .before .before .before .before .before .before .pre in
-    turn-heavy (x .aims) (x .gains .now) (x .labels .now) (x .weights .now) (x .held) (x .from) (x .step) _ _ (c .before .before .before .before .before .before .wide .ensures) (c .before .opposite .ensures) (c .if4 .taken)
+    let i = c .before .before in
+    let w = i .before .before .before .before .before in
+    let x = w .before .before .before .before .before .before .before .before .before .before .args in
+    turn-heavy (x .rooms .now) (x .lifts .now) (x .gains .now) (x .labels .now) (x .weights .now) (x .held) (x .from + x .step) _ _ (w .wide .ensures) (i .index .ensures) (c .if4 .taken)
 
-opposite-requires-2 : tie.Need-opposite-requires-2
-opposite-requires-2 c κs = search needs
+mul-load : tie.Need-mul-load
+mul-load c = let l = label-low (c .before .before) in search needs
+
+shared-slice-read-load : tie.Need-shared-slice-read-load
+shared-slice-read-load c =
+    let l = label-low (c .before .before .before) in
+    let s = c .before .before .before .before .before .before .before .before .before .before .before .before .before .before .before .before .before .before in
+    omega (arith, s .pre .0 .lifted)
 
 add-load : tie.Need-add-load
 add-load c =
-    let x = c .before .before .before .before .before .before .before .before .before .before .before .before .before .before .before .args in
-    let q = c .before .before .before .before .before .before .before .before .before .before .before .before .before .before .before .pre in
-    let a = q .0 in
-    let m = opposed-most (x .aims .loads) (part (x .labels .now) (x .from + x .step)) _ (a .light-0) (a .light-1) in
-    omega (arith, m, c .opposite2 .ensures, c .before .before .before .before .before .before .before .wide .ensures, c .before .before .before .before .before .before .before .before .shared-slice-known3 .given (x .from + x .step))
+    let i = c .before .before .before in
+    let w = i .before .before .before .before .before in
+    let s = w .before .before .before .before .before .before .before .before .before .before in
+    let x = s .args in
+    let l = s .pre .0 .light (i .index .result) (label-low i) in
+    omega (arith, w .wide .ensures, w .before .shared-slice-known5 .given (x .from + x .step))
 
 outranks-requires : tie.Need-outranks-requires
 outranks-requires c κs = search needs
 
-sub-t24 : tie.Need-sub-t24
-sub-t24 c =
-    let x = c .before .before .before .before .before .before .before .before .before .before .before .before .before .before .before .before .before .before .before .args in
-    let q = c .before .before .before .before .before .before .before .before .before .before .before .before .before .before .before .before .before .before .before .pre in
-    let a = q .0 in
-    let m = opposed-least (x .aims .loads) (part (x .labels .now) (x .from + x .step)) _ (a .least-0) (a .least-1) in
-    omega (arith, m, c .before .before .before .before .opposite2 .ensures)
+add-t27 : tie.Need-add-t27
+add-t27 c = search needs
 
 returns-4 : tie.Need-returns-4
 returns-4 c =
-    let x = c .before .before .before .before .before .before .before .before .before .before .before .before .before .before .before .before .before .before .before .args in
-    let q = c .before .before .before .before .before .before .before .before .before .before .before .before .before .before .before .before .before .before .before .pre in
-    turn-takes (x .aims) (x .gains .now) (x .labels .now) (x .weights .now) (x .held) (x .from) (x .step) _ _ _ _ _ _ (toZ-ofZ w64 _ (record { sfits = c .before .before .before .before .before .before .before .before .before .before .before .before .before .before .before .before .g .given })) (toZ-ofZ w64 _ (record { sfits = c .before .before .before .before .before .before .before .before .before .before .before .before .before .before .before .struct-told .given .1 .1 .0 .1 })) (c .before .before .before .before .before .before .before .before .before .before .before .wide .ensures) (c .before .before .before .before .before .before .opposite .ensures) (ap₂ _+_ (c .before .before .before .before .opposite2 .ensures) (c .before .before .before .before .before .before .before .before .before .before .before .wide .ensures)) (c .before .before .before .before .before .if4 .left) (c .before .before .outranks .ensures) (c .before .if5 .taken)
+    let i = c .before .before .before .before .before .before in
+    let w = i .before .before .before .before .before in
+    let t = w .before .before .before .before in
+    let x = t .before .before .before .before .before .before .args in
+    turn-takes (x .rooms .now) (x .lifts .now) (x .gains .now) (x .labels .now) (x .weights .now) (x .held) (x .from + x .step) _ _ _ _ _ _ (toZ-ofZ w64 _ (record { sfits = t .before .g .given })) (toZ-ofZ w64 _ (record { sfits = t .struct-told .given .1 .0 .1 })) (w .wide .ensures) (i .index .ensures) (ap₂ _+_ (ap (λ p. getD (x .lifts .now) p 0) (i .index .ensures)) (w .wide .ensures)) (c .before .before .before .before .if4 .left) (c .before .outranks .ensures) (c .if5 .taken)
 
 returns-5 : tie.Need-returns-5
 returns-5 c =
-    let x = c .before .before .before .before .before .before .before .before .before .before .before .before .before .before .before .before .before .before .args in
-    let q = c .before .before .before .before .before .before .before .before .before .before .before .before .before .before .before .before .before .before .pre in
-    turn-not (x .aims) (x .gains .now) (x .labels .now) (x .weights .now) (x .held) (x .from) (x .step) _ _ _ _ (toZ-ofZ w64 _ (record { sfits = c .before .before .before .before .before .before .before .before .before .before .before .before .before .before .before .g .given })) (toZ-ofZ w64 _ (record { sfits = c .before .before .before .before .before .before .before .before .before .before .before .before .before .before .struct-told .given .1 .1 .0 .1 })) (ap₂ _+_ (c .before .before .before .opposite2 .ensures) (c .before .before .before .before .before .before .before .before .before .before .wide .ensures)) (c .before .outranks .ensures) (c .if5 .left)
+    let i = c .before .before .before .before .before .before in
+    let w = i .before .before .before .before .before in
+    let t = w .before .before .before .before in
+    let x = t .before .before .before .before .before .before .args in
+    turn-not (x .rooms .now) (x .lifts .now) (x .gains .now) (x .labels .now) (x .weights .now) (x .held) (x .from + x .step) _ _ _ _ (toZ-ofZ w64 _ (record { sfits = t .before .g .given })) (toZ-ofZ w64 _ (record { sfits = t .struct-told .given .1 .0 .1 })) (ap₂ _+_ (ap (λ p. getD (x .lifts .now) p 0) (i .index .ensures)) (w .wide .ensures)) (c .before .outranks .ensures) (c .if5 .left)
 
 pub turn-spec : {M : Type 1} → statement M
 turn-spec =
@@ -108,13 +132,16 @@ turn-spec =
     shared-slice-read-wide
     wide-requires
     returns-2
-    mul-p
-    shared-slice-read-p
-    opposite-requires
+    mul-index
+    shared-slice-read-index
+    index-requires
+    mul-if4
+    shared-slice-read-if4
     returns-3
-    opposite-requires-2
+    mul-load
+    shared-slice-read-load
     add-load
     outranks-requires
-    sub-t24
+    add-t27
     returns-4
     returns-5)

@@ -1,0 +1,29 @@
+-- `fiduccia_mattheyses_pass::scan::lifts_of` meets its contract. Assumes nothing.
+use native.Mathlib.Omega.{arith}
+use borrow.Author.Needs.{needs}
+use Rattle.fiduccia_mattheyses_pass.proofs.Scans.{lesser-0, lesser-1}
+use Rattle.fiduccia_mattheyses_pass.proofs.scan.lifts_of.Statement.{statement}
+use Rattle.fiduccia_mattheyses_pass.proofs.scan.lifts_of.Tie as tie
+use Rattle.fiduccia_mattheyses_pass.proofs.scan.lifts_of.Reads as reads
+use Rattle.fiduccia_mattheyses_pass.proofs.scan.lifts_of.Lts as lts
+
+lesser-load-requires : tie.Need-lesser-load-requires
+lesser-load-requires c κs = search needs
+
+element-copy-out-t7 : tie.Need-element-copy-out-t7
+element-copy-out-t7 c = search needs
+
+sub-t8 : tie.Need-sub-t8
+sub-t8 c = omega (arith, lesser-1 (c .before .before .args .t1 .at), c .before .lesser-load .ensures)
+
+element-copy-out-t11 : tie.Need-element-copy-out-t11
+element-copy-out-t11 c = search needs
+
+sub-t12 : tie.Need-sub-t12
+sub-t12 c = omega (arith, lesser-0 (c .before .before .before .args .t1 .at), c .before .before .lesser-load .ensures)
+
+returns : tie.Need-returns
+returns c = rw (c .before .before .lesser-load .ensures)
+
+pub lifts-of-spec : {M : Type 1} → statement M
+lifts-of-spec = tie.close (tie.spec lesser-load-requires element-copy-out-t7 sub-t8 element-copy-out-t11 sub-t12 returns)
