@@ -35,64 +35,116 @@ free-low (negsuc g) p = let x = ltb-true g 4611686018427387903 p in le-leb g 461
 abbrev pub startOf : Held → Held
 startOf found = record { past = 0; gain = found .gain; load = found .load + 1 }
 
--- the whole scan begins from there
-pub begun :
+-- what the code begins with is that
+pub swept-from :
     (rooms lifts : List ℕ) (gains : List ℤ) (labels weights : List ℕ) (found held : Held) (g : ℤ) (l v : ℕ)
     → Swept rooms lifts gains labels weights (record { past = 0; gain = g; load = l }) v held
     → g ≡ found .gain
     → l ≡ found .load + 1
     → Swept rooms lifts gains labels weights (startOf found) v held
-begun rooms lifts gains labels weights found held g l v s e f = rw (← e, ← f) s
+swept-from rooms lifts gains labels weights found held g l v s e f = rw (← e, ← f) s
 
--- no load is below the lesser
-pub lesser-0 : (loads : List ℕ) → lesser loads ≤ getD loads 0 0
-lesser-0 loads = go (ltb (getD loads 0 0) (getD loads 1 0)) refl
+-- neither load is below the lesser
+pub lesser-least : (loads : List ℕ) → (lesser loads ≤ getD loads 0 0) × (lesser loads ≤ getD loads 1 0)
+lesser-least loads = go (ltb (getD loads 0 0) (getD loads 1 0)) refl
   where
-    go : (t : Bool) → ltb (getD loads 0 0) (getD loads 1 0) ≡ t → cond t (getD loads 0 0) (getD loads 1 0) ≤ getD loads 0 0
-    go true e = omega arith
-    go false e = ltb-false (getD loads 0 0) (getD loads 1 0) e
+    go : (t : Bool) → ltb (getD loads 0 0) (getD loads 1 0) ≡ t → (cond t (getD loads 0 0) (getD loads 1 0) ≤ getD loads 0 0) × (cond t (getD loads 0 0) (getD loads 1 0) ≤ getD loads 1 0)
+    go true e = let l = ltb-true (getD loads 0 0) (getD loads 1 0) e in (omega arith, omega arith)
+    go false e = let l = ltb-false (getD loads 0 0) (getD loads 1 0) e in (omega arith, omega arith)
 
-pub lesser-1 : (loads : List ℕ) → lesser loads ≤ getD loads 1 0
-lesser-1 loads = go (ltb (getD loads 0 0) (getD loads 1 0)) refl
+-- what holds of 0 and of 1 holds of every label
+each-label : (P : ℕ → Type 0) → P 0 → P 1 → (p : ℕ) → p < 2 → P p
+each-label P a b zero l = a
+each-label P a b (suc zero) l = b
+each-label P a b (suc (suc p)) l = absurd (omega arith)
+
+-- the weights below the room are those that fit
+room-is : (load ceiling w : ℕ) → w < far → ltb w (roomOf load ceiling) ≡ leb (load + w) ceiling
+room-is load ceiling w l = go (ltb ceiling load) refl (ltb (ceiling - load) far) refl (leb (load + w) ceiling) refl
   where
-    go : (t : Bool) → ltb (getD loads 0 0) (getD loads 1 0) ≡ t → cond t (getD loads 0 0) (getD loads 1 0) ≤ getD loads 1 0
-    go true e = let l = ltb-true (getD loads 0 0) (getD loads 1 0) e in omega arith
-    go false e = omega arith
+    go : (a : Bool) → ltb ceiling load ≡ a → (b : Bool) → ltb (ceiling - load) far ≡ b → (c : Bool) → leb (load + w) ceiling ≡ c → ltb w (cond a 0 (cond b (ceiling - load + 1) far)) ≡ c
+    go true p b q true r = let x = ltb-true ceiling load p in let y = leb-true (load + w) ceiling r in absurd (omega arith)
+    go true p b q false r = le-ltb w 0 (omega arith)
+    go false p true q true r = let x = ltb-false ceiling load p in let y = leb-true (load + w) ceiling r in lt-ltb w (ceiling - load + 1) (omega arith)
+    go false p true q false r = let x = ltb-false ceiling load p in let y = leb-false (load + w) ceiling r in le-ltb w (ceiling - load + 1) (omega arith)
+    go false p false q true r = lt-ltb w far l
+    go false p false q false r = let x = ltb-false (ceiling - load) far q in let y = leb-false (load + w) ceiling r in absurd (omega arith)
 
--- what a list of two holds at a label is what its places hold
-by-label : (P : ℕ → Type 0) → P 0 → P 1 → (p : ℕ) → p < 2 → P p
-by-label P a b zero l = a
-by-label P a b (suc zero) l = b
-by-label P a b (suc (suc p)) l = absurd (omega arith)
-
-module _
-    (rooms lifts : List ℕ) (gains : List ℤ) (labels weights : List ℕ) (found held : Held)
-    (small : (v : ℕ) → loadOf rooms lifts gains labels weights v + 1 < far)
-    (h : Holds rooms lifts gains labels weights nobody found)
-    (s : Swept rooms lifts gains labels weights (startOf found) (length labels) held)
+-- two loads are in the order of what they are above a third
+ltb-above : (k l m : ℕ) → ltb l m ≡ ltb (k + l) (k + m)
+ltb-above k l m = go (ltb (k + l) (k + m)) refl
   where
-    abbrev G : ℕ → ℤ
-    G = gainOf rooms lifts gains labels weights
+    go : (t : Bool) → ltb (k + l) (k + m) ≡ t → ltb l m ≡ t
+    go true e = let x = ltb-true (k + l) (k + m) e in lt-ltb l m (omega arith)
+    go false e = let x = ltb-false (k + l) (k + m) e in le-ltb l m (omega arith)
 
-    abbrev L : ℕ → ℕ
-    L = loadOf rooms lifts gains labels weights
+-- the scan, with the rooms and lifts that the code has by loads and ceilings
+module _ (gains : List ℤ) (labels weights loads ceilings : List ℕ) (q : Scannable gains labels weights loads) (narrow : (v : ℕ) → getD weights v 0 < 4294967296) where
+  abbrev rooms : List ℕ
+  rooms = roomsOf loads ceilings
 
-    abbrev M : ℕ → Bool
-    M = mayOf rooms lifts gains labels weights
+  abbrev lifts : List ℕ
+  lifts = liftsOf loads
 
-    abbrev B : ℕ → ℕ → Bool
-    B u v = beats (G u) (L u) (G v) (L v)
+  abbrev G : ℕ → ℤ
+  G = gainOf rooms lifts gains labels weights
 
-    abbrev at : ℕ
-    at = s .holds .vertex
+  abbrev L : ℕ → ℕ
+  L = loadOf rooms lifts gains labels weights
 
-    -- a vertex that is held is the pick
-    is-best : s .holds .found ≡ true → best M B (length labels) ≡ some at
-    is-best f =
-        let g = s .holds .gain-is f in
-        let l = s .holds .load-is f in
-        best-is M B (length labels) at (s .holds .here f) (s .holds .may-is f) (λ u k m. rw (← g, ← l) (s .beaten u k m)) (λ u k m. rw (← g, ← l) (s .ahead f u k m))
+  abbrev M : ℕ → Bool
+  M = mayOf rooms lifts gains labels weights
 
+  abbrev B : ℕ → ℕ → Bool
+  B u v = beats (G u) (L u) (G v) (L v)
+
+  abbrev pick : Pick
+  pick = pickBelow gains (loadAfter loads weights labels) (ceilingAt ceilings labels) (length labels)
+
+  -- what a turn asks holds of them
+  pub sighted : Sighted gains labels weights rooms lifts
+  sighted =
+      record {
+        gained = q .gained;
+        weighed = q .weighed;
+        two = q .two;
+        roomed = refl;
+        lifted = refl;
+        light = each-label (λ p. getD lifts p 0 ≤ mostWeight) (let l = q .light 1 (omega arith) in omega arith) (let l = q .light 0 (omega arith) in omega arith);
+      }
+
+  small : (v : ℕ) → L v + 1 < far
+  small v = let m = sighted .light (part labels v) (q .two v) in omega (arith, narrow v)
+
+  -- so that the load, the room and the order are those of the promise
+  load-is : (v : ℕ) → lesser loads + L v ≡ loadAfter loads weights labels v
+  load-is v =
+      let m = lesser-least loads in
+      let e = each-label (λ p. lesser loads + getD lifts p 0 ≡ getD loads (other p) 0) (omega (arith, m .1)) (omega (arith, m .0)) (part labels v) (q .two v) in
+      omega arith
+
+  fits-is : (v : ℕ) → fitsOf rooms lifts gains labels weights v ≡ leb (loadAfter loads weights labels v) (ceilingAt ceilings labels v)
+  fits-is v =
+      each-label (λ p. ltb (getD weights v 0) (getD rooms p 0) ≡ leb (getD loads (other p) 0 + getD weights v 0) (getD ceilings (other p) 0))
+      (room-is (getD loads 1 0) (getD ceilings 1 0) (getD weights v 0) (omega (arith, narrow v)))
+      (room-is (getD loads 0 0) (getD ceilings 0 0) (getD weights v 0) (omega (arith, narrow v)))
+      (part labels v) (q .two v)
+
+  over-is : (u v : ℕ) → B u v ≡ beats (G u) (loadAfter loads weights labels u) (G v) (loadAfter loads weights labels v)
+  over-is u v = rw (← load-is u, ← load-is v) (ap (λ (b : Bool). ltZ (G v) (G u) || (leZ (G v) (G u) && b)) (ltb-above (lesser loads) (L u) (L v)))
+
+  pick-is : picked G (λ v. lesser loads + L v) (best M B (length labels)) ≡ pick
+  pick-is = λ i. picked G (λ v. load-is v i) (best (λ v. isFree (G v) && fits-is v i) (λ u v. over-is u v i) (length labels))
+
+  -- what is sampled has a load within the bound
+  pub sample-near : (found : Held) → Holds rooms lifts gains labels weights nobody found → found .load ≤ far
+  sample-near found h = go (h .found) refl
+    where
+      go : (t : Bool) → h .found ≡ t → found .load ≤ far
+      go true f = let k = h .load-is f in let i = small (h .vertex) in omega arith
+      go false f = let k = h .load-was f in omega arith
+
+  module _ (found held : Held) (h : Holds rooms lifts gains labels weights nobody found) (s : Swept rooms lifts gains labels weights (startOf found) (length labels) held) where
     -- the vertex sampled goes before the start, so that a vertex comes to be held
     sampled : h .found ≡ true → s .holds .found ≡ false → ⊥
     sampled f n =
@@ -116,120 +168,43 @@ module _
         (by-load (G u) (L u) (held .gain) (held .load) (rw g (free-low (G u) (and-left (isFree (G u)) (fitsOf rooms lifts gains labels weights u) e))) (omega arith))
         (s .beaten u l e)
 
-    -- the pick, with loads above some k
-    abbrev pickOf : ℕ → Pick
-    pickOf k = picked G (λ v. k + L v) (best M B (length labels))
-
     -- a load that is near is that of a vertex
     is-found : held .load < far → (t : Bool) → s .holds .found ≡ t → (u : Bool) → h .found ≡ u → t ≡ true
-    is-found l true f u q = refl
-    is-found l false n true q = absurd (sampled q n)
-    is-found l false n false q = let k = s .holds .load-was n in let j = h .load-was q in absurd (omega arith)
+    is-found l true f u e = refl
+    is-found l false n true e = absurd (sampled e n)
+    is-found l false n false e = let k = s .holds .load-was n in let j = h .load-was e in absurd (omega arith)
 
-    answer-past : held .load < far → held .past ≡ at + 1
-    answer-past l = s .holds .past-is (is-found l (s .holds .found) refl (h .found) refl)
+    module _ (l : held .load < far) where
+      found-one : s .holds .found ≡ true
+      found-one = is-found l (s .holds .found) refl (h .found) refl
 
-    answer-found : (k v : ℕ) → held .load < far → v + 1 ≡ held .past → Vertex v (held .gain) (k + held .load) ≡ pickOf k
-    answer-found k v l e =
-        let f = is-found l (s .holds .found) refl (h .found) refl in
-        let p = s .holds .past-is f in
-        vertex-is v at (held .gain) (held .load) (omega arith) (s .holds .gain-is f) (s .holds .load-is f) ∙ ap (picked G (λ u. k + L u)) (sym (is-best f))
+      pub scan-past : 1 ≤ held .past
+      scan-past = let e = s .holds .past-is found-one in omega arith
+
+      -- and that vertex is the pick
+      is-best : best M B (length labels) ≡ some (s .holds .vertex)
+      is-best =
+          let g = s .holds .gain-is found-one in
+          let k = s .holds .load-is found-one in
+          best-is M B (length labels) (s .holds .vertex) (s .holds .here found-one) (s .holds .may-is found-one) (λ u i m. rw (← g, ← k) (s .beaten u i m)) (λ u i m. rw (← g, ← k) (s .ahead found-one u i m))
+
+      pub scan-found : (v k : ℕ) (g : ℤ) → v + 1 ≡ held .past → g ≡ held .gain → k ≡ lesser loads → Vertex v g (k + held .load) ≡ pick
+      scan-found v k g e z i =
+          let p = s .holds .past-is found-one in
+          vertex-is v (s .holds .vertex) g (held .load) k (omega arith) (z ∙ s .holds .gain-is found-one) (s .holds .load-is found-one) i
+          ∙ ap (picked G (λ u. lesser loads + L u)) (sym is-best)
+          ∙ pick-is
+        where
+          vertex-is : (v a : ℕ) (g : ℤ) (l k : ℕ) → v ≡ a → g ≡ G a → l ≡ L a → k ≡ lesser loads → Vertex v g (k + l) ≡ picked G (λ u. lesser loads + L u) (some a)
+          vertex-is v a g l k x y z i = rw (y, z, x, i)
+
+    pub scan-nobody : far ≤ held .load → Nobody ≡ pick
+    scan-nobody l = go (s .holds .found) refl (h .found) refl ∙ pick-is
       where
-        vertex-is : (v a : ℕ) (g : ℤ) (l : ℕ) → v ≡ a → g ≡ G a → l ≡ L a → Vertex v g (k + l) ≡ picked G (λ u. k + L u) (some a)
-        vertex-is v a g l x y z = rw (y, z, x)
-
-    answer-nobody : (k : ℕ) → far ≤ held .load → Nobody ≡ pickOf k
-    answer-nobody k l = go (s .holds .found) refl (h .found) refl
-      where
-        go : (t : Bool) → s .holds .found ≡ t → (u : Bool) → h .found ≡ u → Nobody ≡ pickOf k
-        go true f u q = let j = s .holds .load-is f in let i = small at in absurd (omega arith)
-        go false n true q = absurd (sampled q n)
-        go false n false q = rw (best-none M B (length labels) (λ u j. none-may q n u j (M u) refl))
-
--- the weights below the room are those that fit
-room-is : (load ceiling w : ℕ) → w < far → ltb w (roomOf load ceiling) ≡ leb (load + w) ceiling
-room-is load ceiling w l = go (ltb ceiling load) refl (ltb (ceiling - load) far) refl (leb (load + w) ceiling) refl
-  where
-    go : (a : Bool) → ltb ceiling load ≡ a → (b : Bool) → ltb (ceiling - load) far ≡ b → (c : Bool) → leb (load + w) ceiling ≡ c → ltb w (cond a 0 (cond b (ceiling - load + 1) far)) ≡ c
-    go true p b q true r = let x = ltb-true ceiling load p in let y = leb-true (load + w) ceiling r in absurd (omega arith)
-    go true p b q false r = le-ltb w 0 (omega arith)
-    go false p true q true r = let x = ltb-false ceiling load p in let y = leb-true (load + w) ceiling r in lt-ltb w (ceiling - load + 1) (omega arith)
-    go false p true q false r = let x = ltb-false ceiling load p in let y = leb-false (load + w) ceiling r in le-ltb w (ceiling - load + 1) (omega arith)
-    go false p false q true r = lt-ltb w far l
-    go false p false q false r = let x = ltb-false (ceiling - load) far q in let y = leb-false (load + w) ceiling r in absurd (omega arith)
-
--- the order of two loads is that of what each is above a third
-above : (k l m : ℕ) → ltb l m ≡ ltb (k + l) (k + m)
-above k l m = go (ltb (k + l) (k + m)) refl
-  where
-    go : (t : Bool) → ltb (k + l) (k + m) ≡ t → ltb l m ≡ t
-    go true e = let x = ltb-true (k + l) (k + m) e in lt-ltb l m (omega arith)
-    go false e = let x = ltb-false (k + l) (k + m) e in le-ltb l m (omega arith)
-
--- the scan's rooms and lifts, by loads and ceilings
-module _ (gains : List ℤ) (labels weights loads ceilings : List ℕ) (q : Scannable gains labels weights loads) (narrow : (v : ℕ) → getD weights v 0 < 4294967296) where
-  abbrev R : List ℕ
-  R = roomsOf loads ceilings
-
-  abbrev T : List ℕ
-  T = liftsOf loads
-
-  -- what the scan asks holds of them
-  pub sighted : Sighted gains labels weights R T
-  sighted =
-      record {
-        gained = q .gained;
-        weighed = q .weighed;
-        two = q .two;
-        roomed = refl;
-        lifted = refl;
-        light = by-label (λ p. getD T p 0 ≤ mostWeight) (let l = q .light 1 (omega arith) in omega arith) (let l = q .light 0 (omega arith) in omega arith);
-      }
-
-  loads-small : (v : ℕ) → loadOf R T gains labels weights v + 1 < far
-  loads-small v = let m = sighted .light (part labels v) (q .two v) in omega (arith, narrow v)
-
-  -- a lift is what the target's load is above the lesser
-  load-is : (v : ℕ) → lesser loads + loadOf R T gains labels weights v ≡ loadAfter loads weights labels v
-  load-is v =
-      let e = by-label (λ p. lesser loads + getD T p 0 ≡ getD loads (other p) 0) (let l = lesser-1 loads in omega arith) (let l = lesser-0 loads in omega arith) (part labels v) (q .two v) in
-      omega arith
-
-  fits-is : (v : ℕ) → fitsOf R T gains labels weights v ≡ leb (loadAfter loads weights labels v) (ceilingAt ceilings labels v)
-  fits-is v =
-      by-label (λ p. ltb (getD weights v 0) (getD R p 0) ≡ leb (getD loads (other p) 0 + getD weights v 0) (getD ceilings (other p) 0))
-      (room-is (getD loads 1 0) (getD ceilings 1 0) (getD weights v 0) (omega (arith, narrow v)))
-      (room-is (getD loads 0 0) (getD ceilings 0 0) (getD weights v 0) (omega (arith, narrow v)))
-      (part labels v) (q .two v)
-
-  over-is :
-      (u v : ℕ)
-      → beats (getD gains u (pos 0)) (loadOf R T gains labels weights u) (getD gains v (pos 0)) (loadOf R T gains labels weights v)
-      ≡ beats (getD gains u (pos 0)) (loadAfter loads weights labels u) (getD gains v (pos 0)) (loadAfter loads weights labels v)
-  over-is u v =
-      rw (← load-is u, ← load-is v) (ap (λ (b : Bool). ltZ (getD gains v (pos 0)) (getD gains u (pos 0)) || (leZ (getD gains v (pos 0)) (getD gains u (pos 0)) && b)) (above (lesser loads) (loadOf R T gains labels weights u) (loadOf R T gains labels weights v)))
-
-  -- what is sampled has a load within the bound
-  pub sample-near : (found : Held) → Holds R T gains labels weights nobody found → found .load ≤ far
-  sample-near found h = go (h .found) refl
-    where
-      go : (t : Bool) → h .found ≡ t → found .load ≤ far
-      go true f = let k = h .load-is f in let i = loads-small (h .vertex) in omega arith
-      go false f = let k = h .load-was f in omega arith
-
-  -- the whole scan
-  module _ (found held : Held) (h : Holds R T gains labels weights nobody found) (s : Swept R T gains labels weights (startOf found) (length labels) held) where
-    pick-same : pickOf R T gains labels weights found held loads-small h s (lesser loads) ≡ pickBelow gains (loadAfter loads weights labels) (ceilingAt ceilings labels) (length labels)
-    pick-same = λ i. picked (λ v. getD gains v (pos 0)) (λ v. load-is v i) (best (λ v. isFree (getD gains v (pos 0)) && fits-is v i) (λ u v. over-is u v i) (length labels))
-
-    pub scan-past : held .load < far → 1 ≤ held .past
-    scan-past l = let e = answer-past R T gains labels weights found held loads-small h s l in omega arith
-
-    pub scan-found : (v k : ℕ) (g : ℤ) → held .load < far → v + 1 ≡ held .past → g ≡ held .gain → k ≡ lesser loads → Vertex v g (k + held .load) ≡ pickBelow gains (loadAfter loads weights labels) (ceilingAt ceilings labels) (length labels)
-    scan-found v k g l p e f = rw (e, f) (answer-found R T gains labels weights found held loads-small h s (lesser loads) v l p ∙ pick-same)
-
-    pub scan-nobody : far ≤ held .load → Nobody ≡ pickBelow gains (loadAfter loads weights labels) (ceilingAt ceilings labels) (length labels)
-    scan-nobody l = answer-nobody R T gains labels weights found held loads-small h s (lesser loads) l ∙ pick-same
+        go : (t : Bool) → s .holds .found ≡ t → (u : Bool) → h .found ≡ u → Nobody ≡ picked G (λ v. lesser loads + L v) (best M B (length labels))
+        go true f u e = let k = s .holds .load-is f in let i = small (s .holds .vertex) in absurd (omega arith)
+        go false n true e = absurd (sampled e n)
+        go false n false e = rw (best-none M B (length labels) (λ u i. none-may e n u i (M u) refl))
 
 -- what is done with the scan's answer: nobody; a gain of 0 or less at the bad limit, and below it; a positive gain
 module _ (q q′ : Pick) (bad limit : ℕ) (e : q ≡ q′) where

@@ -1,12 +1,11 @@
 -- `fiduccia_mattheyses_pass::scan::choose` meets its contract: what is held at the end is the pick (`Scans`). Assumes nothing.
-use mathlib.Core.Path.{refl}
-use Prim.Native.Nat.{ℕ, _<_}
+use Prim.Native.Nat.{ℕ, _≤_, _<_}
 use native.Mathlib.Omega.{arith}
 use lib.ListN.{length, getD}
 use mir.Syntax.{w64}
 use mir.ValLaws.{toZ-ofZ}
-use Rattle.fiduccia_mattheyses_pass.specs.Turn.{roomsOf, liftsOf, nobody, Sighted, Holds, Swept}
-use Rattle.fiduccia_mattheyses_pass.proofs.Scans.{startOf, begun, lesser-0, sighted, sample-near, scan-past, scan-found, scan-nobody}
+use Rattle.fiduccia_mattheyses_pass.specs.Turn.{far, roomsOf, liftsOf, nobody, Sighted, Holds, Swept}
+use Rattle.fiduccia_mattheyses_pass.proofs.Scans.{startOf, swept-from, lesser-least, sighted, sample-near, scan-past, scan-found, scan-nobody}
 use borrow.Author.Needs.{needs}
 use Rattle.fiduccia_mattheyses_pass.proofs.scan.choose.Statement.{statement}
 use Rattle.fiduccia_mattheyses_pass.proofs.scan.choose.Tie as tie
@@ -68,15 +67,17 @@ swept c =
     let t = c .before .before .before in
     let a = t .before .before in
     let z = toZ-ofZ w64 (a .sample .result .gain) (record { sfits = t .struct-told .given .1 .0 .1 }) in
-    begun _ _ _ _ _ (a .sample .result) _ _ _ _ (rw (a .before .before .before .before .rooms-of .ensures, a .before .before .before .lifts-of .ensures) at (c .sweep .ensures)) z refl
+    swept-from _ _ _ _ _ (a .sample .result) _ _ _ _ (rw (a .before .before .before .before .rooms-of .ensures, a .before .before .before .lifts-of .ensures) at (c .sweep .ensures)) z (omega arith)
 
-sub-t23 : tie.Need-sub-t23
-sub-t23 c =
-    let w = c .before .before .before in
-    let a = w .before .before .before .before .before in
+past-one : (c : tie.After-sweep) → c .sweep .result .load < far → 1 ≤ c .sweep .result .past
+past-one c =
+    let a = c .before .before .before .before .before in
     let s = a .before .before .before .before .before .before .before in
     let x = s .args in
-    scan-past (x .gains .now) (x .labels .now) (x .weights .now) (x .loads .at) (x .ceilings .at) (s .pre .0) (narrow (a .before .before .before .before .before)) _ _ (found-is a) (swept w) (c .before .if1 .taken)
+    scan-past (x .gains .now) (x .labels .now) (x .weights .now) (x .loads .at) (x .ceilings .at) (s .pre .0) (narrow (a .before .before .before .before .before)) _ _ (found-is a) (swept c)
+
+sub-t23 : tie.Need-sub-t23
+sub-t23 c = past-one (c .before .before .before) (c .before .if1 .taken)
 
 lesser-load-requires : tie.Need-lesser-load-requires
 lesser-load-requires c κs = c .before .before .before .before .before .before .before .before .before .before .before .before .before .before .before .pre .0 .sixteen
@@ -85,7 +86,7 @@ add-t25 : tie.Need-add-t25
 add-t25 c =
     let s = c .before .before .before .before .before .before .before .before .before .before .before .before .before .before .before .before .before in
     let l = s .pre .0 .light 0 (omega arith) in
-    let m = lesser-0 (s .args .loads .at) in
+    let m = lesser-least (s .args .loads .at) .0 in
     let k = c .before .before .before .if1 .taken in
     omega (arith, c .before .lesser-load .ensures)
 
@@ -97,8 +98,8 @@ returns c =
     let x = s .args in
     let y = toZ-ofZ w64 (w .sweep .result .gain) (record { sfits = c .struct-told2 .given .1 .0 .1 }) in
     let l = c .before .before .before .before .if1 .taken in
-    let p = scan-past (x .gains .now) (x .labels .now) (x .weights .now) (x .loads .at) (x .ceilings .at) (s .pre .0) (narrow (a .before .before .before .before .before)) _ _ (found-is a) (swept w) l in
-    scan-found (x .gains .now) (x .labels .now) (x .weights .now) (x .loads .at) (x .ceilings .at) (s .pre .0) (narrow (a .before .before .before .before .before)) _ _ (found-is a) (swept w) _ _ _ l (omega arith) y (c .before .before .lesser-load .ensures)
+    let p = past-one w l in
+    scan-found (x .gains .now) (x .labels .now) (x .weights .now) (x .loads .at) (x .ceilings .at) (s .pre .0) (narrow (a .before .before .before .before .before)) _ _ (found-is a) (swept w) l _ _ _ (omega arith) y (c .before .before .lesser-load .ensures)
 
 returns-2 : tie.Need-returns-2
 returns-2 c =

@@ -1,7 +1,7 @@
 -- `fiduccia_mattheyses_pass::scan::lifts_of` meets its contract. Assumes nothing.
 use native.Mathlib.Omega.{arith}
 use borrow.Author.Needs.{needs}
-use Rattle.fiduccia_mattheyses_pass.proofs.Scans.{lesser-0, lesser-1}
+use Rattle.fiduccia_mattheyses_pass.proofs.Scans.{lesser-least}
 use Rattle.fiduccia_mattheyses_pass.proofs.scan.lifts_of.Statement.{statement}
 use Rattle.fiduccia_mattheyses_pass.proofs.scan.lifts_of.Tie as tie
 use Rattle.fiduccia_mattheyses_pass.proofs.scan.lifts_of.Reads as reads
@@ -14,13 +14,13 @@ element-copy-out-t7 : tie.Need-element-copy-out-t7
 element-copy-out-t7 c = search needs
 
 sub-t8 : tie.Need-sub-t8
-sub-t8 c = omega (arith, lesser-1 (c .before .before .args .t1 .at), c .before .lesser-load .ensures)
+sub-t8 c = omega (arith, lesser-least (c .before .before .args .t1 .at) .1, c .before .lesser-load .ensures)
 
 element-copy-out-t11 : tie.Need-element-copy-out-t11
 element-copy-out-t11 c = search needs
 
 sub-t12 : tie.Need-sub-t12
-sub-t12 c = omega (arith, lesser-0 (c .before .before .before .args .t1 .at), c .before .before .lesser-load .ensures)
+sub-t12 c = omega (arith, lesser-least (c .before .before .before .args .t1 .at) .0, c .before .before .lesser-load .ensures)
 
 returns : tie.Need-returns
 returns c = rw (c .before .before .lesser-load .ensures)
