@@ -6,7 +6,14 @@
  * blocks exchange much, and the drives of neighbouring cars exchange a little. */
 #include "../include/daunsrevit.h"
 
-int printf(const char *, ...); /* As <stdio.h> declares it; the toolchain that builds the example has no C headers. */
+/* The toolchain's own compiler comes without the C headers. */
+#ifndef DAUNSREVIT_OWN_TYPES
+#include <stdio.h>
+#elif defined(__cplusplus)
+extern "C" int printf(const char *, ...);
+#else
+int printf(const char *, ...);
+#endif
 
 enum { BOARDS = 3, BLOCKS = 12, ARCS = 30, CAPACITY = 26, STACK = 64 };
 

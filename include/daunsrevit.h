@@ -1,3 +1,4 @@
+/* SPDX-License-Identifier: MIT OR Apache-2.0 */
 /* Daunsrevit: measures a partition of a graph into parts, refines one of two parts or of up to sixteen, and reads and writes plans,
  * the files that hold a graph, its labels and a ceiling. For x86-64 with the System V calling convention.
  *
@@ -25,10 +26,33 @@
  *     loads 304, edge cut 256, lambda cut 272, FM 1,024, KL 464, arc-swap 1,152, reading a plan 112, writing one 112,
  *     self-test 2,160
  *
+ * TIME. Every call ends. The checks walk each list a fixed number of times and look for each arc's opposite by halving a row. Beyond
+ * them:
+ *
+ *     FM           passes: at most settings.passes, and at most the first cut + 1; moves in a pass: at most settings.moves, and at most
+ *                  n; before each move, a look at every vertex
+ *     KL           passes: at most settings.passes; swaps in a pass: at most settings.swaps, and at most n / 2; for each swap, walks of
+ *                  all rows
+ *     arc-swap     passes: at most the first cut + 1; moves: at most the first cut, as each lowers the cut; attempts: at most n in each
+ *                  pass, and for each move at most the length of the moved vertex's row
+ *
+ * The longest calls measured, at 4,096 vertices, in instructions (docs/SPEED.md has their graphs and settings); longer ones are
+ * possible within the bounds above:
+ *
+ *     loads 71,778, edge cut 2,896,528, lambda cut 2,855,432, FM 528,351,549 with 36,864 moves, KL 78,769,588, arc-swap 19,732,519
+ *
+ * THREADS. The library keeps no state of its own, so it may be called from several threads at once, each with lent lists of its own.
+ *
  * WHAT C MUST SEE TO. Nothing can prove this of the caller, and without it nothing is promised:
  *   - a pointer points to as many elements as its count says, properly aligned; it may be null only if the count is 0;
  *   - no two lists overlap;
- *   - nothing else writes the lists during the call, and nothing else reads the lent ones.
+ *   - nothing else writes the lists during the call, and nothing else reads the lent ones;
+ *   - the program has memcpy and memset, as the C standard describes them: the archive has no other undefined symbol. What stack they
+ *     take comes on top of the figures above;
+ *   - where FM or arc-swap is called with DAUNSREVIT_IMBALANCE, the processor rounds to nearest, ties to even, and traps no inexact
+ *     result, as every C program begins. The ceiling is worked out in double precision by the rounding that the caller has set: with
+ *     rounding towards zero, the ceiling of total 5, two parts and e = 0.6 is 3 in place of 4. Denormals taken as zero do no harm, as e
+ *     is judged by its bits. The self-test answers 11 where the processor rounds otherwise.
  */
 #ifndef DAUNSREVIT_H
 #define DAUNSREVIT_H
@@ -50,9 +74,23 @@ typedef __SIZE_TYPE__ size_t;
 #include <stdint.h>
 #endif
 
+/* Stands before each call: the answer has the number, so a compiler that can warns where an answer is dropped. */
+#if (defined(__cplusplus) && __cplusplus >= 201703L) || (defined(__STDC_VERSION__) && __STDC_VERSION__ >= 202311L)
+#define DAUNSREVIT_ANSWERS [[nodiscard]]
+#elif defined(__GNUC__)
+#define DAUNSREVIT_ANSWERS __attribute__((warn_unused_result))
+#else
+#define DAUNSREVIT_ANSWERS
+#endif
+
 #ifdef __cplusplus
 extern "C" {
 #endif
+
+#define DAUNSREVIT_VERSION "0.1.0"
+#define DAUNSREVIT_VERSION_MAJOR 0
+#define DAUNSREVIT_VERSION_MINOR 1
+#define DAUNSREVIT_VERSION_PATCH 0
 
 #define DAUNSREVIT_MOST_VERTICES 4096
 #define DAUNSREVIT_MOST_ARCS 65535
@@ -79,6 +117,23 @@ extern "C" {
 #define DAUNSREVIT_LATER_BLOCK 13     /* a later block laid out wrongly, or block count wrong */
 #define DAUNSREVIT_RECORDS 14         /* degrees do not sum to a, or a label is not below k */
 #define DAUNSREVIT_SHORT_TARGET 15    /* a lent target is too short */
+
+/* How to mend a refused call. It has written nothing, so the same lists may be passed again.
+ *      1  pass n weights, n + 1 starts, and as many arc weights as neighbours
+ *      2  pass fewer vertices or arcs: DAUNSREVIT_MOST_VERTICES and DAUNSREVIT_MOST_ARCS are the most
+ *      3  let the starts begin at 0, never fall and end at a; in each row let the neighbours rise, stay below n and leave out the row itself
+ *      4  for each arc from u to v add one from v to u, or give the two the same weight
+ *      5  scale the weights, or the arc weights, down until they sum to at most DAUNSREVIT_MOST_WEIGHT
+ *      6  name the parts by numbers below 16; for FM by 0 and 1; for KL by exactly two different numbers
+ *      7  take a pass limit of at most DAUNSREVIT_MOST_PASSES, a choice of 0, 1 or 2, and an e from 0.0 to 64.0
+ *      8  lend lists of the lengths that the call needs: n, n / 2 or settings.passes, as its comment says
+ *      9  pass the whole file: a plan is one block of 512 bytes or more, and nothing after them
+ *     10  fetch the file again: some of its bytes are not those that were written
+ *     11  pass a plan from its first byte on: the first block is of kind 1 with 3 records, and its unused places are zero
+ *     12  take 1 to 4,096 vertices, at most 65,535 arcs, 2 to 16 parts, a choice of 0, 1 or 2 and a value that fits it
+ *     13  lay the blocks out by kind, 63 records in each but the last of a kind, unused places zero, as many as n and a ask for
+ *     14  let the lengths of the rows sum to a, and let every label be below k
+ *     15  lend longer targets: DAUNSREVIT_PLAN_BYTES is the writer's, daunsrevit_plan_vertices and daunsrevit_plan_arcs tell the reader's */
 
 /* How a run ended. */
 #define DAUNSREVIT_PASS_LIMIT 0       /* the pass limit */
@@ -110,14 +165,14 @@ struct daunsrevit_cut_answer {
 /* The load of each part, of weights and labels alone. Done: number 0, and loads.at[t] is the sum of the weights of the vertices
  * labelled t, for t below 16. Else number is the smallest of 1 (weights not n), 2 (n), 5 (weights) and 6 that applies, and every
  * load is 0. */
-struct daunsrevit_loads_answer daunsrevit_compute_parts_load(
+DAUNSREVIT_ANSWERS struct daunsrevit_loads_answer daunsrevit_compute_parts_load(
     const uint32_t *weights, size_t weights_count,
     const uint32_t *labels, size_t labels_count);
 
 /* The edge cut. Done: number 0, and cut is the sum of the weights of all pairs whose ends have different labels, each pair
  * counted once, by its higher vertex. Else number is the smallest of 1 (starts not n + 1, or neighbours and arc weights differ
  * in count), 2, 3, 4, 5 (arc weights) and 6 that applies, and cut is 0. */
-struct daunsrevit_cut_answer daunsrevit_edge_cut(
+DAUNSREVIT_ANSWERS struct daunsrevit_cut_answer daunsrevit_edge_cut(
     const uint32_t *starts, size_t starts_count,
     const uint32_t *neighbours, size_t neighbours_count,
     const uint32_t *arc_weights, size_t arc_weights_count,
@@ -126,7 +181,7 @@ struct daunsrevit_cut_answer daunsrevit_edge_cut(
 /* The lambda cut. Done: number 0, and cut is the sum over all vertices of the vertex's weight times the number of different
  * parts among its neighbours, its own part not counted. An arc of weight 0 makes neighbours too. Else number is the smallest of
  * 1 to 6 that applies (5 for either weight sum), and cut is 0. */
-struct daunsrevit_cut_answer daunsrevit_lambda_cut(
+DAUNSREVIT_ANSWERS struct daunsrevit_cut_answer daunsrevit_lambda_cut(
     const uint32_t *starts, size_t starts_count,
     const uint32_t *neighbours, size_t neighbours_count,
     const uint32_t *arc_weights, size_t arc_weights_count,
@@ -224,11 +279,16 @@ struct daunsrevit_write_answer {
  *     gains, moves                n elements or more: working lists
  *     rows_made, rows_rewound     settings.passes elements or more
  *
- * Done: number 0, and the labels are refined. Pass i made rows_made[i] moves and took rows_rewound[i] of them back; rows after
- * the last pass keep their values. Without vertices, whatever the other lists and the settings: number 0, end 3, all else 0,
- * and nothing is written. Else number is the smallest of 1 to 8 that applies (5 for either weight sum), and the report is
- * otherwise 0. */
-struct daunsrevit_fiduccia_mattheyses_report daunsrevit_fiduccia_mattheyses(
+ * Done: number 0, and the labels are refined:
+ *   - On a symmetric graph without loops, which number 0 says it is, with whole weights within the limits, the run leaves the labels of
+ *     the least cut among its start and the states after each move made, the earliest of equals.
+ *   - If it ended on a gainless pass and each pass was allowed at least one move, no single block can go to the other board within the
+ *     load ceiling and lower the cut.
+ *   - No board ends above the larger of the ceiling and its starting load.
+ * Pass i made rows_made[i] moves and took rows_rewound[i] of them back; rows after the last pass keep their values. Without vertices,
+ * whatever the other lists and the settings: number 0, end 3, all else 0, and nothing is written. Else number is the smallest of 1 to 8
+ * that applies (5 for either weight sum), and the report is otherwise 0. */
+DAUNSREVIT_ANSWERS struct daunsrevit_fiduccia_mattheyses_report daunsrevit_fiduccia_mattheyses(
     const uint32_t *starts, size_t starts_count,
     const uint32_t *neighbours, size_t neighbours_count,
     const uint32_t *arc_weights, size_t arc_weights_count,
@@ -250,7 +310,7 @@ struct daunsrevit_fiduccia_mattheyses_report daunsrevit_fiduccia_mattheyses(
  * Done: number 0, and the labels are those that the run leaves. A pass keeps its best state after at least one swap, so the last
  * cut may be above the first. Else number is the smallest of 1 to 8 that applies (5 for either weight sum), and the report is
  * otherwise 0; without vertices there are not two labels. */
-struct daunsrevit_kernighan_lin_report daunsrevit_kernighan_lin(
+DAUNSREVIT_ANSWERS struct daunsrevit_kernighan_lin_report daunsrevit_kernighan_lin(
     const uint32_t *starts, size_t starts_count,
     const uint32_t *neighbours, size_t neighbours_count,
     const uint32_t *arc_weights, size_t arc_weights_count,
@@ -268,12 +328,18 @@ struct daunsrevit_kernighan_lin_report daunsrevit_kernighan_lin(
  *     stack                       any length: a working list, which a done call zeroes whole
  *     run                         one record, not null
  *
- * Done: number 0, the labels are refined, and the run record holds the counts. Where the vertices to be pushed have no place on the
- * stack the run ends with 2, with the labels reached so far, by moves that each lowered the cut: lend more, and call again. No length
- * is proved to be enough, as the stack keeps repeats; 65,535 places were for every graph on which the library was held to coupe.
+ * Done: number 0, the labels are refined, and the run record holds the counts. No part ends above the larger of the ceiling and its
+ * starting load. Where the vertices to be pushed have no place on the stack the run ends with 2, with the labels reached so far, by
+ * moves that each lowered the cut. No length is proved to be enough, as the stack keeps repeats; 65,535 places were for every graph on
+ * which the library was held to coupe. After end 2 it is safe
+ *   - to start again, with a longer stack, from the labels as they were before the call, of which you have kept a copy; or
+ *   - to go on from the labels reached, with a longer stack, if both calls have DAUNSREVIT_WHOLE and the same ceiling, or both have
+ *     DAUNSREVIT_CARRIED: no load is above that ceiling after the first call, so that the second one's is the same or lower.
+ * With DAUNSREVIT_IMBALANCE do not go on: k is taken anew from the labels, so that where the first call emptied the last parts the second
+ * one divides by fewer, and a part can end above both the first ceiling and its first load (tests/c/arc_swap.c has such a case).
  * Without vertices, whatever the other lists and the settings: number 0, end 3, all else 0, and nothing is written but the run record,
  * which is zeroed. Else number is the smallest of 1 to 7 that applies (5 for either weight sum), and the report is otherwise 0. */
-struct daunsrevit_arc_swap_report daunsrevit_arc_swap(
+DAUNSREVIT_ANSWERS struct daunsrevit_arc_swap_report daunsrevit_arc_swap(
     const uint32_t *starts, size_t starts_count,
     const uint32_t *neighbours, size_t neighbours_count,
     const uint32_t *arc_weights, size_t arc_weights_count,
@@ -294,6 +360,27 @@ struct daunsrevit_arc_swap_report daunsrevit_arc_swap(
  * n is 1 to DAUNSREVIT_MOST_VERTICES, a at most DAUNSREVIT_MOST_ARCS, k 2 to DAUNSREVIT_PARTS, and labels are below k. The row
  * rules, opposites and weight sums are no part of it. */
 
+/* The bytes of a plan of n vertices and a arcs: a constant expression where n and a are. Each is evaluated once; for n and a of 32 bits
+ * nothing overflows. */
+#define DAUNSREVIT_PLAN_BYTES(n, a) ((size_t)DAUNSREVIT_BLOCK * (1 + ((size_t)(n) + 62) / 63 + ((size_t)(a) + 62) / 63))
+
+/* What a plan's first block says of n (its bytes 4 to 7) and of a (8 to 11), for the caller who lends lists by it: the reader needs no
+ * longer ones. It reads no more than bytes_count bytes, gives 0 where there is no whole block, and checks nothing, so what it gives may
+ * be any number: one above DAUNSREVIT_MOST_VERTICES or DAUNSREVIT_MOST_ARCS is of a file that the reader refuses whatever it is lent.
+ * Lists of DAUNSREVIT_MOST_VERTICES, one more, and DAUNSREVIT_MOST_ARCS elements are enough for every plan. The library has no part in
+ * these two functions, which are C. */
+static inline uint32_t daunsrevit_plan_vertices(const uint8_t *bytes, size_t bytes_count)
+{
+    return bytes_count < DAUNSREVIT_BLOCK ? 0
+        : (uint32_t)bytes[4] | (uint32_t)bytes[5] << 8 | (uint32_t)bytes[6] << 16 | (uint32_t)bytes[7] << 24;
+}
+
+static inline uint32_t daunsrevit_plan_arcs(const uint8_t *bytes, size_t bytes_count)
+{
+    return bytes_count < DAUNSREVIT_BLOCK ? 0
+        : (uint32_t)bytes[8] | (uint32_t)bytes[9] << 8 | (uint32_t)bytes[10] << 16 | (uint32_t)bytes[11] << 24;
+}
+
 /* Reads a plan from bytes. What is needed of each target:
  *
  *     labels, weights             n elements or more
@@ -301,8 +388,9 @@ struct daunsrevit_arc_swap_report daunsrevit_arc_swap(
  *     neighbours, arc_weights     a elements or more
  *
  * Done: number 0, the header, and the plan's lists in the targets. Else number is the smallest of 9 to 15 that applies, and the
- * answer is otherwise 0. */
-struct daunsrevit_read_answer daunsrevit_read_plan(
+ * answer is otherwise 0. 12 is also a value that does not fit its choice: not 0 with choice 0, above 4,294,967,295 with choice 1, the
+ * bits of no legal e with choice 2. */
+DAUNSREVIT_ANSWERS struct daunsrevit_read_answer daunsrevit_read_plan(
     const uint8_t *bytes, size_t bytes_count,
     uint32_t *labels, size_t labels_count,
     uint32_t *weights, size_t weights_count,
@@ -311,9 +399,16 @@ struct daunsrevit_read_answer daunsrevit_read_plan(
     uint32_t *arc_weights, size_t arc_weights_count);
 
 /* Writes a plan to the target, which needs 512 bytes for the header, for each 63 vertices or part of them, and for each 63 arcs
- * or part of them. Done: number 0, and length is how many bytes were written. Else number is the first of 12 (n, a, k, or a
- * value that does not fit the choice), 1, 3 (starts only), 14 (a label not below k) and 15 that applies, and length is 0. */
-struct daunsrevit_write_answer daunsrevit_write_plan(
+ * or part of them: DAUNSREVIT_PLAN_BYTES(n, a). Done: number 0, and length is how many bytes were written. Else length is 0, and number
+ * is the first of these that applies, in this order:
+ *
+ *     12     n 0 or above DAUNSREVIT_MOST_VERTICES; a above DAUNSREVIT_MOST_ARCS; k below 2 or above DAUNSREVIT_PARTS; a choice above 2; or
+ *            choice 2 with an imbalance that is NaN, below 0 or above 64. A row's length always fits, as a does
+ *     1      weights not n, starts not n + 1, or neighbours and arc weights differ in count
+ *     3      the starts do not begin at 0, fall, or do not end at a
+ *     14     a label not below k
+ *     15     the target too short */
+DAUNSREVIT_ANSWERS struct daunsrevit_write_answer daunsrevit_write_plan(
     const uint32_t *labels, size_t labels_count,
     const uint32_t *weights, size_t weights_count,
     const uint32_t *starts, size_t starts_count,
@@ -322,10 +417,11 @@ struct daunsrevit_write_answer daunsrevit_write_plan(
     uint32_t k, uint32_t choice, uint32_t whole, double imbalance,
     uint8_t *target, size_t target_count);
 
-/* The self-test: runs loads, cuts, gains, FM, KL and arc-swap on a grid of eight blocks and compares ten rows of known results.
- * Answers the number of the first row that differs, else 0. It is proved to answer 0: another answer tells of a machine or a
- * build that does not run the proved code. */
-uint32_t daunsrevit_self_test(void);
+/* The self-test: runs loads, cuts, gains, FM, KL and arc-swap on a grid of eight blocks and compares ten rows of known results; then
+ * works out three ceilings that only the right rounding gives. Answers the number of the first row that differs, 11 where the rows
+ * agree and a ceiling differs, else 0. It is proved to answer 0: 11 tells of a floating-point environment in which choice 2 must not be
+ * used, any other answer of a machine or a build that does not run the proved code. */
+DAUNSREVIT_ANSWERS uint32_t daunsrevit_self_test(void);
 
 #ifdef __cplusplus
 }

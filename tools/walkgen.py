@@ -49,7 +49,7 @@ NO_REPORT = 'Report { number: 0, end: 0, passes: 0, first: 0, last: 0, loads: Lo
 CONF = {
   'fiduccia_mattheyses': dict(
       own=['put_move', 'move_at', 'clear'],
-      leaves={'put_move': '', 'move_at': 'Move { vertex: 0, part: 0 }', 'clear': '', 'narrow': '0', 'first_standing': 'Standing { loads, cut: 0, least: 0, kept: 0, bad: 0 }', 'pass_answer': 'Passed { made, kept, cut: 0, loads }', 'unfit_settings': 'false', 'too_short': 'false', 'number_of': '0'},
+      leaves={'put_move': '', 'move_at': 'Move { vertex: 0, part: 0 }', 'clear': '', 'narrow': '0', 'first_standing': 'Standing { loads, cut: 0, least: 0, kept: 0, bad: 0 }', 'pass_answer': 'Passed { made, kept, cut: 0, loads }', 'undo_move': 'loads', 'put_row': 'passes', 'course_of': 'Course::GoesOn', 'finish': 'Report { number: 0, end: 0, passes: 0, first: 0, last: 0, loads: Loads { at: [0; 16] } }', 'unfit_settings': 'false', 'too_short': 'false', 'number_of': '0', 'call_number': '0'},
       walked=['walk_moves', 'rewind', 'pass', 'make_passes', 'refine', 'fiduccia_mattheyses'], home={'Move': 'fiduccia_mattheyses'},
       real=['lists', 'imbalance', 'topology', 'fiduccia_mattheyses_pass']),
   'fiduccia_mattheyses_moves': dict(

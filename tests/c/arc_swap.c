@@ -1,5 +1,5 @@
-/* Arc-swap: the eight-block grid's row 10 of document 01, stacks that are too short, the ceiling, sixteen parts, no vertices, every
- * refusal, and what is left in each lent list and in the run record. */
+/* Arc-swap: the eight-block grid's row 10 of document 01, stacks that are too short, what may be done after one, the ceiling, sixteen
+ * parts, no vertices, every refusal, and what is left in each lent list and in the run record. */
 #include "check.h"
 
 #define STACK 64
@@ -137,6 +137,74 @@ static void short_stacks(void)
     DONE(together, DAUNSREVIT_GAINLESS, 1, 0, 0, 0, 0, 0, 0);
 }
 
+/* Five vertices in three parts, of loads 6, 1 and 3: the ceiling by e = 0.5 is 5, as the total 10 over three parts gives 5. */
+static void on_five(size_t stack_count)
+{
+    static const uint32_t starts[6] = {0, 2, 4, 5, 6, 10}, neighbours[10] = {1, 4, 0, 4, 4, 4, 0, 1, 2, 3};
+    static const uint32_t arc_weights[10] = {1, 1, 1, 2, 3, 1, 1, 2, 3, 1}, weights[5] = {3, 1, 3, 2, 1}, labels[5] = {2, 0, 0, 0, 1};
+    paint(&c.l);
+    memcpy(c.l.starts, starts, sizeof starts);
+    memcpy(c.l.neighbours, neighbours, sizeof neighbours);
+    memcpy(c.l.arc_weights, arc_weights, sizeof arc_weights);
+    memcpy(c.l.weights, weights, sizeof weights);
+    memcpy(c.l.labels, labels, sizeof labels);
+    set_counts(&c.l, 5, 10);
+    set_up(stack_count);
+    c.s.imbalance = 0.5;
+}
+
+/* The same call once more, on the labels as they stand now, with a longer stack. */
+static void lend_more(void)
+{
+    memset(c.stack, 0xa5, sizeof c.stack);
+    memset(&c.run, 0xa5, sizeof c.run);
+    c.stack_count = STACK;
+}
+
+/* A stack of one place ends the run with 2 after one move, which empties part 2. */
+static void after_end_2(void)
+{
+    const uint32_t kept[5] = {2, 0, 0, 0, 1}, reached[5] = {1, 0, 0, 0, 1};
+
+    /* Not safe: with choice 2 the second call finds two parts, and its ceiling is 7. Part 0, which began at 6 under a ceiling of 5,
+     * ends at 7. */
+    const uint32_t too_heavy[5] = {1, 0, 0, 0, 0};
+    on_five(1);
+    CHECK(loads_of(&c.l).loads.at[0] == 6);
+    DONE(reached, DAUNSREVIT_STACK_FULL, 1, 8, 7, 1, 1, 0, 0);
+    lend_more();
+    DONE(too_heavy, DAUNSREVIT_GAINLESS, 2, 7, 2, 9, 3, 4, 2);
+    CHECK(loads_of(&c.l).loads.at[0] == 7);
+
+    /* Safe: the call again from the labels as they were before it. */
+    const uint32_t within[5] = {1, 1, 0, 0, 1};
+    on_five(1);
+    DONE(reached, DAUNSREVIT_STACK_FULL, 1, 8, 7, 1, 1, 0, 0);
+    lend_more();
+    memcpy(c.l.labels, kept, sizeof kept);
+    DONE(within, DAUNSREVIT_GAINLESS, 2, 8, 4, 10, 2, 0, 8);
+    CHECK(loads_of(&c.l).loads.at[0] == 5);
+
+    /* Safe: on from the labels reached, with a whole ceiling, which is the same in both calls. */
+    on_five(1);
+    c.s.choice = DAUNSREVIT_WHOLE;
+    c.s.whole = 5;
+    DONE(reached, DAUNSREVIT_STACK_FULL, 1, 8, 7, 1, 1, 0, 0);
+    lend_more();
+    DONE(within, DAUNSREVIT_GAINLESS, 2, 7, 4, 9, 1, 1, 7);
+    CHECK(loads_of(&c.l).loads.at[0] == 5);
+
+    /* Safe: on from the labels reached, with the carried ceiling. No load is above 6 after the first call, so the second ceiling is
+     * not above 6 either. */
+    const uint32_t carried[5] = {1, 1, 0, 0, 0};
+    on_five(1);
+    c.s.choice = DAUNSREVIT_CARRIED;
+    DONE(reached, DAUNSREVIT_STACK_FULL, 1, 8, 7, 1, 1, 0, 0);
+    lend_more();
+    DONE(carried, DAUNSREVIT_GAINLESS, 2, 7, 3, 8, 2, 4, 2);
+    CHECK(loads_of(&c.l).loads.at[0] == 6);
+}
+
 /* Every block on a board of its own, of sixteen: each pair across joins the higher board, where two find room. */
 static void sixteen_parts(void)
 {
@@ -210,6 +278,7 @@ int main(void)
 {
     grid();
     short_stacks();
+    after_end_2();
     sixteen_parts();
     no_vertices();
     no_stack();

@@ -33,7 +33,7 @@ use Rattle.arc_swap.specs.Inner.{settingBy, nobody, at, TurnAsked, Passe
 use Rattle.arc_swap.proofs.Parts.{parts-named, parts-few}
 use Rattle.arc_swap.proofs.Lights.{cut-light}
 
--- "0 only if none does"
+-- what number 0 gives to the run; that it is given exactly where every rule is kept is in Refusals.antt
 pub in-order : (p : Plan) (labels : List ℕ) (r : ℕ) → r ≡ number p labels → r ≡ 0 → InOrder p labels
 unfolding number
 in-order p labels r e z =

@@ -16,3 +16,5 @@ pub mod Lasts
 pub mod Promised
 pub mod RunRecordTy
 pub mod walk
+pub mod Refusals
+pub mod Unused

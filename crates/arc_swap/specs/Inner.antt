@@ -126,7 +126,7 @@ pub record PassesDone (s : Setting) (labels labels′ stack′ : List ℕ) (coun
   pub leads : (hs : List ℤ) × (run s (cut (s .graph) labels + 1) 0 (at labels [] noCounts [] false) ≡ record { end = r .end; passes = r .passes; state = at labels′ (held stack′ (r .st .top)) counts′ hs (not (r .st .fits)) })
   pub stood : Stood (s .graph) (s .weights) labels′ (r .st .cut) (r .st .loads .at)
 
--- What the run of a call asks: no number applies.
+-- What the run of a call asks, once no number applies. The rules themselves are `rules` of Rules.antt.
 pub record InOrder (p : Plan) (labels : List ℕ) : Type 0 where
   pub sound : Sound (length labels) (p .weights) (graphOf p)
   pub named : labelAbove 15 labels ≡ false

@@ -3,3 +3,5 @@ pub mod Run
 pub mod Entry
 pub mod Inner
 pub mod Demand
+pub mod Rules
+pub mod Used

@@ -2,28 +2,31 @@
 use mathlib.Core.Path.{_≡_, refl, ap, ap₂, subst, _∙_}
 use mathlib.Core.Bool.{Bool, true, false, _&&_}
 use mathlib.Core.List.{List, [], _∷_}
-use Prim.Native.Nat.{ℕ, _<_}
+use Prim.Native.Nat.{ℕ, _≤_, _<_}
 use native.Mathlib.Omega.{arith}
 use lib.IntN.{ℤ}
-use lib.Dec.{ltb}
+use lib.Dec.{T, ltb}
 use lib.ListN.{getD, List·getD-eq-default}
 use borrow.Author.Tests.{ltb-true, ltb-false}
-use Rattle.lists.specs.All.{some}
+use Rattle.lists.specs.Sum.{sum, total}
+use Rattle.lists.specs.All.{all, allFrom, some, someFrom}
 use Rattle.lists.specs.Fill.{written, table}
-use Rattle.imbalance.specs.Limit.{labelAbove}
-use Rattle.imbalance.specs.Load.{part}
+use Rattle.imbalance.specs.Limit.{heavy, labelAbove}
+use Rattle.imbalance.specs.Load.{part, load}
 use Rattle.imbalance.proofs.Limits.{label-most}
-use Rattle.topology.specs.Rule.{Rows}
+use Rattle.topology.specs.Rule.{misfit, oversize, startsOk, arcOk, rowsOk, hasArc, answered, rowsNumber, graphNumber, Rows}
 use Rattle.topology.proofs.Numbers as Numbers
 use Rattle.fiduccia_mattheyses_pass.specs.Standing.{freshGains}
 use Rattle.eight_block_grid.proofs.Cuts as Cuts
 use Rattle.eight_block_grid.specs.TenRows.{gainsInA, eightGains}
-use lib.Ieee.{Float, binary64, ofBits}
+use lib.Ieee.{Float, binary64, ofBits, le}
+use Rattle.imbalance.specs.Ceiling.{zero64, legalE, unfitChoice, ceilingOf}
 use Rattle.imbalance.specs.Number.{loadsAnswer}
 use Rattle.imbalance.specs.declared.LoadsAnswer.{LoadsAnswer}
 use Rattle.topology.specs.Number.{edgeCutAnswer, lambdaCutAnswer}
 use Rattle.topology.specs.declared.CutAnswer.{CutAnswer}
 use Rattle.topology.specs.EightBlockGrid.{grid, ones, A}
+use Rattle.fiduccia_mattheyses.specs.Run.{run}
 use Rattle.fiduccia_mattheyses.specs.Entry as FM
 use Rattle.fiduccia_mattheyses.specs.declared.Report as FMReport
 use Rattle.fiduccia_mattheyses_moves.specs.Own.{Lists, RefinedWith}
@@ -31,8 +34,8 @@ use Rattle.kernighan_lin.specs.Entry as KL
 use Rattle.kernighan_lin.specs.declared.Report as KLReport
 use Rattle.arc_swap.specs.Entry as Swap
 use Rattle.arc_swap.specs.declared.Report as SwapReport
-use Rattle.eight_block_grid.specs.Inputs.{noGains, quarter, fmPlan, fmLists, klPlan, klLent, swapPlan, swapLent}
-use Rattle.eight_block_grid.specs.SelfTest.{same, sameGains, row3, cutsSeen, loadsSeen, klSeen, swapSeen, cutsGive, loadsGive, fmGives, klGives, swapGives}
+use Rattle.eight_block_grid.specs.Inputs.{zeros, noGains, quarter, fmPlan, fmLists, klPlan, klLent, swapPlan, swapLent, totalsPlan, totalsLists}
+use Rattle.eight_block_grid.specs.SelfTest.{same, sameGains, row3, cutsSeen, loadsSeen, klSeen, swapSeen, sixTenths, twoTwentyEight, two, ceilingsSeen, totals, rounds, cutsGive, loadsGive, fmGives, klGives, swapGives}
 
 -- 0.25, as the code has it
 pub quarter-is : ofBits binary64 0x3fd0_0000_0000_0000 ≡ quarter
@@ -67,6 +70,35 @@ pub loads-give : (numbers : List ℕ) (r : LoadsAnswer) (b : Bool) → r ≡ loa
 unfolding loadsGive
 loads-give numbers r b e s = s ∙ ap (λ (x : LoadsAnswer). same (loadsSeen x) numbers) e
 
+-- the totals are 5 and 75
+pub totals-are : totals .loads .at ≡ 5 ∷ 75 ∷ zeros 14
+unfolding FM.answer FM.reportOf FM.numberOf FM.unfit FM.short unfitChoice labelAbove graphNumber rowsNumber misfit oversize rowsOk startsOk arcOk hasArc answered heavy all allFrom some someFrom run load sum table total
+totals-are = refl
+
+-- 0.0, as the code has it
+pub zero-is : ofBits binary64 0 ≡ zero64
+unfolding ofBits
+zero-is = refl
+
+-- what the call answers
+pub totals-called : (e : Float) (r : FMReport.Report) (k : Lists) → e ≡ zero64 → RefinedWith 8 (totalsPlan e) totalsLists r k → r ≡ totals
+totals-called e r k q h = subst (λ (z : Float). RefinedWith 8 (totalsPlan z) totalsLists r k) q h .answered
+
+-- each total is within its limit, and each e is legal
+pub ceiling-asked : (r : FMReport.Report) → r ≡ totals → (getD (r .loads .at) 0 0 ≤ 2147483647) × (getD (r .loads .at) 1 0 ≤ 2147483647)
+ceiling-asked r e = rw (e, totals-are) (omega arith)
+
+pub legal-imbalances : T (legalE sixTenths) × T (legalE twoTwentyEight) × T (legalE two)
+unfolding legalE le ofBits
+legal-imbalances = (tt, tt, tt)
+
+pub rounded : (r : FMReport.Report) (x y z : ℕ) (b : Bool) → r ≡ totals →
+    x ≡ ceilingOf (getD (r .loads .at) 0 0) 2 sixTenths → y ≡ ceilingOf (getD (r .loads .at) 1 0) 2 twoTwentyEight → z ≡ ceilingOf (getD (r .loads .at) 0 0) 3 two →
+    b ≡ same (x ∷ y ∷ z ∷ []) (4 ∷ 122 ∷ 5 ∷ []) → b ≡ rounds
+unfolding rounds
+rounded r x y z b e p q s t =
+    t ∙ ap (λ (ns : List ℕ). same ns (4 ∷ 122 ∷ 5 ∷ [])) ((λ i. p i ∷ q i ∷ s i ∷ []) ∙ ap ceilingsSeen e)
+
 -- FM's plan with the imbalance e
 abbrev fmPlanBy : ℕ → ℕ → Float → FM.Plan
 fmPlanBy choice bad e =
@@ -81,7 +113,7 @@ fmPlanBy choice bad e =
 pub fm-gives : (choice bad : ℕ) (labels numbers : List ℕ) (e : Float) (r : FMReport.Report) (k : Lists) (m₀ r₀ m₁ r₁ : ℕ) (x y b : Bool) →
     e ≡ quarter → RefinedWith 8 (fmPlanBy choice bad e) fmLists r k →
     m₀ ≡ getD (k .made) 0 0 → r₀ ≡ getD (k .rewound) 0 0 → m₁ ≡ getD (k .made) 1 0 → r₁ ≡ getD (k .rewound) 1 0 →
-    x ≡ same (k .labels) labels → y ≡ same (r .number ∷ r .end ∷ r .passes ∷ r .first ∷ r .last ∷ m₀ ∷ r₀ ∷ m₁ ∷ r₁ ∷ []) numbers →
+    x ≡ same (k .labels) labels → y ≡ same (r .number ∷ r .end ∷ r .passes ∷ r .first ∷ r .last ∷ getD (r .loads .at) 0 0 ∷ getD (r .loads .at) 1 0 ∷ m₀ ∷ r₀ ∷ m₁ ∷ r₁ ∷ []) numbers →
     b ≡ (x && y) → b ≡ fmGives choice bad labels numbers
 unfolding fmGives
 fm-gives choice bad labels numbers e r k m₀ r₀ m₁ r₁ x y b q h a₀ b₀ a₁ b₁ s t j =
@@ -91,6 +123,7 @@ fm-gives choice bad labels numbers e r k m₀ r₀ m₁ r₁ x y b q h a₀ b₀
     (s ∙ ap (λ (ls : List ℕ). same ls labels) (g .labels))
     (t ∙ ap (λ (ns : List ℕ). same ns numbers)
     (λ i. g .answered i .number ∷ g .answered i .end ∷ g .answered i .passes ∷ g .answered i .first ∷ g .answered i .last
+    ∷ getD (g .answered i .loads .at) 0 0 ∷ getD (g .answered i .loads .at) 1 0
     ∷ (a₀ ∙ ap (λ (ms : List ℕ). getD ms 0 0) (g .made)) i ∷ (b₀ ∙ ap (λ (ms : List ℕ). getD ms 0 0) (g .rewound)) i
     ∷ (a₁ ∙ ap (λ (ms : List ℕ). getD ms 1 0) (g .made)) i ∷ (b₁ ∙ ap (λ (ms : List ℕ). getD ms 1 0) (g .rewound)) i ∷ []))
 
@@ -126,4 +159,5 @@ swap-gives labels numbers e r k x y b q h s t j =
     (s ∙ ap (λ (ls : List ℕ). same ls labels) (g .labels))
     (t ∙ ap (λ (ns : List ℕ). same ns numbers)
     (λ i. g .answered i .number ∷ g .answered i .end ∷ g .answered i .passes ∷ g .answered i .first ∷ g .answered i .last
+    ∷ getD (g .answered i .loads .at) 0 0 ∷ getD (g .answered i .loads .at) 1 0
     ∷ g .run i .attempts ∷ g .run i .moves ∷ g .run i .«no_gain» ∷ g .run i .«bad_balance» ∷ []))

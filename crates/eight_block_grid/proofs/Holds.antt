@@ -1,11 +1,13 @@
--- No row differs: each comparison holds, by the ten rows. Assumes nothing.
+-- Nothing differs: each comparison holds, by the ten rows and by working the three ceilings out. Assumes nothing.
 use mathlib.Core.Path.{_≡_, refl, sym, ap, ap₂, _∙_}
 use mathlib.Core.Bool.{Bool, true, false, true≢false, not, _&&_}
 use mathlib.Core.List.{List}
 use Prim.Native.Nat.{ℕ}
 use lib.IntN.{ℤ}
 use borrow.Author.Tests.{not-true}
+use lib.Ieee.{add, div, ofInt, mul, ofBits}
 use Rattle.lists.specs.All.{all}
+use Rattle.imbalance.specs.Ceiling.{ceilingOf, limitOf}
 use Rattle.imbalance.specs.Number.{loadsAnswer}
 use Rattle.imbalance.specs.declared.LoadsAnswer.{LoadsAnswer}
 use Rattle.topology.specs.Number.{edgeCutAnswer, lambdaCutAnswer}
@@ -19,7 +21,8 @@ use Rattle.arc_swap.specs.Entry as Swap
 use Rattle.arc_swap.specs.declared.Report as SwapReport
 use Rattle.eight_block_grid.specs.Inputs.{fmPlan, fmLent, klPlan, klLent, swapPlan, swapLent}
 use Rattle.eight_block_grid.specs.TenRows.{TenRows, eightGains}
-use Rattle.eight_block_grid.specs.SelfTest.{alike, same, sameGains, cutsSeen, loadsSeen, fmSeen, klSeen, swapSeen, cutsGive, loadsGive, fmGives, klGives, swapGives, row1, row2, row3, row4, row5, row6, row7, row8, row9, row10, firstDiffering}
+use Rattle.eight_block_grid.specs.SelfTest.{alike, same, sameGains, cutsSeen, loadsSeen, fmSeen, klSeen, swapSeen, cutsGive, loadsGive, fmGives, klGives, swapGives, row1, row2, row3, row4, row5, row6, row7, row8, row9, row10, rounds, firstDiffering}
+use Rattle.eight_block_grid.proofs.Gives.{totals-are}
 
 cuts-hold : (labels numbers : List ℕ) (x y : CutAnswer) → edgeCutAnswer grid labels ≡ x → lambdaCutAnswer grid ones labels ≡ y → same (cutsSeen x y) numbers ≡ true → cutsGive labels numbers ≡ true
 unfolding cutsGive
@@ -41,6 +44,11 @@ swap-holds : (labels numbers : List ℕ) (r : SwapReport.Report) (k : Swap.Lent)
 unfolding swapGives
 swap-holds labels numbers r k e l h = ap₂ (λ (u : SwapReport.Report) (v : Swap.Lent). same (v .labels) labels && same (swapSeen u v) numbers) e l ∙ h
 
+-- the three ceilings, worked out
+pub rounds-hold : rounds ≡ true
+unfolding rounds alike all ceilingOf limitOf add div ofInt mul ofBits
+rounds-hold = rw totals-are refl
+
 module _ (t : TenRows) where
   pub holds-1 : row1 ≡ true
   unfolding alike all
@@ -56,7 +64,7 @@ module _ (t : TenRows) where
 
   pub holds-4 : row4 ≡ true
   unfolding alike all
-  holds-4 = fm-holds _ _ _ _ _ _ (t .row-4 .0) (t .row-4 .1) refl
+  holds-4 = fm-holds _ _ _ _ _ _ (t .row-4 .1) (t .row-4 .2) refl
 
   pub holds-5 : row5 ≡ true
   unfolding alike all
@@ -85,7 +93,7 @@ module _ (t : TenRows) where
   -- "These ten are proved together": so none differs
   pub none-differs : firstDiffering ≡ 0
   unfolding firstDiffering
-  none-differs = rw (holds-1, holds-2, holds-3, holds-4, holds-5, holds-6, holds-7, holds-8, holds-9, holds-10) refl
+  none-differs = rw (holds-1, holds-2, holds-3, holds-4, holds-5, holds-6, holds-7, holds-8, holds-9, holds-10, rounds-hold) refl
 
 -- a row that holds was not found to differ
 pub not-so : {P : Type 0} {q row : Bool} → row ≡ true → q ≡ row → not q ≡ true → P

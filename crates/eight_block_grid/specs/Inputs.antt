@@ -1,6 +1,6 @@
 -- What the rows of the eight-block grid are run on, and the lists as the self-test lends them (document 01, "The eight-block grid").
 use mathlib.Core.Bool.{false}
-use mathlib.Core.List.{List}
+use mathlib.Core.List.{List, _∷_}
 use Prim.Native.Nat.{ℕ}
 use lib.IntN.{ℤ, pos, negsuc}
 use lib.ListN.{replicate}
@@ -39,6 +39,20 @@ fmLists = record { labels = A; gains = noGains 8; made = zeros 64; rewound = zer
 
 abbrev pub fmLent : FM.Lent
 fmLent = lentWith 8 fmLists
+
+-- Two totals as the loads of two parts: block 0 weighs 5, block 1 75 and no other anything, and no pass is allowed
+abbrev pub totalsPlan : Float → FM.Plan
+totalsPlan e =
+    record {
+      starts = grid .starts;
+      neighbours = grid .neighbours;
+      arcs = grid .weights;
+      weights = 5 ∷ 75 ∷ zeros 6;
+      settings = record { passes = 0; moves = 0; bad = 0; choice = 0; whole = 0; imbalance = e };
+    }
+
+abbrev pub totalsLists : Lists
+totalsLists = record { labels = 0 ∷ 1 ∷ zeros 6; gains = noGains 8; made = zeros 1; rewound = zeros 1 }
 
 -- KL: "P 1", by the swap limit and the bad limit
 abbrev pub klPlan : ℕ → ℕ → KL.Plan

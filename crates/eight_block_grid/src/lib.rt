@@ -1,8 +1,8 @@
-// The eight-block grid as constant tables, and the self-test over its ten rows. Document 01, "The eight-block grid".
+// The eight-block grid as constant tables, and the self-test over its ten rows and three ceilings. Document 01, "The eight-block grid" and "Ceiling".
 ghost use mathlib.Core.Path.{_≡_};
 ghost use mathlib.Core.Bool.{_&&_};
 ghost use lib.Signed.{leZ};
-ghost use Rattle.eight_block_grid.specs.SelfTest.{same, equalGains, sameGains, cutsGive, loadsGive, fmGives, klGives, swapGives, row1, row2, row3, row4, row5, row6, row7, row8, row9, row10, Tested};
+ghost use Rattle.eight_block_grid.specs.SelfTest.{same, equalGains, sameGains, cutsGive, loadsGive, fmGives, klGives, swapGives, row1, row2, row3, row4, row5, row6, row7, row8, row9, row10, rounds, Tested};
 
 // 0-1-2-3, 4-5-6-7, 0-4, 1-5, 2-6, 3-7, weights 1.
 const STARTS: [u32; 9] = [0, 2, 5, 8, 10, 12, 15, 18, 20];
@@ -30,12 +30,12 @@ const CUTS_OF_B: [u64; 4] = [0, 2, 0, 4];
 
 const LOADS_OF_A: [u64; 3] = [0, 4, 4];
 
-// Of FM: number, end, passes, first and last cut; then the moves made and rewound of the first pass, and of the second.
-const NUMBERS_4: [u64; 9] = [0, 1, 2, 6, 2, 2, 0, 0, 0];
+// Of FM: number, end, passes, first and last cut, two loads; then the moves made and rewound of the first pass, and of the second.
+const NUMBERS_4: [u64; 11] = [0, 1, 2, 6, 2, 4, 4, 2, 0, 0, 0];
 
-const NUMBERS_5: [u64; 9] = [0, 1, 2, 6, 2, 3, 1, 1, 1];
+const NUMBERS_5: [u64; 11] = [0, 1, 2, 6, 2, 4, 4, 3, 1, 1, 1];
 
-const NUMBERS_6: [u64; 9] = [0, 1, 1, 6, 6, 0, 0, 0, 0];
+const NUMBERS_6: [u64; 11] = [0, 1, 1, 6, 6, 4, 4, 0, 0, 0, 0];
 
 // Of KL: number, end, passes, first and last cut.
 const NUMBERS_7: [u64; 5] = [0, 0, 1, 6, 2];
@@ -44,8 +44,15 @@ const NUMBERS_8: [u64; 5] = [0, 1, 1, 2, 4];
 
 const NUMBERS_9: [u64; 5] = [0, 1, 1, 2, 2];
 
-// Of arc-swap: number, end, passes, first and last cut; then attempts, moves, no-gain and bad-balance.
-const NUMBERS_10: [u64; 9] = [0, 1, 2, 6, 2, 12, 4, 7, 1];
+// Of arc-swap: number, end, passes, first and last cut, two loads; then attempts, moves, no-gain and bad-balance.
+const NUMBERS_10: [u64; 11] = [0, 1, 2, 6, 2, 4, 4, 12, 4, 7, 1];
+
+// Two totals, as the weights of a block in each of two parts, and three ceilings.
+const TOTALS: [u32; 8] = [5, 75, 0, 0, 0, 0, 0, 0];
+
+const TWO_PARTS: [u32; 8] = [0, 1, 0, 0, 0, 0, 0, 0];
+
+const CEILINGS: [u64; 3] = [4, 122, 5];
 
 // Whether two lists of labels are the same.
 fn same_labels(xs: &[u32], ys: &[u32]) -> bool
@@ -172,12 +179,15 @@ fn fm_gives(choice: u32, bad: u32, labels: &[u32], numbers: &[u64]) -> bool
         &mut rewound,
         s,
     );
+    let loads = r.loads;
     let seen = [
         r.number as u64,
         r.end as u64,
         r.passes as u64,
         r.first,
         r.last,
+        loads.at[0],
+        loads.at[1],
         lists::wide(made[0]),
         lists::wide(rewound[0]),
         lists::wide(made[1]),
@@ -241,12 +251,15 @@ fn swap_gives(labels: &[u32], numbers: &[u64]) -> bool
     );
     let r = answered.report;
     let run = answered.run;
+    let loads = r.loads;
     let seen = [
         r.number as u64,
         r.end as u64,
         r.passes as u64,
         r.first,
         r.last,
+        loads.at[0],
+        loads.at[1],
         run.attempts,
         run.moves,
         run.no_gain,
@@ -327,7 +340,43 @@ fn row_10() -> bool
     swap_gives(&B, &NUMBERS_10)
 }
 
-// The number of the first row that differs, else 0.
+// Whether the processor rounds as the ceilings ask. The totals are loads that FM answers without a pass, so that no compiler knows them and the ceilings are worked out when this runs.
+fn rounds_well() -> bool
+    ensures { λ r. ⌜ r ≡ rounds ⌝ }
+{
+    let mut labels = TWO_PARTS;
+    let mut gains: [i64; 8] = [0; 8];
+    let mut made: [u32; 1] = [0; 1];
+    let mut rewound: [u32; 1] = [0; 1];
+    let s = fiduccia_mattheyses::Settings {
+        passes: 0,
+        moves: 0,
+        bad: 0,
+        choice: 0,
+        whole: 0,
+        imbalance: 0.0,
+    };
+    let r = fiduccia_mattheyses_moves::with_8_moves(
+        &STARTS,
+        &NEIGHBOURS,
+        &ARC_WEIGHTS,
+        &TOTALS,
+        &mut labels,
+        &mut gains,
+        &mut made,
+        &mut rewound,
+        s,
+    );
+    let loads = r.loads;
+    let seen = [
+        imbalance::ceiling_by(loads.at[0], 2, 0.6),
+        imbalance::ceiling_by(loads.at[1], 2, 2.28),
+        imbalance::ceiling_by(loads.at[0], 3, 2.0),
+    ];
+    same_numbers(&seen, &CEILINGS)
+}
+
+// The number of the first row that differs, 11 where the processor rounds otherwise, else 0.
 pub fn self_test() -> u32
     ensures { λ r. ⌜ Tested r ⌝ }
 {
@@ -360,6 +409,9 @@ pub fn self_test() -> u32
     }
     if !row_10() {
         return 10;
+    }
+    if !rounds_well() {
+        return 11;
     }
     0
 }

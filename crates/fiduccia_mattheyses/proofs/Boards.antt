@@ -1,6 +1,6 @@
 -- Demand 3, last sentence: no board ends above the larger of the ceiling and its starting load. Assumes nothing.
 use mathlib.Core.Path.{_≡_, refl, ap}
-use mathlib.Core.Bool.{Bool, true, false, cond, not, _&&_}
+use mathlib.Core.Bool.{Bool, true, false, cond}
 use mathlib.Core.List.{List}
 use mathlib.Core.Option.{some}
 use Prim.Native.Nat.{ℕ, zero, suc, _+_, max, _≤_, _<_}
@@ -9,13 +9,12 @@ use lib.Dec.{ltb, eqb}
 use lib.ListN.{length, getD}
 use borrow.Author.Tests.{leb-true, eqb-true}
 use Rattle.lists.specs.Sum.{weigh}
-use Rattle.lists.proofs.Bests.{best-in}
-use Rattle.lists.proofs.Bools.{and-right}
 use Rattle.imbalance.specs.Load.{part, load}
 use Rattle.topology.specs.Cut.{cut}
 use Rattle.topology.proofs.Moves.{load-move}
-use Rattle.fiduccia_mattheyses_pass.specs.Choice.{Setting, other, flip, member, after, fits, allowed, better, choice}
+use Rattle.fiduccia_mattheyses_pass.specs.Choice.{Setting, other, flip, after, fits, choice}
 use Rattle.fiduccia_mattheyses_pass.specs.Pass.{State, start, moveOn, flips, pass}
+use Rattle.fiduccia_mattheyses_pass.proofs.Chosen.{allowed-is, chosen}
 use Rattle.fiduccia_mattheyses_pass.proofs.Keeps.{Keeps, keeps-start, keeps-move, walk-keeps}
 use Rattle.fiduccia_mattheyses.specs.Run.{Run, run}
 use Rattle.fiduccia_mattheyses.specs.Demand.{NoBoardAbove}
@@ -38,13 +37,6 @@ fitting s p v t l f = go (eqb (other (part p v)) t) refl
         omega arith
     go false e = let m : load (s .weights) (flip p v) t + weigh (eqb (part p v) t) (getD (s .weights) v 0) ≡ load (s .weights) p t + 0 = rw e at moved in omega arith
 
--- what is chosen is a vertex, and fits
-choice-fits : (s : Setting) (p moved : List ℕ) (v : ℕ) → choice s p moved ≡ some v → (v < length p) × (fits s p v ≡ true)
-unfolding choice allowed
-choice-fits s p moved v c =
-    let i = best-in (allowed s p moved) (better s p) (length p) v c in
-    (i .0, and-right (s .movable v && not (member v moved)) (fits s p v) (i .1))
-
 module _ (s : Setting) (p : List ℕ) where
   -- labels whose loads are within the larger of the ceiling and the loads of p
   abbrev Within : List ℕ → Type 0
@@ -65,8 +57,8 @@ module _ (s : Setting) (p : List ℕ) where
     where
       here : Within (flip (st .labels) v)
       here t lt =
-          let i = choice-fits s (st .labels) (st .moved) v c in
-          let a = fitting s (st .labels) v t (i .0) (i .1) in
+          let i = chosen s (st .labels) (st .moved) v .0 c in
+          let a = fitting s (st .labels) v t (i .here) (allowed-is s (st .labels) (st .moved) v (i .may) .2) in
           let b = h .now t lt in
           omega arith
 

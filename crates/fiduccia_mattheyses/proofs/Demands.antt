@@ -4,19 +4,24 @@ use mathlib.Core.Bool.{Bool, true, false}
 use mathlib.Core.List.{List, [], _∷_}
 use Prim.Native.Nat.{ℕ, zero, suc, _<_}
 use native.Mathlib.Omega.{arith}
-use lib.Dec.{ltb, eqb}
-use lib.ListN.{length}
-use borrow.Author.Tests.{eqb-true, eqb-false}
+use lib.Dec.{ltb}
+use lib.ListN.{length, getD, length-map}
+use Rattle.lists.specs.Sum.{sum, total}
+use Rattle.lists.proofs.Sums.{sum-none}
+use Rattle.lists.proofs.Totals.{sum-ext, sum-most}
 use Rattle.topology.specs.Cut.{cut}
 use Rattle.fiduccia_mattheyses_pass.specs.Choice.{Setting}
-use Rattle.fiduccia_mattheyses_pass.specs.Pass.{pass}
+use Rattle.fiduccia_mattheyses_pass.specs.Pass.{Pass, pass}
 use Rattle.fiduccia_mattheyses.specs.declared.Report.{Report}
 use Rattle.fiduccia_mattheyses.specs.Run.{Run, run}
-use Rattle.fiduccia_mattheyses.specs.Entry.{Plan, Lent, number, settingOf, runOf, refused, empty, reportOf, leftBy, answer, left, Refined}
-use Rattle.fiduccia_mattheyses.specs.Demand.{NoSingleBlock, DemandThree}
-use Rattle.fiduccia_mattheyses.proofs.Running.{run-last, run-more}
-use Rattle.fiduccia_mattheyses.proofs.Entering.{ready}
+use Rattle.fiduccia_mattheyses.specs.Entry.{Plan, Lent, graphOf, settingOf, runOf, reportOf, leftBy, Refined}
+use Rattle.fiduccia_mattheyses.specs.Demand.{EarliestOfLeast, states, NoSingleBlock, DemandThree}
+use Rattle.fiduccia_mattheyses.proofs.Running.{mades, run-last, run-more}
+use Rattle.fiduccia_mattheyses.proofs.Results.{Done, two-ways, no-vertices, ran, passes-are, made-at}
+use Rattle.fiduccia_mattheyses.proofs.Earliest.{earliest-is}
 use Rattle.fiduccia_mattheyses.proofs.Least.{leaves-the-least}
+use Rattle.fiduccia_mattheyses.proofs.States.{states-counted}
+use Rattle.fiduccia_mattheyses.proofs.Counts.{rows-counted, counted-at}
 use Rattle.fiduccia_mattheyses.proofs.Single.{pass-long, no-single-block}
 use Rattle.fiduccia_mattheyses.proofs.Boards.{no-board-above}
 
@@ -37,38 +42,47 @@ none-same (x ∷ xs) ys a b = absurd (omega (arith, a))
 module _ (p : Plan) (l : Lent) (r : Report) (k : Lent) (f : Refined p l r k) (z : r .number ≡ 0) where
   -- the labels are those of the run, for no vertices too
   labels-are : k .labels ≡ runOf p l .labels
-  unfolding answer left leftBy
-  labels-are = f .labels ∙ go (eqb (length (l .labels)) 0) refl (eqb (number p l) 0) refl
+  unfolding leftBy
+  labels-are = go (two-ways p l r k f z)
     where
-      go : (b : Bool) → eqb (length (l .labels)) 0 ≡ b → (c : Bool) → eqb (number p l) 0 ≡ c → left p l .labels ≡ runOf p l .labels
-      go true e c q =
-          let n : length (l .labels) ≡ 0 = eqb-true (length (l .labels)) 0 e in
-          rw e (none-same (l .labels) (runOf p l .labels) n (run-long (settingOf p l) (p .settings .passes) (l .labels) ∙ n))
-      go false e true q = rw (e, q) refl
-      go false e false q =
-          let a : r ≡ refused (number p l) = f .answered ∙ rw (e, q) refl in
-          absurd (eqb-false (number p l) 0 q (sym (ap (λ (x : Report). x .number) a) ∙ z))
+      go : Done p l r k → k .labels ≡ runOf p l .labels
+      go (no-vertices n e q) = rw q (none-same (l .labels) (runOf p l .labels) n (run-long (settingOf p l) (p .settings .passes) (l .labels) ∙ n))
+      go (ran n a d) = d .labels
 
   single : r .end ≡ 1 → 0 < p .settings .moves → NoSingleBlock (settingOf p l) (runOf p l .labels)
-  unfolding answer reportOf
-  single one moves = go (eqb (length (l .labels)) 0) refl (eqb (number p l) 0) refl
+  unfolding reportOf
+  single one moves = go (two-ways p l r k f z)
     where
-      go : (b : Bool) → eqb (length (l .labels)) 0 ≡ b → (c : Bool) → eqb (number p l) 0 ≡ c → NoSingleBlock (settingOf p l) (runOf p l .labels)
-      go true e c q =
-          let a : r ≡ empty = f .answered ∙ rw e refl in
-          absurd (omega (arith, ap (λ (x : Report). x .end) a, one))
-      go false e true q =
-          let a : r ≡ reportOf p l = f .answered ∙ rw (e, q) refl in
-          no-single-block (settingOf p l) (p .settings .passes) (l .labels) (ready p l (number p l) refl (eqb-true (number p l) 0 q) .sound .symmetric) moves
-          (sym (ap (λ (x : Report). x .end) a) ∙ one)
-      go false e false q =
-          let a : r ≡ refused (number p l) = f .answered ∙ rw (e, q) refl in
-          absurd (eqb-false (number p l) 0 q (sym (ap (λ (x : Report). x .number) a) ∙ z))
+      go : Done p l r k → NoSingleBlock (settingOf p l) (runOf p l .labels)
+      go (no-vertices n e q) = absurd (omega (arith, ap (λ (x : Report). x .end) e, one))
+      go (ran n a d) =
+          no-single-block (settingOf p l) (p .settings .passes) (l .labels) (a .sound .symmetric) moves
+          (sym (ap (λ (x : Report). x .end) (d .answered)) ∙ one)
 
-  -- demand 3
+  -- Demand 3 holds of every result with number 0.
   pub demand-three : DemandThree p l r k
   demand-three = record {
     least = labels-are ∙ leaves-the-least (settingOf p l) (p .settings .passes) (l .labels);
     single = λ one moves. rw labels-are (single one moves);
     boards = rw labels-are (no-board-above (settingOf p l) (p .settings .passes) (l .labels));
   }
+
+  -- Its first sentence holds with no word of how the labels are found: they stand among the start and the states after each move made, none of these has a lower cut, and each before them has a higher one.
+  pub leaves-the-earliest-of-least : EarliestOfLeast (cut (graphOf p)) (l .labels ∷ states (settingOf p l) (p .settings .passes) (l .labels)) (k .labels)
+  leaves-the-earliest-of-least = earliest-is (cut (graphOf p)) (l .labels) (states (settingOf p l) (p .settings .passes) (l .labels)) (k .labels) .0 (demand-three .least)
+
+  -- No state is left out of these: they are as many as the moves made that the rows count.
+  pub no-state-left-out : length (states (settingOf p l) (p .settings .passes) (l .labels)) ≡ sum (r .passes) (λ i. getD (k .made) i 0)
+  unfolding total
+  no-state-left-out = states-counted (settingOf p l) (p .settings .passes) (l .labels) ∙ go (two-ways p l r k f z)
+    where
+      rows : List Pass
+      rows = runOf p l .rows
+
+      go : Done p l r k → total (mades (runOf p l .rows)) ≡ sum (r .passes) (λ i. getD (k .made) i 0)
+      go (no-vertices n e q) =
+          let few = sum-most (length (mades rows)) 0 (λ i. getD (mades rows) i 0) (λ i h. (let c = counted-at (length (l .labels)) rows (rows-counted (settingOf p l) (p .settings .passes) (l .labels)) i (let m = length-map rows (λ (x : Pass). x .made) in omega arith) .0 in omega arith)) in
+          rw (ap (λ (x : Report). x .passes) e) (omega (arith, sum-none (λ i. getD (k .made) i 0)))
+      go (ran n a d) =
+          rw (length-map rows (λ (x : Pass). x .made), ← passes-are p l r k d)
+          (sum-ext (r .passes) (λ i. getD (mades rows) i 0) (λ i. getD (k .made) i 0) (λ i h. sym (made-at p l r k d i h)))

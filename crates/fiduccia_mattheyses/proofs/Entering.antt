@@ -4,7 +4,7 @@ use mathlib.Core.Bool.{Bool, true, false, cond, _||_}
 use mathlib.Core.List.{List, [], _∷_, _++_, map}
 use Prim.Native.Nat.{ℕ, zero, suc, _+_, _-_, _≤_, _<_}
 use native.Mathlib.Omega.{arith}
-use lib.Dec.{ltb}
+use lib.Dec.{ltb, eqb}
 use lib.ListN.{length, getD, take, drop, length-append, length-drop, List·getD-eq-default}
 use lib.Seq.{ext-getD, getD-drop, drop-at}
 use lib.IntN.{ℤ, pos}
@@ -34,10 +34,17 @@ use Rattle.fiduccia_mattheyses.specs.Run.{Run, run}
 use Rattle.fiduccia_mattheyses.specs.Entry.{Plan, Lent, graphOf, unfit, short, roomOf, numberOf, number, settingOf, runOf, none, refused, empty, reportOf, over, leftBy, answer, left, Refined}
 use Rattle.fiduccia_mattheyses.specs.Inner.{settingBy, PassesAsked, PassesDone, Ready, Ran}
 
+-- ---- a call's number k is that of its checks m, unless there is no vertex
+pub checked : (n k m : ℕ) → k ≡ cond (eqb n 0) 0 m → (n ≡ 0 → ⊥) → k ≡ m
+checked n k m e s = e ∙ rw (ne-eqb n 0 s) refl
+
+refused-some : (n k m : ℕ) → k ≡ cond (eqb n 0) 0 m → (k ≡ 0 → ⊥) → n ≡ 0 → ⊥
+refused-some n k m e u z = u (e ∙ rw (eq-eqb n 0 z) refl)
+
 -- ---- what number 0 tells
-pub ready : (p : Plan) (l : Lent) (k : ℕ) → k ≡ number p l → k ≡ 0 → Ready p l
+pub ready : (p : Plan) (l : Lent) (k : ℕ) → (length (l .labels) ≡ 0 → ⊥) → k ≡ number p l → k ≡ 0 → Ready p l
 unfolding numberOf unfit short
-ready p l k e z =
+ready p l k s e z =
     let n = length (l .labels) in
     let q = p .settings .passes in
     let r = roomOf l in
@@ -50,6 +57,7 @@ ready p l k e z =
     let s1 = or-false (ltb (r .moves) n) (ltb (r .made) q || ltb (r .rewound) q) (s0 .1) in
     let s2 = or-false (ltb (r .made) q) (ltb (r .rewound) q) (s1 .1) in
     record {
+      some = omega arith;
       sound = sound n (p .weights) (graphOf p) (both .0);
       labelled = six .0;
       few-passes = ltb-false 1024 q (u .0);
@@ -197,16 +205,19 @@ pub at-empty : (p : Plan) (l : Lent) (r : Report) → length (l .labels) ≡ 0 �
 unfolding answer left
 at-empty p l r z e = let t = eq-eqb (length (l .labels)) 0 z in refined p l r l (rw t e) (rw t refl) (rw t refl) (rw t refl) (rw t refl) (rw t refl)
 
-pub at-refusal : (p : Plan) (l : Lent) (r : Report) (k : ℕ) → (length (l .labels) ≡ 0 → ⊥) → k ≡ number p l → (k ≡ 0 → ⊥) → r ≡ refused k → Refined p l r l
+pub at-refusal : (p : Plan) (l : Lent) (r : Report) (k : ℕ) → k ≡ cond (eqb (length (l .labels)) 0) 0 (number p l) → (k ≡ 0 → ⊥) → r ≡ refused k → Refined p l r l
 unfolding answer left
-at-refusal p l r k z n u e =
+at-refusal p l r k c u e =
+    let z = refused-some (length (l .labels)) k (number p l) c u in
+    let n = checked (length (l .labels)) k (number p l) c z in
     let t = ne-eqb (length (l .labels)) 0 z in
     let v = ne-eqb (number p l) 0 (λ q. u (n ∙ q)) in
     refined p l r l (rw (t, v) (e ∙ ap refused n)) (rw (t, v) refl) (rw (t, v) refl) (rw (t, v) refl) (rw (t, v) refl) (rw (t, v) refl)
 
-pub at-run : (p : Plan) (l : Lent) (r : Report) (k : Lent) (m : ℕ) → (length (l .labels) ≡ 0 → ⊥) → m ≡ number p l → m ≡ 0 → Ran p l r k → Refined p l r k
+pub at-run : (p : Plan) (l : Lent) (r : Report) (k : Lent) (m : ℕ) → (length (l .labels) ≡ 0 → ⊥) → m ≡ cond (eqb (length (l .labels)) 0) 0 (number p l) → m ≡ 0 → Ran p l r k → Refined p l r k
 unfolding answer left
-at-run p l r k m z e n g =
+at-run p l r k m z c n g =
+    let e = checked (length (l .labels)) m (number p l) c z in
     let t = ne-eqb (length (l .labels)) 0 z in
     let v = eq-eqb (number p l) 0 (sym e ∙ n) in
     refined p l r k (rw (t, v) (g .answered)) (rw (t, v) (g .labels)) (rw (t, v) (g .gains)) (rw (t, v) (g .moves)) (rw (t, v) (g .made)) (rw (t, v) (g .rewound))

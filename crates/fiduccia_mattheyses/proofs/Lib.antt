@@ -10,8 +10,15 @@ pub mod Place
 pub mod MoveTy
 pub mod walk
 pub mod Unique
+pub mod Results
+pub mod Earliest
 pub mod Least
+pub mod States
 pub mod Boards
 pub mod Single
-pub mod Demands
 pub mod Counts
+pub mod Demands
+pub mod Promised
+pub mod MoveLimits
+pub mod Refusals
+pub mod Unused

@@ -8,7 +8,6 @@ use lib.Seq.{split-at, take-all, take-suc, getD-take, getD-drop, getD-set-same}
 use Rattle.lists.specs.Fill.{table}
 use Rattle.lists.proofs.Tables.{table-at, length-table}
 use Rattle.imbalance.specs.Load.{part, load}
-use Rattle.imbalance.specs.Limit.{mostWeight}
 use Rattle.imbalance.proofs.PartLoads.{load-within}
 use Rattle.fiduccia_mattheyses_pass.specs.Choice.{other, flip}
 use Rattle.fiduccia_mattheyses_pass.specs.Pass.{flips}
@@ -17,7 +16,7 @@ use Rattle.fiduccia_mattheyses_pass.proofs.Backs.{two-flips, flips-append, flip
 use Rattle.fiduccia_mattheyses_pass.proofs.Stands.{loads-follow, load-holds}
 use Rattle.fiduccia_mattheyses.specs.declared.Move.{Move}
 use Rattle.fiduccia_mattheyses.specs.Entry.{none}
-use Rattle.fiduccia_mattheyses.specs.Inner.{records, undone, RewindAsked}
+use Rattle.fiduccia_mattheyses.specs.Inner.{records, undone, UndoAsked, UndoDone, RewindAsked}
 use Rattle.fiduccia_mattheyses.proofs.Walking.{length-records, recorded-long}
 
 -- the record of the move at place i
@@ -162,44 +161,55 @@ module _ (weights labels : List ℕ) (moves : List Move) (loads : List ℕ) (kep
     two-now : (x : ℕ) → part labels′ x < 2
     two-now x = rw now (two-flips labels (take k′ (drop kept vs)) (λ y. rw (a .labelled) (two-flips (a .p) vs (a .two) y)) x)
 
-    -- the vertex, as the code reads it
-    pub turn-inside : (i : ℕ) → i ≡ m .vertex → (i < length labels′) × (i < length weights) × (i < 4096)
-    turn-inside i e =
+    abbrev i : ℕ
+    i = m .vertex
+
+    inside : (i < length labels′) × (i < length weights)
+    inside =
         let f = ap (λ (x : Move). x .vertex) m-is in
         let g = v-inside k′ lt′ in
         let l = long-now in
         let w = a .weighed in
-        let n = a .few in
-        (omega arith, omega arith, omega arith)
+        (omega arith, omega arith)
 
-    pub turn-asked : (i : ℕ) → i ≡ m .vertex → (part labels′ i < 2) × (length back ≡ 16) × (getD weights i 0 ≤ getD back (part labels′ i) 0) × (getD back (other (part labels′ i)) 0 ≤ mostWeight)
-    turn-asked i e =
+    -- what taking this move back asks
+    pub turn-asked : UndoAsked weights labels′ back m
+    turn-asked =
         let t = two-now i in
-        let s = turn-inside i e in
+        let s = inside in
         let at-own = ap (λ (l : List ℕ). getD l (part labels′ i) 0) loaded ∙ table-at 16 (part labels′ i) 0 (load weights labels′) (omega arith) in
         let at-other = ap (λ (l : List ℕ). getD l (other (part labels′ i)) 0) loaded ∙ table-at 16 (other (part labels′ i)) 0 (load weights labels′) (omega arith) in
         let w = load-within weights labels′ (a .weighed ∙ sym long-now) (other (part labels′ i)) in
         let lim = a .light in
         let h = load-holds weights labels′ i (s .0) t in
-        (t, ap length loaded ∙ length-table 16 (load weights labels′), omega arith, omega arith)
+        record {
+          in-labels = s .0;
+          in-weights = s .1;
+          two = t;
+          sixteen = ap length loaded ∙ length-table 16 (load weights labels′);
+          held = omega arith;
+          within = omega arith;
+        }
 
-    flipped : (i : ℕ) → i ≡ m .vertex → set labels′ i (m .part) ≡ flip labels′ i
-    flipped i e =
-        let f = e ∙ ap (λ (x : Move). x .vertex) m-is in
+    flipped : set labels′ i (m .part) ≡ flip labels′ i
+    flipped =
+        let f = ap (λ (x : Move). x .vertex) m-is in
         let g = ap (λ (x : Move). x .part) m-is in
         rw (f, g, now) (put-back k′ lt′)
 
-    pub turn-labels : (i : ℕ) → i ≡ m .vertex → set labels′ i (m .part) ≡ undone moves kept (at + 1 - kept) labels
+    one-label-more : set labels′ i (m .part) ≡ undone moves kept (at + 1 - kept) labels
     unfolding undone
-    turn-labels i e =
+    one-label-more =
         let r : at + 1 - kept ≡ suc (at - kept) = omega arith in
-        ap (λ (j : ℕ). set labels′ j (m .part)) e
-        ∙ ap₂ (λ (l : List ℕ) (x : Move). set l (x .vertex) (x .part)) so (read ∙ ap (λ (j : ℕ). getD moves j none) (sym at-is))
+        ap₂ (λ (l : List ℕ) (x : Move). set l (x .vertex) (x .part)) so (read ∙ ap (λ (j : ℕ). getD moves j none) (sym at-is))
         ∙ sym (rw r refl)
 
-    pub turn-loads : (i : ℕ) (next : List ℕ) → i ≡ m .vertex → next ≡ loadsAfter back (part labels′ i) (getD weights i 0) → next ≡ table 16 (load weights (set labels′ i (m .part)))
-    turn-loads i next e f =
-        f
-        ∙ ap (λ (l : List ℕ). loadsAfter l (part labels′ i) (getD weights i 0)) loaded
-        ∙ loads-follow weights labels′ i (turn-inside i e .0) (two-now i)
-        ∙ ap (λ (l : List ℕ). table 16 (load weights l)) (sym (flipped i e))
+    -- the labels and the loads once it is taken back
+    pub turn-done : (labels″ next : List ℕ) → UndoDone weights labels′ back m labels″ next → (labels″ ≡ undone moves kept (at + 1 - kept) labels) × (next ≡ table 16 (load weights labels″))
+    turn-done labels″ next d = (
+      d .labelled ∙ one-label-more,
+      d .loaded
+          ∙ ap (λ (l : List ℕ). loadsAfter l (part labels′ i) (getD weights i 0)) loaded
+          ∙ loads-follow weights labels′ i (inside .0) (two-now i)
+          ∙ ap (λ (l : List ℕ). table 16 (load weights l)) (sym (d .labelled ∙ flipped)),
+    )

@@ -1,14 +1,14 @@
 -- The passes of a run, turn by turn. Assumes nothing.
 use mathlib.Core.Path.{_≡_, refl, sym, ap, ap₂, _∙_}
-use mathlib.Core.Bool.{true, false}
+use mathlib.Core.Bool.{Bool, true, false, cond}
 use mathlib.Core.List.{List, [], _∷_, _++_, map, append-assoc}
 use Prim.Native.Nat.{ℕ, suc, _+_, _-_, _≤_, _<_}
 use native.Mathlib.Omega.{arith}
-use lib.Dec.{ltb}
+use lib.Dec.{leb, ltb}
 use lib.ListN.{length, getD, set, drop, length-append, length-drop}
 use lib.Seq.{drop-cons, set-at}
 use lib.IntN.{ℤ}
-use borrow.Author.Tests.{lt-ltb, le-ltb}
+use borrow.Author.Tests.{lt-ltb, le-ltb, leb-true, leb-false}
 use Rattle.imbalance.specs.declared.Loads.{Loads}
 use Rattle.topology.specs.Cut.{cut}
 use Rattle.fiduccia_mattheyses_pass.specs.Choice.{Setting}
@@ -18,7 +18,8 @@ use Rattle.fiduccia_mattheyses.specs.declared.Passed.{Passed}
 use Rattle.fiduccia_mattheyses.specs.declared.Ended.{Ended}
 use Rattle.fiduccia_mattheyses.specs.Run.{Run, run}
 use Rattle.fiduccia_mattheyses.specs.Entry.{over}
-use Rattle.fiduccia_mattheyses.specs.Inner.{PassAsked, PassDone, PassesAsked, PassesDone}
+use Rattle.fiduccia_mattheyses.specs.declared.Course.the-variants.{Ends, GoesOn}
+use Rattle.fiduccia_mattheyses.specs.Inner.{PassAsked, PassDone, RowAsked, RowDone, courseOf, PassesAsked, PassesDone}
 
 -- the rows so far, before those of the rest of the run
 abbrev after-rows : List Pass → Run → Run
@@ -46,7 +47,7 @@ over-more xs ys k x e l =
     ∙ sym (append-assoc xs (x ∷ []) (drop (suc k) ys))
     ∙ ap (λ (i : ℕ). (xs ++ (x ∷ [])) ++ drop i ys) (sym b)
 
-over-long : (xs ys : List ℕ) → length xs ≤ length ys → length (over xs ys) ≡ length ys
+pub over-long : (xs ys : List ℕ) → length xs ≤ length ys → length (over xs ys) ≡ length ys
 over-long xs ys h = length-append xs (drop (length xs) ys) ∙ (let a = length-drop (length xs) ys in omega arith)
 
 map-more : (f : Pass → ℕ) (xs : List Pass) (x : Pass) → map f (xs ++ (x ∷ [])) ≡ map f xs ++ (f x ∷ [])
@@ -61,10 +62,11 @@ append-none : (xs : List Pass) → xs ++ [] ≡ xs
 append-none [] = refl
 append-none (x ∷ xs) = ap (λ (l : List Pass). x ∷ l) (append-none xs)
 
-abbrev mades : List Pass → List ℕ
+-- the moves made, and those rewound, pass by pass
+abbrev pub mades : List Pass → List ℕ
 mades rows = map (λ (r : Pass). r .made) rows
 
-abbrev rewounds : List Pass → List ℕ
+abbrev pub rewounds : List Pass → List ℕ
 rewounds rows = map (λ (r : Pass). r .rewound) rows
 
 -- what the run knows after `passes` passes
@@ -107,8 +109,8 @@ module _ (s : Setting) (limit : ℕ) (p : List ℕ) (gains₀ : List ℤ) (moves
         (ap length (g .made-are) ∙ over-long (mades (g .rows)) made₀ (omega arith), ap length (g .rewound-are) ∙ over-long (rewounds (g .rows)) rewound₀ (omega arith))
 
     -- a pass's counts are small, and its row is in the lists
-    pub pass-small : passes < limit → (labels′ : List ℕ) (moves′ : List Move) (r : Passed) → PassDone s labels moves labels′ moves′ r → (row : ℕ) → row ≡ passes → (r .made ≤ 4096) × (r .kept ≤ r .made) × (row < length made) × (row < length rewound) × (row < 1024)
-    pass-small lt labels′ moves′ r d row e =
+    pub row-asked : passes < limit → (labels′ : List ℕ) (moves′ : List Move) (r : Passed) → PassDone s labels moves labels′ moves′ r → RowAsked made rewound passes (r .made) (r .kept)
+    row-asked lt labels′ moves′ r d =
         let f = d .few in
         let n = g .asked .fixed .rows .few in
         let l = rows-long in
@@ -117,7 +119,7 @@ module _ (s : Setting) (limit : ℕ) (p : List ℕ) (gains₀ : List ℤ) (moves
         let i = a .in-made in
         let j = a .in-rewound in
         let k = a .few-passes in
-        (omega arith, d .kept-within, omega arith, omega arith, omega arith)
+        record { in-made = omega arith; in-rewound = omega arith; few-passes = omega arith; few = omega arith; kept-within = d .kept-within }
 
     -- at the pass limit
     pub running-full : limit ≤ passes → (r : Ended) → r ≡ record { end = 0; passes = passes; cut = cut₁; loads = loads } → PassesDone s limit p moves₀ made₀ rewound₀ labels moves made rewound r
@@ -140,7 +142,7 @@ module _ (s : Setting) (limit : ℕ) (p : List ℕ) (gains₀ : List ℤ) (moves
         })
 
     -- one pass more
-    module _ (lt : passes < limit) (labels′ : List ℕ) (gains′ : List ℤ) (moves′ : List Move) (r : Passed) (d : PassDone s labels moves labels′ moves′ r) (gl : length gains′ ≡ length gains) (made′ rewound′ : List ℕ) (row x y : ℕ) (er : row ≡ passes) (ex : x ≡ r .made) (ey : y ≡ r .made - r .kept) (em : made′ ≡ set made row x) (ew : rewound′ ≡ set rewound row y) where
+    module _ (lt : passes < limit) (labels′ : List ℕ) (gains′ : List ℤ) (moves′ : List Move) (r : Passed) (d : PassDone s labels moves labels′ moves′ r) (gl : length gains′ ≡ length gains) (made′ rewound′ : List ℕ) (next : ℕ) (w : RowDone made rewound passes (r .made) (r .kept) made′ rewound′ next) where
       abbrev this : Pass
       this = pass s labels
 
@@ -152,8 +154,8 @@ module _ (s : Setting) (limit : ℕ) (p : List ℕ) (gains₀ : List ℤ) (moves
           let c = g .count in
           let i = a .in-made in
           let m = map-long (λ (q : Pass). q .made) (g .rows) in
-          em
-          ∙ ap₂ (λ (j z : ℕ). set made j z) er (ex ∙ d .made-is)
+          w .made-are
+          ∙ ap (set made passes) (d .made-is)
           ∙ ap (λ (l : List ℕ). set l passes (this .made)) (g .made-are)
           ∙ over-more (mades (g .rows)) made₀ passes (this .made) (m ∙ c) (omega arith)
           ∙ ap (λ (l : List ℕ). over l made₀) (sym (map-more (λ (q : Pass). q .made) (g .rows) this))
@@ -163,8 +165,8 @@ module _ (s : Setting) (limit : ℕ) (p : List ℕ) (gains₀ : List ℤ) (moves
           let c = g .count in
           let i = a .in-rewound in
           let m = map-long (λ (q : Pass). q .rewound) (g .rows) in
-          ew
-          ∙ ap₂ (λ (j z : ℕ). set rewound j z) er (ey ∙ d .rewound-is)
+          w .rewound-are
+          ∙ ap (set rewound passes) (d .rewound-is)
           ∙ ap (λ (l : List ℕ). set l passes (this .rewound)) (g .rewound-are)
           ∙ over-more (rewounds (g .rows)) rewound₀ passes (this .rewound) (m ∙ c) (omega arith)
           ∙ ap (λ (l : List ℕ). over l rewound₀) (sym (map-more (λ (q : Pass). q .rewound) (g .rows) this))
@@ -173,7 +175,7 @@ module _ (s : Setting) (limit : ℕ) (p : List ℕ) (gains₀ : List ℤ) (moves
       unrolled = let z : limit - passes ≡ suc (limit - (passes + 1)) = omega arith in rw z at (g .rest)
 
       -- a pass that lowered nothing ends the run
-      pub running-gainless : cut₁ ≤ r .cut → (q : Ended) → q ≡ record { end = 1; passes = passes + 1; cut = r .cut; loads = r .loads } → PassesDone s limit p moves₀ made₀ rewound₀ labels′ moves′ made′ rewound′ q
+      running-gainless : cut₁ ≤ r .cut → (q : Ended) → q ≡ record { end = 1; passes = passes + 1; cut = r .cut; loads = r .loads } → PassesDone s limit p moves₀ made₀ rewound₀ labels′ moves′ made′ rewound′ q
       running-gainless h q e =
           let k = g .asked .cut-is in
           let l = d .least-is in
@@ -194,7 +196,7 @@ module _ (s : Setting) (limit : ℕ) (p : List ℕ) (gains₀ : List ℤ) (moves
           })
 
       -- else it goes on
-      pub running-on : r .cut < cut₁ → Running s limit p moves₀ made₀ rewound₀ labels′ gains′ moves′ made′ rewound′ (r .loads) (r .cut) (passes + 1)
+      running-on : r .cut < cut₁ → Running s limit p moves₀ made₀ rewound₀ labels′ gains′ moves′ made′ rewound′ (r .loads) (r .cut) (passes + 1)
       running-on h =
           let k = g .asked .cut-is in
           let l = d .least-is in
@@ -223,3 +225,30 @@ module _ (s : Setting) (limit : ℕ) (p : List ℕ) (gains₀ : List ℤ) (moves
                 ∙ ap (λ (z : List Pass). record { end = run s (limit - (passes + 1)) (this .labels) .end; rows = z; labels = run s (limit - (passes + 1)) (this .labels) .labels }) (sym (append-assoc (g .rows) (this ∷ []) (run s (limit - (passes + 1)) (this .labels) .rows)))
                 ∙ ap (λ (z : List ℕ). after-rows rows′ (run s (limit - (passes + 1)) z)) (sym (d .labelled));
           }
+
+  -- how the run stands after one pass more
+  module _ (labels : List ℕ) (gains : List ℤ) (moves : List Move) (made rewound : List ℕ) (loads : Loads) (cut₁ passes : ℕ) (g : Running s limit p moves₀ made₀ rewound₀ labels gains moves made rewound loads cut₁ passes) (lt : passes < limit) (labels′ : List ℕ) (gains′ : List ℤ) (moves′ : List Move) (r : Passed) (d : PassDone s labels moves labels′ moves′ r) (gl : length gains′ ≡ length gains) (made′ rewound′ : List ℕ) (next : ℕ) (w : RowDone made rewound passes (r .made) (r .kept) made′ rewound′ next) where
+    on : r .cut < cut₁ → Running s limit p moves₀ made₀ rewound₀ labels′ gains′ moves′ made′ rewound′ (r .loads) (r .cut) next
+    on h = rw (w .passes-are) (running-on labels gains moves made rewound loads cut₁ passes g lt labels′ gains′ moves′ r d gl made′ rewound′ next w h)
+
+    -- it ends
+    pub course-ends : (e : ℕ) → courseOf cut₁ (r .cut) next limit ≡ Ends e → PassesDone s limit p moves₀ made₀ rewound₀ labels′ moves′ made′ rewound′ (record { end = e; passes = next; cut = r .cut; loads = r .loads })
+    unfolding courseOf
+    course-ends e c = go (leb cut₁ (r .cut)) refl c
+      where
+        full : (t : Bool) → leb limit next ≡ t → r .cut < cut₁ → cond t (Ends 0) GoesOn ≡ Ends e → PassesDone s limit p moves₀ made₀ rewound₀ labels′ moves′ made′ rewound′ (record { end = e; passes = next; cut = r .cut; loads = r .loads })
+        full true u h c = let z : 0 ≡ e = cc in running-full labels′ gains′ moves′ made′ rewound′ (r .loads) (r .cut) next (on h) (leb-true limit next u) _ (ap (λ (x : ℕ). record { end = x; passes = next; cut = r .cut; loads = r .loads }) (sym z))
+        full false u h c = let o : _≡_ {A = ℕ} 0 1 = cc in absurd (omega arith)
+
+        go : (t : Bool) → leb cut₁ (r .cut) ≡ t → cond t (Ends 1) (cond (leb limit next) (Ends 0) GoesOn) ≡ Ends e → PassesDone s limit p moves₀ made₀ rewound₀ labels′ moves′ made′ rewound′ (record { end = e; passes = next; cut = r .cut; loads = r .loads })
+        go true u c = let z : 1 ≡ e = cc in running-gainless labels gains moves made rewound loads cut₁ passes g lt labels′ gains′ moves′ r d gl made′ rewound′ next w (leb-true cut₁ (r .cut) u) _ (ap₂ (λ (x y : ℕ). record { end = x; passes = y; cut = r .cut; loads = r .loads }) (sym z) (w .passes-are))
+        go false u c = full (leb limit next) refl (leb-false cut₁ (r .cut) u) c
+
+    -- it goes on
+    pub course-goes-on : courseOf cut₁ (r .cut) next limit ≡ GoesOn → Running s limit p moves₀ made₀ rewound₀ labels′ gains′ moves′ made′ rewound′ (r .loads) (r .cut) next
+    unfolding courseOf
+    course-goes-on c = go (leb cut₁ (r .cut)) refl c
+      where
+        go : (t : Bool) → leb cut₁ (r .cut) ≡ t → cond t (Ends 1) (cond (leb limit next) (Ends 0) GoesOn) ≡ GoesOn → Running s limit p moves₀ made₀ rewound₀ labels′ gains′ moves′ made′ rewound′ (r .loads) (r .cut) next
+        go true u c = let o : _≡_ {A = ℕ} 0 1 = cc in absurd (omega arith)
+        go false u c = on (leb-false cut₁ (r .cut) u)

@@ -1,19 +1,18 @@
 -- Demand 3, second sentence: after a pass that lowered nothing no single block can go to the other board within the ceiling and lower the cut. Assumes nothing.
 use mathlib.Core.Path.{_≡_, refl, sym, ap, _∙_}
-use mathlib.Core.Bool.{Bool, true, false, not, cond, _&&_, _||_}
+use mathlib.Core.Bool.{Bool, true, false, cond, _&&_}
 use mathlib.Core.List.{List, []}
 use mathlib.Core.Option.{Option, none, some}
 use Prim.Native.Nat.{ℕ, zero, suc, _+_, _-_, _≤_, _<_}
 use native.Mathlib.Omega.{arith}
-use lib.Dec.{ltb, eqb}
+use lib.Dec.{ltb}
 use lib.ListN.{length, take}
-use lib.IntN.{ℤ, pos}
+use lib.IntN.{pos}
 use lib.Signed.{ltZ, leZ}
-use borrow.Author.Tests.{ltb-true, ltb-false, eqb-true, eqb-false}
-use Rattle.lists.specs.Best.{best, offer}
-use Rattle.lists.proofs.Bests.{best-in}
+use borrow.Author.Tests.{ltb-true, ltb-false}
+use Rattle.lists.proofs.Bools.{or-false}
 use Rattle.lists.proofs.Differences.{order}
-use Rattle.lists.proofs.Orders.{clash, le-lt, lt-le, not-le-lt, lt-not-le, lt-self, no-more}
+use Rattle.lists.proofs.Orders.{clash, lt-then-le, not-lt-le, not-le-lt, lt-not-le}
 use Rattle.imbalance.specs.Load.{part}
 use Rattle.topology.specs.Graph.{into, gain}
 use Rattle.topology.specs.Rule.{Symmetric}
@@ -21,66 +20,13 @@ use Rattle.topology.specs.Cut.{cut}
 use Rattle.topology.proofs.Moves.{cut-move}
 use Rattle.fiduccia_mattheyses_pass.specs.Choice.{Setting, other, flip, member, worth, after, fits, allowed, better, choice, isBad}
 use Rattle.fiduccia_mattheyses_pass.specs.Pass.{State, start, moveOn, next, walk, flips, pass}
+use Rattle.fiduccia_mattheyses_pass.proofs.Chosen.{chosen, none-chosen}
 use Rattle.fiduccia_mattheyses_pass.proofs.Backs.{flips-long}
 use Rattle.fiduccia_mattheyses_pass.proofs.Walks.{walk-step}
 use Rattle.fiduccia_mattheyses_pass.proofs.Keeps.{walk-keeps}
 use Rattle.fiduccia_mattheyses.specs.Run.{Run, run}
 use Rattle.fiduccia_mattheyses.specs.Demand.{NoSingleBlock}
 use Rattle.fiduccia_mattheyses.proofs.Running.{run-last, run-more}
-
-better-le : (x y : ℤ) (t : Bool) → ltZ y x || (leZ y x && t) ≡ true → leZ y x ≡ true
-better-le x y t e = go (ltZ y x) refl (leZ y x) refl e
-  where
-    go : (a : Bool) → ltZ y x ≡ a → (b : Bool) → leZ y x ≡ b → a || (b && t) ≡ true → leZ y x ≡ true
-    go true p b q r = lt-le y x p
-    go false p true q r = q
-    go false p false q r = clash false r refl
-
-not-better : (x y : ℤ) (t : Bool) → ltZ y x || (leZ y x && t) ≡ false → ltZ y x ≡ false
-not-better x y t e = go (ltZ y x) refl e
-  where
-    go : (a : Bool) → ltZ y x ≡ a → a || (leZ y x && t) ≡ false → ltZ y x ≡ false
-    go true p r = clash true refl r
-    go false p r = p
-
-module _ (s : Setting) (p : List ℕ) (a : ℕ → Bool) where
-  abbrev w : ℕ → ℤ
-  w = worth s p
-
-  from-old : (n v u : ℕ) (t : Bool) → better s p n v ≡ t → ltZ (w v) (w u) ≡ false → (r : ℕ) × (some (cond t n v) ≡ some r) × (ltZ (w r) (w u) ≡ false)
-  unfolding better
-  from-old n v u true e h = (n, refl, no-more (w v) (w n) (w u) (better-le (w n) (w v) (ltb (after s p n) (after s p v)) e) h)
-  from-old n v u false e h = (v, refl, h)
-
-  from-new : (n v : ℕ) (t : Bool) → better s p n v ≡ t → (r : ℕ) × (some (cond t n v) ≡ some r) × (ltZ (w r) (w n) ≡ false)
-  unfolding better
-  from-new n v true e = (n, refl, lt-self (w n))
-  from-new n v false e = (v, refl, not-better (w n) (w v) (ltb (after s p n) (after s p v)) e)
-
-  -- where something is allowed something is chosen, and nothing allowed has more gain
-  best-top : (n u : ℕ) → u < n → a u ≡ true → (v : ℕ) × (best a (better s p) n ≡ some v) × (ltZ (w v) (w u) ≡ false)
-  unfolding best
-  best-top zero u l e = absurd (omega arith)
-  best-top (suc n) u l e = go (eqb u n) refl (best-top n u)
-    where
-      new : (o : Option ℕ) → (r : ℕ) × (offer true (better s p) n o ≡ some r) × (ltZ (w r) (w n) ≡ false)
-      new none = (n, refl, lt-self (w n))
-      new (some v) = from-new n v (better s p n v) refl
-
-      old : (t : Bool) (v : ℕ) → ltZ (w v) (w u) ≡ false → (r : ℕ) × (offer t (better s p) n (some v) ≡ some r) × (ltZ (w r) (w u) ≡ false)
-      old true v h = from-old n v u (better s p n v) refl h
-      old false v h = (v, refl, h)
-
-      go : (b : Bool) → eqb u n ≡ b → (u < n → a u ≡ true → (v : ℕ) × (best a (better s p) n ≡ some v) × (ltZ (w v) (w u) ≡ false)) → (r : ℕ) × (offer (a n) (better s p) n (best a (better s p) n) ≡ some r) × (ltZ (w r) (w u) ≡ false)
-      go true q ih =
-          let un = eqb-true u n q in
-          let x = new (best a (better s p) n) in
-          (x .0, rw (← un, e) (rw un (x .1)), rw un (x .2))
-      go false q ih =
-          let ne = eqb-false u n q in
-          let x = ih (omega (arith, ne)) e in
-          let y = old (a n) (x .0) (x .2) in
-          (y .0, rw (x .1) (y .1), y .2)
 
 -- a move never raises the least cut, and lowers it to its own where that is lower
 move-least : (s : Setting) (st : State) (v : ℕ) → (moveOn s st v .least ≤ st .least) × (moveOn s st v .least ≤ cut (s .graph) (flip (st .labels) v))
@@ -155,21 +101,19 @@ module _ (s : Setting) (p : List ℕ) (idle : ltb (pass s p .least) (cut (s .gra
 
     -- and none that may be chosen has positive gain
     no-gain : (v : ℕ) → v < length p → s .movable v ≡ true → fits s p v ≡ true → leZ (worth s p v) (pos 0) ≡ true
-    unfolding choice allowed member
-    no-gain v l m f = go (leZ (worth s p v) (pos 0)) refl
+    unfolding allowed member better
+    no-gain v l m f = go (leZ (worth s p v) (pos 0)) refl (choice s p []) refl
       where
-        top : (r : ℕ) × (best (allowed s p []) (better s p) (length p) ≡ some r) × (ltZ (worth s p r) (worth s p v) ≡ false)
-        top = best-top s p (allowed s p []) (length p) v l (rw (m, f))
+        may : allowed s p [] v ≡ true
+        may = rw (m, f)
 
-        up : ltZ (pos 0) (worth s p v) ≡ true → (t : Bool) → leZ (worth s p (top .0)) (pos 0) ≡ t → ltZ (pos 0) (worth s p (top .0)) ≡ true
-        up gt true r = clash (ltZ (worth s p (top .0)) (worth s p v)) (le-lt (worth s p (top .0)) (pos 0) (worth s p v) r gt) (top .2)
-        up gt false r = not-le-lt (worth s p (top .0)) (pos 0) r
-
-        go : (t : Bool) → leZ (worth s p v) (pos 0) ≡ t → leZ (worth s p v) (pos 0) ≡ true
-        go true e = e
-        go false e =
-            let i = best-in (allowed s p []) (better s p) (length p) (top .0) (top .1) in
-            absurd (not-chosen (top .0) (i .0) (top .1) (up (not-le-lt (worth s p v) (pos 0) e) (leZ (worth s p (top .0)) (pos 0)) refl))
+        go : (t : Bool) → leZ (worth s p v) (pos 0) ≡ t → (o : Option ℕ) → choice s p [] ≡ o → leZ (worth s p v) (pos 0) ≡ true
+        go true e o c = e
+        go false e none c = clash (allowed s p [] v) may (none-chosen s p [] .0 c v l)
+        go false e (some u) c =
+            let i = chosen s p [] u .0 c in
+            let no-more = or-false (ltZ (worth s p u) (worth s p v)) (leZ (worth s p u) (worth s p v) && ltb (after s p v) (after s p u)) (i .top v l may) .0 in
+            absurd (not-chosen u (i .here) c (lt-then-le (pos 0) (worth s p v) (worth s p u) (not-le-lt (worth s p v) (pos 0) e) (not-lt-le (worth s p u) (worth s p v) no-more)))
 
     -- a block without gain does not lower the cut
     not-lower : (v : ℕ) → v < length p → leZ (worth s p v) (pos 0) ≡ true → cut (s .graph) p ≤ cut (s .graph) (flip p v)

@@ -4,7 +4,7 @@ use Rattle.fiduccia_mattheyses.specs.declared.Report.{Report}
 use Rattle.fiduccia_mattheyses.specs.Entry.{Plan, Lent, Refined}
 
 -- the lists, list by list
-same-lent : {k k′ : Lent} → k .labels ≡ k′ .labels → k .gains ≡ k′ .gains → k .moves ≡ k′ .moves → k .made ≡ k′ .made → k .rewound ≡ k′ .rewound → k ≡ k′
+pub same-lent : {k k′ : Lent} → k .labels ≡ k′ .labels → k .gains ≡ k′ .gains → k .moves ≡ k′ .moves → k .made ≡ k′ .made → k .rewound ≡ k′ .rewound → k ≡ k′
 same-lent a b c d e = λ i. record { labels = a i; gains = b i; moves = c i; made = d i; rewound = e i }
 
 pub unique : (p : Plan) (l : Lent) (r r′ : Report) (k k′ : Lent) → Refined p l r k → Refined p l r′ k′ → (r ≡ r′) × (k ≡ k′)

@@ -32,6 +32,17 @@ pub record Plan : Type 0 where
   pub weights : List ℕ
   pub settings : Settings
 
+-- the same plan, but for the move limit
+abbrev pub withMoves : Plan → ℕ → Plan
+withMoves p k =
+    record {
+      starts = p .starts;
+      neighbours = p .neighbours;
+      arcs = p .arcs;
+      weights = p .weights;
+      settings = record { passes = p .settings .passes; moves = k; bad = p .settings .bad; choice = p .settings .choice; whole = p .settings .whole; imbalance = p .settings .imbalance };
+    }
+
 -- what is lent: the labels, the gains, the moves and the two row lists
 pub record Lent : Type 0 where
   pub labels : List ℕ

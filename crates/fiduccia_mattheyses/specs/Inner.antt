@@ -1,9 +1,10 @@
 -- What the functions inside the entry ask and answer: the moves of a pass in their records, the rewind, the pass, the passes.
 use mathlib.Core.Path.{_≡_}
-use mathlib.Core.Bool.{true, false}
+use mathlib.Core.Bool.{true, false, cond}
 use mathlib.Core.List.{List, [], _∷_, _++_, map}
 use Prim.Native.Nat.{ℕ, zero, suc, _+_, _-_, _≤_, _<_}
 use lib.ListN.{length, getD, set, drop}
+use lib.Dec.{leb}
 use lib.IntN.{ℤ, pos}
 use Rattle.lists.specs.Sum.{total}
 use Rattle.lists.specs.Fill.{table}
@@ -13,14 +14,16 @@ use Rattle.topology.specs.Rule.{Sound}
 use Rattle.imbalance.specs.Load.{part, load}
 use Rattle.topology.specs.Graph.{inRows}
 use Rattle.topology.specs.Cut.{cut}
-use Rattle.fiduccia_mattheyses_pass.specs.Choice.{Setting, flip}
+use Rattle.fiduccia_mattheyses_pass.specs.Choice.{Setting, other, flip}
 use Rattle.fiduccia_mattheyses_pass.specs.Pass.{State, Pass, start, walk, flips, pass}
-use Rattle.fiduccia_mattheyses_pass.specs.Standing.{Fixed, Stands, Apart}
+use Rattle.fiduccia_mattheyses_pass.specs.Standing.{Fixed, Stands, Apart, loadsAfter}
 use Rattle.fiduccia_mattheyses_pass.specs.declared.Standing.{Standing}
 use Rattle.imbalance.specs.declared.Loads.{Loads}
 use Rattle.fiduccia_mattheyses.specs.declared.Move.{Move}
 use Rattle.fiduccia_mattheyses.specs.declared.Passed.{Passed}
 use Rattle.fiduccia_mattheyses.specs.declared.Ended.{Ended}
+use Rattle.fiduccia_mattheyses.specs.declared.Course.{Course}
+use Rattle.fiduccia_mattheyses.specs.declared.Course.the-variants.{Ends, GoesOn}
 use Rattle.fiduccia_mattheyses.specs.Run.{run}
 use Rattle.fiduccia_mattheyses.specs.Entry.{Plan, Lent, graphOf, none, over, reportOf, leftBy}
 use Rattle.fiduccia_mattheyses.specs.declared.Report.{Report}
@@ -61,6 +64,20 @@ pub record WalkDone (s : Setting) (p : List ℕ) (moves₀ : List Move) (e : Sta
 unfoldable pub undone : List Move → ℕ → ℕ → List ℕ → List ℕ
 undone moves from zero p = p
 undone moves from (suc k) p = set (undone moves from k p) (getD moves (from + k) none .vertex) (getD moves (from + k) none .part)
+
+-- What taking a move back asks: a vertex with a label of the two and a weight, and loads of sixteen parts from which the weight can go.
+pub record UndoAsked (weights labels loads : List ℕ) (m : Move) : Type 0 where
+  pub in-labels : m .vertex < length labels
+  pub in-weights : m .vertex < length weights
+  pub two : part labels (m .vertex) < 2
+  pub sixteen : length loads ≡ 16
+  pub held : getD weights (m .vertex) 0 ≤ getD loads (part labels (m .vertex)) 0
+  pub within : getD loads (other (part labels (m .vertex))) 0 ≤ mostWeight
+
+-- What it answers: the label before the move, and the loads after the vertex left the part that it was in.
+pub record UndoDone (weights labels loads : List ℕ) (m : Move) (labels′ loads′ : List ℕ) : Type 0 where
+  pub labelled : labels′ ≡ set labels (m .vertex) (m .part)
+  pub loaded : loads′ ≡ loadsAfter loads (part labels (m .vertex)) (getD weights (m .vertex) 0)
 
 -- What the rewind asks: labels that come of moves vs from labels p, no vertex twice, all recorded, and the loads of these labels.
 pub record RewindAsked (weights labels : List ℕ) (moves : List Move) (loads : List ℕ) (kept made : ℕ) : Type 0 where
@@ -104,6 +121,24 @@ pub record PassDone (s : Setting) (p : List ℕ) (moves₀ : List Move) (labels 
   pub moves-long : length moves ≡ length moves₀
   pub moves-past : drop (length p) moves ≡ drop (length p) moves₀
 
+-- What a pass's row asks: a place in both lists, and counts that fit.
+pub record RowAsked (rows-made rows-rewound : List ℕ) (passes made kept : ℕ) : Type 0 where
+  pub in-made : passes < length rows-made
+  pub in-rewound : passes < length rows-rewound
+  pub few-passes : passes < 1024
+  pub few : made ≤ mostVertices
+  pub kept-within : kept ≤ made
+
+-- What it answers: "Row: moves made, moves rewound", and the passes made then.
+pub record RowDone (rows-made rows-rewound : List ℕ) (passes made kept : ℕ) (rows-made′ rows-rewound′ : List ℕ) (r : ℕ) : Type 0 where
+  pub made-are : rows-made′ ≡ set rows-made passes made
+  pub rewound-are : rows-rewound′ ≡ set rows-rewound passes (made - kept)
+  pub passes-are : r ≡ passes + 1
+
+-- how a run stands after a pass: "1 gainless pass (also when it was the last allowed)", "0 pass limit"
+unfoldable pub courseOf : ℕ → ℕ → ℕ → ℕ → Course
+courseOf before after passes limit = cond (leb before after) (Ends 1) (cond (leb limit passes) (Ends 0) GoesOn)
+
 -- What the passes ask besides: room for a row a pass.
 pub record PassesAsked (s : Setting) (limit : ℕ) (labels : List ℕ) (gains : List ℤ) (moves : List Move) (made rewound loads : List ℕ) (cut₀ : ℕ) : Type 0 where
   pub begun : PassAsked s labels gains moves loads cut₀
@@ -123,8 +158,9 @@ pub record PassesDone (s : Setting) (limit : ℕ) (p : List ℕ) (moves₀ : Lis
   pub moves-long : length moves ≡ length moves₀
   pub moves-past : drop (length p) moves ≡ drop (length p) moves₀
 
--- What the run asks, once no number applies.
+-- What the run asks: a vertex, and no number that applies.
 pub record Ready (p : Plan) (l : Lent) : Type 0 where
+  pub some : 0 < length (l .labels)
   pub sound : Sound (length (l .labels)) (p .weights) (graphOf p)
   pub labelled : labelAbove 1 (l .labels) ≡ false
   pub few-passes : p .settings .passes ≤ 1024

@@ -1,16 +1,17 @@
 // Fiduccia-Mattheyses between two parts: coupe's algorithms/fiduccia_mattheyses.rs. Document 01, "FM".
 ghost use mathlib.Core.Path.{_≡_};
-ghost use mathlib.Core.Bool.{true};
+ghost use mathlib.Core.Bool.{true, cond};
 ghost use Prim.Native.Nat.{_-_, _<_, _≤_};
 ghost use lib.IntN.{pos};
 ghost use lib.ListN.{length, set, getD};
+ghost use lib.Dec.{eqb};
 ghost use lib.Signed.{leZ};
 ghost use Rattle.lists.specs.Fill.{filled, table};
 ghost use Rattle.imbalance.specs.Load.{load};
 ghost use Rattle.fiduccia_mattheyses_pass.specs.Pass.{start, walk};
 ghost use Rattle.topology.specs.Graph.{inRows};
 ghost use Rattle.fiduccia_mattheyses.specs.Entry.{none, unfit, short, numberOf, bare, Refined};
-ghost use Rattle.fiduccia_mattheyses.specs.Inner.{settingBy, firstStanding, undone, WalkAsked, WalkDone, RewindAsked, PassAsked, PassDone, PassesAsked, PassesDone, Ready, Ran};
+ghost use Rattle.fiduccia_mattheyses.specs.Inner.{settingBy, firstStanding, undone, WalkAsked, WalkDone, UndoAsked, UndoDone, RewindAsked, RowAsked, RowDone, courseOf, PassAsked, PassDone, PassesAsked, PassesDone, Ready, Ran};
 use fiduccia_mattheyses_pass::Next;
 use fiduccia_mattheyses_pass::Standing;
 use imbalance::Ceilings;
@@ -65,6 +66,12 @@ pub struct Ended {
     pub passes: u32,
     pub cut: u64,
     pub loads: Loads,
+}
+
+// How a run stands after a pass: it ends, or goes on.
+pub enum Course {
+    Ends(u32),
+    GoesOn,
 }
 
 // One record is written.
@@ -159,6 +166,17 @@ fn walk_moves(
     Walked { made, last: st }
 }
 
+// One move taken back: its vertex is in the part before it again, and the loads follow.
+fn undo_move(weights: &[u32], labels: &mut [u32], loads: Loads, m: Move) -> Loads
+    requires { ⌜ UndoAsked (now weights) (now labels) (loads .at) m ⌝ }
+    ensures { λ r. ⌜ UndoDone (now (weights .entry)) (now (labels .entry)) (loads .at) m (now (labels .exit)) (r .at) ⌝ }
+{
+    let v = lists::index(m.vertex);
+    let taken_back = fiduccia_mattheyses_pass::moved_loads(loads, labels[v], weights[v]);
+    labels[v] = m.part;
+    taken_back
+}
+
 // The labels and the loads put back by the records from the kept prefix on.
 fn rewind(
     weights: &[u32],
@@ -175,9 +193,7 @@ fn rewind(
     let mut at = kept;
     while at < made {
         let m = move_at(moves, at);
-        let v = lists::index(m.vertex);
-        back = fiduccia_mattheyses_pass::moved_loads(back, labels[v], weights[v]);
-        labels[v] = m.part;
+        back = undo_move(weights, labels, back, m);
         at += 1;
     }
     back
@@ -253,7 +269,41 @@ fn pass(
     pass_answer(made, kept, least, back)
 }
 
-// The passes of a run, at most limit of them: a pass that lowered nothing ends it. Each pass writes its row.
+// The row of the pass after those made: its moves, and those of them that were rewound. It answers how many passes are made then.
+fn put_row(
+    rows_made: &mut [u32],
+    rows_rewound: &mut [u32],
+    passes: u32,
+    made: usize,
+    kept: usize,
+) -> u32
+    requires { ⌜ RowAsked (now «rows_made») (now «rows_rewound») passes made kept ⌝ }
+    ensures { λ r. ⌜ RowDone (now («rows_made» .entry)) (now («rows_rewound» .entry)) passes made kept (now («rows_made» .exit)) (now («rows_rewound» .exit)) r ⌝ }
+{
+    let done = passes + 1;
+    let rewound = made - kept;
+    let row = lists::index(passes);
+    rows_made[row] = narrow(made);
+    rows_rewound[row] = narrow(rewound);
+    done
+}
+
+// How a run stands after a pass: a gainless one ends it with 1, also where it was the last allowed; the last allowed ends it with 0.
+fn course_of(before: u64, after: u64, passes: u32, limit: u32) -> Course
+    ensures { λ r. ⌜ r ≡ courseOf before after passes limit ⌝ }
+{
+    let gainless = before <= after;
+    let full = limit <= passes;
+    if gainless {
+        return Course::Ends(1);
+    }
+    if full {
+        return Course::Ends(0);
+    }
+    Course::GoesOn
+}
+
+// The passes of a run, at most limit of them. Each pass writes its row.
 fn make_passes(
     starts: &[u32],
     neighbours: &[u32],
@@ -294,20 +344,21 @@ fn make_passes(
             bad_limit,
             move_limit,
         );
-        let row = lists::index(passes);
-        rows_made[row] = narrow(r.made);
-        rows_rewound[row] = narrow(r.made - r.kept);
-        passes += 1;
-        loads = r.loads;
-        if cut <= r.cut {
-            return Ended {
-                end: 1,
-                passes,
-                cut: r.cut,
-                loads,
-            };
-        }
+        let made = r.made;
+        let kept = r.kept;
+        passes = put_row(rows_made, rows_rewound, passes, made, kept);
+        let before = cut;
         cut = r.cut;
+        loads = r.loads;
+        let Course::Ends(end) = course_of(before, cut, passes, limit) else {
+            continue;
+        };
+        return Ended {
+            end,
+            passes,
+            cut,
+            loads,
+        };
     }
     Ended {
         end: 0,
@@ -317,10 +368,12 @@ fn make_passes(
     }
 }
 
-// The report of a run.
-fn run_report(r: Ended, first_cut: u64) -> Report
-    ensures { λ q. ⌜ q ≡ record { number = 0; end = r .end; passes = r .passes; first = «first_cut»; last = r .cut; loads = r .loads } ⌝ }
+// What a run ends with: zeros in the gains' first n places, and the report.
+fn finish(gains: &mut [i64], n: usize, r: Ended, first_cut: u64) -> Report
+    requires { ⌜ (0 < n) × (n ≤ length (now gains)) ⌝ }
+    ensures { λ q. ⌜ (now (gains .exit) ≡ filled (pos 0) n (now (gains .entry))) × (q ≡ record { number = 0; end = r .end; passes = r .passes; first = «first_cut»; last = r .cut; loads = r .loads }) ⌝ }
 {
+    lists::clear_gains(gains, n);
     let loads = r.loads;
     Report {
         number: 0,
@@ -382,9 +435,8 @@ fn refine(
         limit,
         passes,
     );
-    lists::clear_gains(gains, n);
     clear(moves, n);
-    run_report(r, cut)
+    finish(gains, n, r, cut)
 }
 
 // The lengths of the lent lists.
@@ -445,14 +497,35 @@ fn number_of(
     if imbalance::label_above(labels, 1) {
         return 6;
     }
-    if unfit_settings(s) {
+    let unfit = unfit_settings(s);
+    let passes = s.passes;
+    let short = too_short(n, passes, room);
+    if unfit {
         return 7;
     }
-    let passes = s.passes;
-    if too_short(n, passes, room) {
+    if short {
         return 8;
     }
     0
+}
+
+// The number of a call: without vertices it is done, whatever else is wrong.
+fn call_number(
+    starts: &[u32],
+    neighbours: &[u32],
+    arc_weights: &[u32],
+    weights: &[u32],
+    labels: &[u32],
+    room: Room,
+    s: Settings,
+) -> u32
+    ensures { λ r. ⌜ r ≡ cond (eqb (length (now (labels .entry))) 0) 0 (numberOf (inRows (now (starts .entry)) (now (neighbours .entry)) (now («arc_weights» .entry))) (now (weights .entry)) (now (labels .entry)) room s) ⌝ }
+{
+    let n = labels.len();
+    if n == 0 {
+        return 0;
+    }
+    number_of(starts, neighbours, arc_weights, weights, labels, room, s)
 }
 
 // A report of zeros but for the number and the end.
@@ -489,18 +562,18 @@ pub fn fiduccia_mattheyses(
         r
         (record { labels = now (labels .exit); gains = now (gains .exit); moves = now (moves .exit); made = now («rows_made» .exit); rewound = now («rows_rewound» .exit) }) ⌝ }
 {
-    if labels.len() == 0 {
-        return bare_report(0, 3);
-    }
     let room = Room {
         gains: gains.len(),
         moves: moves.len(),
         made: rows_made.len(),
         rewound: rows_rewound.len(),
     };
-    let number = number_of(starts, neighbours, arc_weights, weights, labels, room, s);
+    let number = call_number(starts, neighbours, arc_weights, weights, labels, room, s);
     if number != 0 {
         return bare_report(number, 0);
+    }
+    if labels.len() == 0 {
+        return bare_report(0, 3);
     }
     refine(
         starts,

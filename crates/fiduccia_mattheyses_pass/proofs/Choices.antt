@@ -1,20 +1,19 @@
 -- The scan over the lists of gains and loads finds FM's choice. Assumes nothing.
 use mathlib.Core.Path.{_≡_, refl, sym, _∙_}
-use mathlib.Core.Bool.{Bool, true, false, not, cond, _&&_}
+use mathlib.Core.Bool.{Bool, true, false, not, cond}
 use mathlib.Core.List.{List}
 use mathlib.Core.Option.{Option, none, some}
-use Prim.Native.Nat.{ℕ, _-_, _<_}
+use Prim.Native.Nat.{ℕ, _<_}
 use native.Mathlib.Omega.{arith}
 use lib.ListN.{length, getD}
 use lib.IntN.{ℤ, pos}
-use borrow.Author.Tests.{not-true}
 use Rattle.lists.specs.Best.{best}
-use Rattle.lists.proofs.Bools.{and-left, and-right}
 use Rattle.imbalance.specs.Load.{part, load}
 use Rattle.fiduccia_mattheyses_pass.specs.Choice.{Setting, other, member, worth, after, fits, allowed, better, choice}
 use Rattle.fiduccia_mattheyses_pass.specs.Scan.{lock, isFree, picked, may, over, pickBelow, loadAfter, ceilingAt}
 use Rattle.fiduccia_mattheyses_pass.specs.Standing.{Gains}
-use Rattle.lists.proofs.Bests.{best-in, best-ext}
+use Rattle.lists.proofs.Bests.{best-ext}
+use Rattle.fiduccia_mattheyses_pass.proofs.Chosen.{allowed-is, chosen}
 use Rattle.fiduccia_mattheyses_pass.proofs.Follows.{free-small}
 use Rattle.fiduccia_mattheyses_pass.proofs.Worths.{Light, worth-small}
 
@@ -44,8 +43,7 @@ module _ (s : Setting) (p locked : List ℕ) (gs : List ℤ) (loads : List ℕ) 
   may-same v l = rw (free-same v l, loads-same v, all-may v)
 
   worth-same : (v : ℕ) → v < n → allowed s p locked v ≡ true → getD gs v (pos 0) ≡ worth s p v
-  unfolding allowed
-  worth-same v l e = h .each v l ∙ rw (not-true (member v locked) (and-right (s .movable v) (not (member v locked)) (and-left (s .movable v && not (member v locked)) (fits s p v) e)))
+  worth-same v l e = h .each v l ∙ rw (allowed-is s p locked v e .1)
 
   over-same : (u v : ℕ) → u < n → v < n → may gs L C u ≡ true → may gs L C v ≡ true → over gs L C u v ≡ better s p u v
   unfolding better
@@ -55,14 +53,10 @@ module _ (s : Setting) (p locked : List ℕ) (gs : List ℤ) (loads : List ℕ) 
   unfolding choice
   same-choice = best-ext (may gs L C) (allowed s p locked) (over gs L C) (better s p) n may-same over-same
 
-  pub choice-in : (v : ℕ) → choice s p locked ≡ some v → (v < n) × (allowed s p locked v ≡ true)
-  unfolding choice
-  choice-in v e = best-in (allowed s p locked) (better s p) n v e
-
   -- the pick is the choice, with what its move is worth and the load of its target
   pub pick-choice : pickBelow gs L C n ≡ picked (worth s p) (after s p) (choice s p locked)
   pick-choice = rw same-choice (go (choice s p locked) refl)
     where
       go : (o : Option ℕ) → choice s p locked ≡ o → picked (λ v. getD gs v (pos 0)) L o ≡ picked (worth s p) (after s p) o
       go none e = refl
-      go (some v) e = let r = choice-in v e in rw (worth-same v (r .0) (r .1), loads-same v)
+      go (some v) e = let c = chosen s p locked v .0 e in rw (worth-same v (c .here) (c .may), loads-same v)

@@ -6,8 +6,11 @@ pub mod Scans
 pub mod Updates
 pub mod Follows
 pub mod Worths
+pub mod Chosen
 pub mod Choices
 pub mod Stands
 pub mod Backs
 pub mod Walks
 pub mod Keeps
+pub mod Limits
+pub mod Zeros

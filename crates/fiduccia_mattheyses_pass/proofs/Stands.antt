@@ -13,7 +13,6 @@ use lib.Signed.{mag, ltZ}
 use borrow.Author.Tests.{eq-eqb, ne-eqb, eqb-true, eqb-false, ltb-true, ltb-false}
 use Rattle.lists.specs.Sum.{sum, total}
 use Rattle.lists.specs.Fill.{table}
-use Rattle.lists.proofs.Bools.{and-left, and-right}
 use Rattle.lists.proofs.Totals.{sum-holds, sum-zero}
 use Rattle.lists.proofs.Tables.{length-table, table-at, table-set}
 use Rattle.lists.proofs.Differences.{pos-minus}
@@ -23,7 +22,7 @@ use Rattle.topology.specs.Graph.{Graph, first, past, arcs, into, gain}
 use Rattle.topology.specs.Rule.{Symmetric}
 use Rattle.topology.specs.Cut.{cut, rowCut}
 use Rattle.topology.proofs.Moves.{cut-move, load-move}
-use Rattle.fiduccia_mattheyses_pass.specs.Choice.{Setting, other, flip, member, worth, after, fits, allowed, choice, isBad}
+use Rattle.fiduccia_mattheyses_pass.specs.Choice.{Setting, other, flip, member, worth, after, fits, choice, isBad}
 use Rattle.fiduccia_mattheyses_pass.specs.Pass.{State, start, moveOn, next}
 use Rattle.fiduccia_mattheyses_pass.specs.Scan.{lock, picked, pickBelow, loadAfter, ceilingAt, nextOf}
 use Rattle.fiduccia_mattheyses_pass.specs.Standing.{loadsAfter, gainsAfter, standingAfter, Scannable, Moveable, Fixed, Stands}
@@ -33,7 +32,8 @@ use Rattle.fiduccia_mattheyses_pass.specs.declared.Next.the-variants.{St
 use Rattle.fiduccia_mattheyses_pass.specs.declared.Standing.{Standing}
 use Rattle.fiduccia_mattheyses_pass.proofs.Moved.{at-more, apart-more, count-more, count-room}
 use Rattle.fiduccia_mattheyses_pass.proofs.Worths.{Light, arcs-small, worth-small, gains-move}
-use Rattle.fiduccia_mattheyses_pass.proofs.Choices.{pick-choice, choice-in}
+use Rattle.fiduccia_mattheyses_pass.proofs.Chosen.{allowed-is, chosen}
+use Rattle.fiduccia_mattheyses_pass.proofs.Choices.{pick-choice}
 
 -- each weight is at most the total
 weight-most : (ws : List ℕ) (e : ℕ) → getD ws e 0 ≤ total ws
@@ -200,7 +200,6 @@ module _ (s : Setting) (n : ℕ) (f : Fixed s n) (st : State) (labels : List ℕ
   stops a = next-as (choice s labels (st .moved)) refl a
 
   goes-as : (o : Option ℕ) → choice s labels (st .moved) ≡ o → (v : ℕ) (g : ℤ) (b : ℕ) → asked ≡ Go v g b → Goes s n st labels v g b
-  unfolding allowed
   goes-as none e v g b a =
       let q : nextOf Nobody (c .bad) (s .badLimit) ≡ Go v g b = rw (pick-is, e) at a in
       let o : _≡_ {A = ℕ} 0 1 = cc in
@@ -208,21 +207,17 @@ module _ (s : Setting) (n : ℕ) (f : Fixed s n) (st : State) (labels : List ℕ
   goes-as (some u) e v g b a =
       let q : nextOf (Vertex u (worth s labels u) (after s labels u)) (c .bad) (s .badLimit) ≡ Go v g b = rw (pick-is, e) at a in
       let r = bad-go (isBad s labels u) (leb (s .badLimit) (st .bad)) u (worth s labels u) (st .bad) v g b (rw (on .bad-is) at q) in
-      let i = choice-in s labels (st .moved) gains (c .loads .at) (f .anyone) (light f) (on .gained) loads-are u e in
-      let al = i .1 in
+      let i = chosen s labels (st .moved) u .0 e in
+      let al = allowed-is s labels (st .moved) u (i .may) in
       let uv : u ≡ v = r .2 in
       record {
         next-is = rw (← uv) (next-some s st u (rw (on .labelled) at e) (rw (on .labelled) at (r .0)));
-        here = rw (← uv) (i .0);
+        here = rw (← uv) (i .here);
         gain-is = sym (r .3) ∙ ap (worth s labels) uv;
         bad-is = sym (r .1) ∙ ap (λ (x : ℕ). cond (isBad s labels x) (st .bad + 1) 0) uv;
-        new = rw (← uv) (not-member (member u (st .moved)) (and-right (s .movable u) (not (member u (st .moved))) (and-left (s .movable u && not (member u (st .moved))) (fits s labels u) al)));
-        within = rw (← uv) (and-right (s .movable u && not (member u (st .moved))) (fits s labels u) al);
+        new = rw (← uv) (al .1);
+        within = rw (← uv) (al .2);
       }
-    where
-      not-member : (t : Bool) → not t ≡ true → t ≡ false
-      not-member true x = let o : _≡_ {A = ℕ} 0 1 = cc in absurd (omega arith)
-      not-member false x = refl
 
   -- where the code goes on, so does the state, with the same vertex
   pub goes : (v : ℕ) (g : ℤ) (b : ℕ) → asked ≡ Go v g b → Goes s n st labels v g b

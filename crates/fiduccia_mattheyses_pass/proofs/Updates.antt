@@ -1,5 +1,5 @@
 -- Laws of a gain's shift, and of the gains brought up to date. Assumes nothing.
-use mathlib.Core.Path.{_≡_, refl, sym, _∙_}
+use mathlib.Core.Path.{_≡_, refl, sym, ap, ap₂, _∙_}
 use mathlib.Core.Bool.{Bool, true, false, cond}
 use mathlib.Core.List.{List}
 use Prim.Native.Nat.{ℕ, suc, _+_, _-_, _*_, _≤_, _<_}
@@ -9,16 +9,18 @@ use lib.ListN.{length, getD, set}
 use lib.Seq.{getD-set-same, getD-set-other, set-out}
 use borrow.Author.Tests.{eq-eqb, ne-eqb, eqb-true, eqb-false, ltb-true, ltb-false}
 use borrow.Author.Needs.{sfits-of}
-use lib.IntN.{ℤ, pos, _+ℤ_, _-ℤ_, _*ℤ_}
+use lib.IntN.{ℤ, pos, _+ℤ_}
 use lib.Signed.{mag}
-use mir.Facts.{toZ-ofZ, toZ-pos}
+use mir.Facts.{toZ-ofZ}
 use mir.Val.{toZ, ofZ, SFits}
 use mir.Syntax.{w64}
+use Rattle.topology.specs.Graph.{change}
 use Rattle.fiduccia_mattheyses_pass.specs.Scan.{isFree, slotOf}
 use Rattle.fiduccia_mattheyses_pass.specs.Update.{shift, updateAt, updated}
 use Rattle.fiduccia_mattheyses_pass.specs.declared.Slot.{Slot}
 use Rattle.fiduccia_mattheyses_pass.specs.declared.Slot.the-variants.{Locked, Free}
 use Rattle.lists.proofs.Differences.{mag-up, mag-down}
+use Rattle.topology.proofs.Gains.{twice-small}
 
 -- a signed number that went through memory is itself
 pub back : (z : ℤ) → mag z < 9223372036854775808 → toZ w64 (ofZ w64 z) ≡ z
@@ -39,30 +41,25 @@ locked-go false z e = refl
 locked-of : (s : Slot) (z : ℤ) → s ≡ slotOf z → s ≡ Locked → isFree z ≡ false
 locked-of s z p q = locked-go (isFree z) z (sym p ∙ q)
 
-module _ (g : ℤ) (w : ℕ) (hg : mag g < 4612811918334230528) (hw : w < 4294967296) where
-  -- the doubled weight, as it goes through memory
-  pub doubled : toZ w64 (ofZ w64 (pos 2 *ℤ toZ w64 w)) ≡ pos (2 * w)
-  doubled = rw (toZ-pos w64 {n = w} (omega arith)) (toZ-pos w64 {n = 2 * w} (omega arith))
-
-  pub double-fits : SFits w64 (pos 2 *ℤ toZ w64 w)
-  double-fits = rw (toZ-pos w64 {n = w} (omega arith)) (sfits-of (omega arith))
-
-  pub through : toZ w64 (ofZ w64 g) ≡ g
-  through = toZ-ofZ (sfits-of (omega arith))
-
-  pub up-fits : SFits w64 (g +ℤ pos (2 * w))
-  up-fits = sfits-of (omega (arith, mag-up g (2 * w)))
-
-  pub down-fits : SFits w64 (g -ℤ pos (2 * w))
-  down-fits = sfits-of (omega (arith, mag-down g (2 * w)))
-
-  pub shift-up : (p old : ℕ) → p ≡ old → (g +ℤ pos (2 * w) ≡ shift (eqb p old) g w) × (mag (g +ℤ pos (2 * w)) ≤ mag g + 8589934592)
+-- the gain g and what the arc adds to it, r, summed as they went through memory: the sum is the gain's shift, far from the ends of the range
+module _ (g : ℤ) (w : ℕ) (hg : mag g < 4612811918334230528) (hw : w < 4294967296) (t : Bool) (r : ℤ) (e : r ≡ change t w) where
+  shift-is : (u : Bool) → g +ℤ change u w ≡ shift u g w
   unfolding shift
-  shift-up p old e = (rw (eq-eqb p old e), omega (arith, mag-up g (2 * w)))
+  shift-is true = refl
+  shift-is false = refl
 
-  pub shift-down : (p old : ℕ) → (p ≡ old → ⊥) → (g -ℤ pos (2 * w) ≡ shift (eqb p old) g w) × (mag (g -ℤ pos (2 * w)) ≤ mag g + 8589934592)
-  unfolding shift
-  shift-down p old e = (rw (ne-eqb p old e), omega (arith, mag-down g (2 * w)))
+  shift-small : (u : Bool) → mag (g +ℤ change u w) ≤ mag g + 8589934592
+  shift-small true = omega (arith, mag-up g (2 * w))
+  shift-small false = omega (arith, mag-down g (2 * w))
+
+  summed : toZ w64 (ofZ w64 g) +ℤ toZ w64 (ofZ w64 r) ≡ g +ℤ change t w
+  summed = ap₂ _+ℤ_ (back g (omega arith)) (ap (λ (z : ℤ). toZ w64 (ofZ w64 z)) e ∙ back (change t w) (omega (arith, twice-small w hw t)))
+
+  pub sum-fits : SFits w64 (toZ w64 (ofZ w64 g) +ℤ toZ w64 (ofZ w64 r))
+  sum-fits = rw summed (sfits-of (omega (arith, shift-small t)))
+
+  pub sum-shifts : (toZ w64 (ofZ w64 (toZ w64 (ofZ w64 g) +ℤ toZ w64 (ofZ w64 r))) ≡ shift t g w) × (mag (toZ w64 (ofZ w64 (toZ w64 (ofZ w64 g) +ℤ toZ w64 (ofZ w64 r)))) ≤ mag g + 8589934592)
+  sum-shifts = rw (toZ-ofZ sum-fits, summed) (shift-is t, shift-small t)
 
 -- a number that is stored: nothing grows by more than what was added
 pub mag-set : (gs : List ℤ) (x y : ℕ) (h : ℤ) (m : ℕ) → ((k : ℕ) → mag (getD gs k (pos 0)) ≤ m) → mag h ≤ m → mag (getD (set gs x h) y (pos 0)) ≤ m

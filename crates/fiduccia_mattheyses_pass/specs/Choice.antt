@@ -1,8 +1,9 @@
 -- Which vertex FM moves next (document 01, "FM").
-use mathlib.Core.Bool.{Bool, false, not, _&&_, _||_}
+use mathlib.Core.Path.{_≡_}
+use mathlib.Core.Bool.{Bool, true, false, not, _&&_, _||_}
 use mathlib.Core.List.{List, [], _∷_}
 use mathlib.Core.Option.{Option}
-use Prim.Native.Nat.{ℕ, _+_, _-_}
+use Prim.Native.Nat.{ℕ, _+_, _-_, _<_}
 use lib.ListN.{length, getD, set}
 use lib.Dec.{ltb, leb, eqb}
 use lib.IntN.{ℤ, pos}
@@ -19,6 +20,10 @@ pub record Setting : Type 0 where
   pub movable : ℕ → Bool
   pub badLimit : ℕ
   pub moveLimit : ℕ
+
+-- the same setting, but for the move limit
+abbrev pub withMoveLimit : Setting → ℕ → Setting
+withMoveLimit s k = record { graph = s .graph; weights = s .weights; ceilings = s .ceilings; movable = s .movable; badLimit = s .badLimit; moveLimit = k }
 
 -- the other of the two parts
 abbrev pub other : ℕ → ℕ
@@ -55,6 +60,13 @@ module _ (s : Setting) where
 
   unfoldable pub choice : List ℕ → List ℕ → Option ℕ
   choice p moved = best (allowed p moved) (better p) (length p)
+
+  -- What the vertex v that is chosen is, with no word of how it is found: "among free vertices whose target load after the move is not above the ceiling, the largest gain, then the smallest such target load, then the lowest vertex". It is one of the n and allowed, no allowed vertex is better, and it is better than each allowed vertex that is lower.
+  pub record Chosen (p moved : List ℕ) (v : ℕ) : Type 0 where
+    pub here : v < length p
+    pub may : allowed p moved v ≡ true
+    pub top : (u : ℕ) → u < length p → allowed p moved u ≡ true → better p u v ≡ false
+    pub lowest : (u : ℕ) → u < v → allowed p moved u ≡ true → better p v u ≡ true
 
   -- "its gain is 0 or less"
   abbrev pub isBad : List ℕ → ℕ → Bool

@@ -31,13 +31,12 @@ pub fn fresh_gains(
     }
 }
 
-// A neighbour's gain after the arc's other end left part old: twice the weight is added where the neighbour stayed behind, and taken away where it is joined.
+// A neighbour's gain after the arc's other end left part old: twice the weight is added where the neighbour stayed behind, and that negated where it is joined.
 fn shifted(g: i64, w: u32, p: u32, old: u32) -> i64
     requires { ⌜ mag g < 4612811918334230528 ⌝ }
     ensures { λ r. ⌜ (r ≡ shift (eqb p old) g w) × (mag r ≤ mag g + 8589934592) ⌝ }
 {
-    let d = 2 * (w as i64);
-    if p == old { g + d } else { g - d }
+    g + topology::twice(w, p, old)
 }
 
 // The gains of the free neighbours, over the arcs from a up to b; a locked one is passed over.

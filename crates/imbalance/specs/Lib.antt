@@ -3,3 +3,5 @@ pub mod Limit
 pub mod Load
 pub mod Ceiling
 pub mod Number
+pub mod Rules
+pub mod Used

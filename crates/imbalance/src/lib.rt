@@ -3,6 +3,7 @@ ghost use mathlib.Core.Path.{_≡_};
 ghost use mathlib.Core.Bool.{false};
 ghost use Prim.Native.Nat.{_<_, _≤_};
 ghost use lib.Dec.{T};
+ghost use lib.Ieee.{binary64, ofBits};
 ghost use lib.ListN.{getD};
 ghost use Rattle.lists.specs.Sum.{total};
 ghost use Rattle.imbalance.specs.Limit.{mostWeight, heavy, labelAbove};
@@ -122,11 +123,24 @@ pub fn compute_parts_load(weights: &[u32], labels: &[u32]) -> LoadsAnswer
     LoadsAnswer { number: 0, loads }
 }
 
-// Whether e is from 0.0 to 64.0, -0.0 included.
+// Whether the bits are those of an e from 0.0 to 64.0, or of -0.0. No NaN is: its bits are above those of 64.0.
+pub fn legal_bits(bits: u64) -> bool
+    ensures { λ r. ⌜ r ≡ legalE (ofBits binary64 bits) ⌝ }
+{
+    if bits <= 0x4050_0000_0000_0000 {
+        return true;
+    }
+    bits == 0x8000_0000_0000_0000
+}
+
+// Whether e is from 0.0 to 64.0, -0.0 included. It is judged by its bits, so that no mode of the processor that takes the least numbers for zero bears on it; a NaN, which alone differs from itself, has no bits of its own.
 pub fn legal_e(e: f64) -> bool
     ensures { λ r. ⌜ r ≡ legalE e ⌝ }
 {
-    e >= 0.0 && e <= 64.0
+    if e != e {
+        return false;
+    }
+    legal_bits(f64::to_bits(e))
 }
 
 // Number 7's test of the choice. What the choice does not use is not looked at: e may be a NaN with choice 0 or 1.

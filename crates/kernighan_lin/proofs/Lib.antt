@@ -6,3 +6,5 @@ pub mod Keeps
 pub mod Ends
 pub mod Rewinds
 pub mod Bounds
+pub mod TwoLabels
+pub mod Refusals

@@ -2,3 +2,4 @@
 pub mod Run
 pub mod Entry
 pub mod Ready
+pub mod Rules

@@ -1,19 +1,19 @@
 -- Signed sums as the machine makes them, on bits. Assumes nothing.
 use mathlib.Core.Path.{_≡_, refl, sym, ap, ap₂, _∙_}
-use mathlib.Core.Bool.{Bool, true, false, cond}
+use mathlib.Core.Bool.{true}
 use mathlib.Core.List.{List}
-use Prim.Native.Nat.{ℕ, zero, suc, _+_, _*_, _-_, _^_, _≤_, _<_}
+use Prim.Native.Nat.{ℕ, suc, _+_, _*_, _-_, _^_, _≤_, _<_}
 use native.Mathlib.Omega.{arith}
 use lib.ListN.{getD}
-use lib.Dec.{T, eqb}
-use lib.IntN.{ℤ, pos, negsuc, negℤ, natAbs, _+ℤ_, _-ℤ_, _*ℤ_, +ℤ-idl}
+use lib.Dec.{T}
+use lib.IntN.{ℤ, pos, negsuc, natAbs, _+ℤ_, _-ℤ_}
 use lib.Signed.{mag, leZ, nonNeg}
 use borrow.Author.Needs.{sfits-of}
-use borrow.Author.Tests.{eq-eqb, ne-eqb, leb-true}
+use borrow.Author.Tests.{leb-true}
 use mir.Syntax.{w64}
 use mir.Val.{Fits, SFits, toZ, ofZ}
 use mir.ValLaws.{toZ-ofZ}
-use Rattle.lists.proofs.Differences.{by-sign, same, pos-is, minus, read, doubled}
+use Rattle.lists.proofs.Differences.{by-sign, same, pos-is, minus, read}
 use Rattle.kernighan_lin_pass.specs.Inner.{Within}
 
 pub mag-add : (x y : ℤ) → mag (x +ℤ y) ≤ mag x + mag y + 1
@@ -36,34 +36,6 @@ module _ (x y : ℤ) (hx : mag x < 2 ^ 62) (hy : mag y < 2 ^ 62 - 1) where
 -- a number of a list whose numbers are all far from the ends of the range
 pub place-read : (xs ys : List ℤ) (i m : ℕ) → xs ≡ ys → Within m ys → m < 2 ^ 62 → toZ w64 (ofZ w64 (getD xs i (pos 0))) ≡ getD ys i (pos 0)
 place-read xs ys i m e h l = ap (λ (z : List ℤ). toZ w64 (ofZ w64 (getD z i (pos 0)))) e ∙ toZ-ofZ w64 (getD ys i (pos 0)) (sfits-of (omega (arith, h i)))
-
--- twice a weight, and that negated
-module _ (w : ℕ) (h : w < 2 ^ 32) where
-  pub twice-fits : SFits w64 (pos 2 *ℤ toZ w64 w)
-  twice-fits = rw (doubled w h) (sfits-of (omega arith))
-
-  pub twice-kept : toZ w64 (ofZ w64 (pos 2 *ℤ toZ w64 w)) ≡ pos (2 * w)
-  twice-kept = toZ-ofZ w64 (pos 2 *ℤ toZ w64 w) twice-fits ∙ doubled w h
-
-  pub negated : pos 0 -ℤ toZ w64 (ofZ w64 (pos 2 *ℤ toZ w64 w)) ≡ negℤ (pos (2 * w))
-  negated = ap (λ (z : ℤ). pos 0 -ℤ z) twice-kept ∙ +ℤ-idl (negℤ (pos (2 * w)))
-
-  mag-neg : (k : ℕ) → mag (negℤ (pos k)) ≤ k
-  mag-neg zero = omega arith
-  mag-neg (suc k) = omega arith
-
-  pub negated-fits : SFits w64 (pos 0 -ℤ toZ w64 (ofZ w64 (pos 2 *ℤ toZ w64 w)))
-  negated-fits = rw negated (sfits-of (omega (arith, mag-neg (2 * w))))
-
-  pub twice-same : (label own : ℕ) → label ≡ own → toZ w64 (ofZ w64 (pos 2 *ℤ toZ w64 w)) ≡ cond (eqb label own) (pos (2 * w)) (negℤ (pos (2 * w)))
-  twice-same label own e = rw (eq-eqb label own e) twice-kept
-
-  pub twice-other : (label own : ℕ) → (label ≡ own → ⊥) → toZ w64 (ofZ w64 (pos 0 -ℤ toZ w64 (ofZ w64 (pos 2 *ℤ toZ w64 w)))) ≡ cond (eqb label own) (pos (2 * w)) (negℤ (pos (2 * w)))
-  twice-other label own e = rw (ne-eqb label own e) (toZ-ofZ w64 (pos 0 -ℤ toZ w64 (ofZ w64 (pos 2 *ℤ toZ w64 w))) negated-fits ∙ negated)
-
-  pub twice-small : (t : Bool) → mag (cond t (pos (2 * w)) (negℤ (pos (2 * w)))) ≤ 2 * w
-  twice-small true = omega arith
-  twice-small false = mag-neg (2 * w)
 
 -- b - g, where g is at most b
 module _ (b m : ℕ) (g : ℤ) (hm : m < 2 ^ 60) (hb : b ≤ m) (hg : mag g ≤ m) (below : leZ g (pos b) ≡ true) where

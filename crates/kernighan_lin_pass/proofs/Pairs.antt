@@ -57,6 +57,10 @@ module _ (s : Setting) (p : List ℕ) (before : List ℤ) (locks : List ℕ) whe
   unfolding pair
   pair-stops v w e f t = rw (e, pair) (rw f (rw t))
 
+  -- "If the two sum to 0 or less and the bad limit is 0, the pass ends": a sum of 0 is bad, so such a pair is not swapped.
+  pub zero-is-bad : (v w : ℕ) → choice-one ≡ some v → choice-two v ≡ some w → getD gains v (pos 0) +ℤ getD (told (s .graph) p v gains) w (pos 0) ≡ pos 0 → s .badLimit ≡ 0 → pair s p before locks ≡ none
+  zero-is-bad v w e f z b = pair-stops v w e f (rw (z, b) refl)
+
   pub pair-goes : (v w : ℕ) → choice-one ≡ some v → choice-two v ≡ some w → stop v w ≡ false → pair s p before locks ≡ some (record { one = v; two = w })
   unfolding pair
   pair-goes v w e f t = rw (e, pair) (rw f (rw t))

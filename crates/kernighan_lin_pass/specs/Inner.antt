@@ -18,7 +18,7 @@ use Rattle.kernighan_lin_pass.specs.Pass.{Setting, Swap, swapped, pair, 
 use Rattle.kernighan_lin_pass.specs.declared.choose.Pair.{Pair}
 use Rattle.kernighan_lin_pass.specs.declared.pass.Walked.{Walked}
 
--- What no number from 1 to 5 means for a graph of n vertices, without the vertex weights, which KL does not use.
+-- What follows for a graph of n vertices where no number from 1 to 5 applies, without the vertex weights, which KL does not use. The rules themselves are `graphRules` of topology's Rules.antt.
 pub record Fit (n : ℕ) (g : Graph) : Type 0 where
   pub rows : Rows n g
   pub symmetric : Symmetric n g

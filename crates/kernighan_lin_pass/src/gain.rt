@@ -57,14 +57,6 @@ pub fn add_fresh(
     }
 }
 
-// What an arc tells a neighbour: twice its weight, negated where the neighbour is in the other part.
-fn twice(w: u32, label: u32, own: u32) -> i64
-    ensures { λ r. ⌜ r ≡ cond (eqb label own) (pos (2 * w)) (negℤ (pos (2 * w))) ⌝ }
-{
-    let d = 2 * (w as i64);
-    if label == own { d } else { -d }
-}
-
 // The neighbours of v, which is taken, are told.
 pub fn tell(
     starts: &[u32],
@@ -83,7 +75,7 @@ pub fn tell(
     while e < end {
         let x = lists::index(neighbours[e]);
         let g = gains[x];
-        gains[x] = g + twice(arc_weights[e], labels[x], own);
+        gains[x] = g + topology::twice(arc_weights[e], labels[x], own);
         e += 1;
     }
 }

@@ -9,3 +9,4 @@ pub mod Fills
 pub mod Tables
 pub mod Differences
 pub mod Orders
+pub mod Smallests

@@ -1,12 +1,14 @@
--- Laws of `sum` as a sum: of equal parts, of two sums, in either order, and one part taken out. Assumes nothing.
+-- Laws of `sum` as a sum: of equal parts, of two sums, in either order, and one part taken out; and of `total`. Assumes nothing.
 use mathlib.Core.Path.{_≡_, refl, sym, ap, ap₂, _∙_}
 use mathlib.Core.Bool.{Bool, true, false, not}
+use mathlib.Core.List.{List, [], _∷_}
 use Prim.Native.Nat.{ℕ, zero, suc, _+_, _-_, _*_, _≤_, _<_}
 use native.Mathlib.Omega.{arith}
 use native.Mathlib.Nat.{add-zero, zero-add, add-suc, suc-mul}
+use lib.ListN.{length, getD}
 use lib.Dec.{eqb}
 use borrow.Author.Tests.{ne-eqb, eqb-true, eqb-false}
-use Rattle.lists.specs.Sum.{sum, between, weigh}
+use Rattle.lists.specs.Sum.{sum, between, weigh, total}
 use Rattle.lists.proofs.Bools.{weigh-split}
 
 pub sum-ext : (n : ℕ) (f g : ℕ → ℕ) → ((i : ℕ) → i < n → f i ≡ g i) → sum n f ≡ sum n g
@@ -114,3 +116,17 @@ sum-most (suc n) m f h =
     let r : f n ≤ m = h n (omega arith) in
     let q : suc n * m ≡ n * m + m = suc-mul n m in
     omega arith
+
+-- the first part, and those after it
+sum-head : (n : ℕ) (f : ℕ → ℕ) → sum (suc n) f ≡ f 0 + sum n (λ i. f (suc i))
+unfolding sum
+sum-head zero f = omega arith
+sum-head (suc n) f = let h : sum n f + f n ≡ f 0 + sum n (λ i. f (suc i)) = sum-head n f in omega arith
+
+pub total-none : total [] ≡ 0
+unfolding total sum
+total-none = refl
+
+pub total-cons : (x : ℕ) (xs : List ℕ) → total (x ∷ xs) ≡ x + total xs
+unfolding total
+total-cons x xs = sum-head (length xs) (λ i. getD (x ∷ xs) i 0)

@@ -4,3 +4,4 @@ pub mod All
 pub mod Best
 pub mod Fill
 pub mod Number
+pub mod Smallest

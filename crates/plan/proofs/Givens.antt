@@ -23,7 +23,8 @@ use Rattle.imbalance.specs.Ceiling.{zero64, legalE, unfitChoice}
 use Rattle.imbalance.proofs.Choices.{fit-legal}
 use Rattle.plan_blocks.specs.Word.{wrap}
 use Rattle.plan_blocks.specs.Plan.{Plan, Legal, outOfRange, unfitValue, valueOf}
-use Rattle.plan_blocks.proofs.Bits.{legal-number, fit-whole}
+use Rattle.imbalance.proofs.Patterns.{legal-number}
+use Rattle.plan_blocks.proofs.Bits.{fit-whole}
 use Rattle.plan_blocks.proofs.Accepts.{in-range}
 use Rattle.plan.specs.Read.{startsOf}
 use Rattle.plan.specs.Write.{Given, planWith, planFrom, vertices, arcs, unfit, miscounted, rising, badStarts, badLabels, sizeOf, writeNumber}

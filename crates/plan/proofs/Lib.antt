@@ -6,3 +6,4 @@ pub mod WriteEntry
 pub mod Givens
 pub mod Trips
 pub mod Unique
+pub mod Unused

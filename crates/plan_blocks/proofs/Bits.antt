@@ -1,26 +1,15 @@
--- A legal e and its bits: a legal e is no NaN, and a value that fits its choice is what its choice asks. Assumes nothing.
-use mathlib.Core.Path.{_≡_, refl, sym, subst}
+-- A legal e and its bits: they are no NaN's, and a value that fits its choice is what its choice asks. Assumes nothing.
+use mathlib.Core.Path.{_≡_, sym, subst}
 use mathlib.Core.Bool.{Bool, false, not}
 use Prim.Native.Nat.{ℕ, _<_}
 use lib.Dec.{T}
-use lib.Ieee.{Float, nan, inf, fin, binary64, ofBits, nanBits, isNan, le}
+use lib.Ieee.{binary64, ofBits, nanBits}
 use lib.Ieee.Bits.{nanBits-is}
 use borrow.Author.Tests.{not-false, leb-false}
 use Rattle.imbalance.specs.Ceiling.{legalE}
+use Rattle.imbalance.proofs.Patterns.{legal-number}
 use Rattle.plan_blocks.specs.Word.{wrap}
 use Rattle.plan_blocks.specs.Plan.{unfitValue}
-
-pub legal-number : (e : Float) → T (legalE e) → T (not (isNan e))
-unfolding isNan legalE le
-legal-number nan h = absurd h
-legal-number (inf s) h = tt
-legal-number (fin s m e) h = tt
-
-pub nan-illegal : (e : Float) → T (isNan e) → legalE e ≡ false
-unfolding isNan legalE le
-nan-illegal nan h = refl
-nan-illegal (inf s) h = absurd h
-nan-illegal (fin s m e) h = absurd h
 
 -- the bits of a legal e are no NaN's
 pub legal-bits : (n : ℕ) → T (legalE (ofBits binary64 n)) → T (not (nanBits binary64 n))

@@ -15,17 +15,6 @@ pub fn paired(low: u32, high: u32) -> u64
     (low as u64) + 4294967296 * (high as u64)
 }
 
-// Whether the bits are those of a legal e. A NaN's pattern is no float that `from_bits` takes, so it is refused first.
-fn legal_bits(bits: u64) -> bool
-    ensures { λ r. ⌜ r ≡ legalE (ofBits binary64 bits) ⌝ }
-{
-    let low = bits % 0x8000_0000_0000_0000;
-    if 0x7ff0_0000_0000_0000 < low {
-        return false;
-    }
-    imbalance::legal_e(f64::from_bits(bits))
-}
-
 // The imbalance of a legal e's bits.
 fn imbalance_from(bits: u64) -> f64
     requires { ⌜ T (legalE (ofBits binary64 bits)) ⌝ }
@@ -53,7 +42,7 @@ pub fn unfit_value(choice: u32, value: u64) -> bool
         return 4294967296 <= value;
     }
     if choice == 2 {
-        if legal_bits(value) {
+        if imbalance::legal_bits(value) {
             return false;
         }
         return true;

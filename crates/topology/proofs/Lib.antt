@@ -9,4 +9,8 @@ pub mod Arounds
 pub mod Rowsums
 pub mod Pairs
 pub mod Moves
+pub mod Gains
 pub mod Unique
+pub mod EqualOpposites
+pub mod CoupesWords
+pub mod Refusals

@@ -59,7 +59,7 @@ module _ (n : ℕ) (g : Graph) where
       let r = not-false (rowsOk n g) (three .0) in
       (rows-hold (one .0) (two .0) r, symmetric n g r (not-false (answered n g) (four .0)))
 
--- "0 only if none does"
+-- what number 0 gives to the refiners; that it is given exactly where every rule is kept is in Refusals.antt
 pub sound : (n : ℕ) (weights : List ℕ) (g : Graph) → graphNumber n weights g ≡ 0 → Sound n weights g
 unfolding graphNumber
 sound n ws g e =

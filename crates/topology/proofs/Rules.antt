@@ -8,13 +8,15 @@ use native.Mathlib.Nat.{le-antisymm}
 use lib.Dec.{ltb, eqb}
 use borrow.Author.Tests.{eq-eqb, ne-eqb, eqb-true, eqb-false, ltb-true, ltb-false, not-true, not-false}
 use Rattle.lists.specs.Sum.{sum, between, weigh}
-use Rattle.lists.specs.All.{all, allFrom, someFrom}
+use Rattle.lists.specs.All.{all, allFrom}
 use Rattle.lists.proofs.Bools.{and-left, and-right}
 use Rattle.lists.proofs.Totals.{sum-ext, sum-zero, sum-only, sum-holds}
-use Rattle.lists.proofs.Alls.{all-at, from-at, all-witness, some-witness}
+use Rattle.lists.proofs.Alls.{all-at, all-witness}
 use Rattle.topology.proofs.Rises.{chain, arc-rule, step-rises}
+use Rattle.topology.proofs.EqualOpposites.{opposites}
 use Rattle.topology.specs.Graph.{Graph, inRows, first, past, neighbour, weight, arcs, joins}
-use Rattle.topology.specs.Rule.{startsOk, arcOk, rowOk, rowsOk, hasArc, rowAnswered, answered, Symmetric}
+use Rattle.topology.specs.Rule.{startsOk, arcOk, rowOk, rowsOk, answered, Symmetric}
+use Rattle.topology.specs.Rules.{Arc}
 
 -- a row of m arcs whose ends rise
 module _ (m : ℕ) (to wt : ℕ → ℕ) (rises : (i : ℕ) → suc i < m → to i < to (suc i)) where
@@ -44,7 +46,7 @@ module _ (n : ℕ) (g : Graph) (rows : rowsOk n g ≡ true) where
       let r = eqb e (first g u) || ltb (neighbour g (e - 1)) t in
       ltb-true t n (and-left (ltb t n) (not (eqb t u)) (and-left (ltb t n && not (eqb t u)) r (arc-rule n g rows u lu e a b)))
 
-  arc-other : (u e : ℕ) → u < n → first g u ≤ e → e < past g u → eqb (neighbour g e) u ≡ false
+  pub arc-other : (u e : ℕ) → u < n → first g u ≤ e → e < past g u → eqb (neighbour g e) u ≡ false
   unfolding arcOk
   arc-other u e lu a b =
       let t = neighbour g e in
@@ -61,20 +63,6 @@ module _ (n : ℕ) (g : Graph) (rows : rowsOk n g ≡ true) where
   no-loop u lu = nowhere (past g u - first g u) u (λ k. neighbour g (first g u + k)) (λ k. weight g (first g u + k)) (λ k l. arc-other u (first g u + k) lu (omega arith) (omega arith))
 
   module _ (evens : answered n g ≡ true) where
-    opposite : (u e : ℕ) → u < n → first g u ≤ e → e < past g u → hasArc g (neighbour g e) u (weight g e) ≡ true
-    unfolding answered
-    opposite u e lu a b =
-        from-at (first g u) (past g u) (λ e. hasArc g (neighbour g e) u (weight g e)) e
-        (all-at n u (rowAnswered g) evens lu) a b
-
-    has-one : (v u w : ℕ) → hasArc g v u w ≡ true → (j : ℕ) × (j < past g v - first g v) × (eqb (neighbour g (first g v + j)) u ≡ true) × (weight g (first g v + j) ≡ w)
-    unfolding hasArc someFrom
-    has-one v u w e =
-        let r = some-witness (past g v - first g v) (λ i. eqb (neighbour g (first g v + i)) u && eqb (weight g (first g v + i)) w) e in
-        let a = eqb (neighbour g (first g v + r .0)) u in
-        let b = eqb (weight g (first g v + r .0)) w in
-        (r .0, r .1, and-left a b (r .2), eqb-true (weight g (first g v + r .0)) w (and-right a b (r .2)))
-
     one-way : (u x : ℕ) → u < n → x < n → joins g u x ≤ joins g x u
     unfolding joins arcs between
     one-way u x lu lx = go (all m (λ k. not (eqb (to k) x))) refl
@@ -99,9 +87,13 @@ module _ (n : ℕ) (g : Graph) (rows : rowsOk n g ≡ true) where
 
         found : (i : ℕ) → i < m → to i ≡ x → sum m (λ k. weigh (eqb (to k) x) (wt k)) ≤ sum m′ (λ k. weigh (eqb (to′ k) u) (wt′ k))
         found i li q =
-            let o = has-one x u (wt i) (rw q at (opposite u (first g u + i) lu (omega arith) (omega arith))) in
+            let o : Arc g x u (wt i) = rw q at (opposites n g .0 evens u (first g u + i) lu (omega arith, omega arith)) in
             let a = lone m to wt (λ k l. arc-rises u k lu l) i x li q in
-            let b = rw (o .2) at (sum-holds m′ (o .0) (λ k. weigh (eqb (to′ k) u) (wt′ k)) (o .1)) in
+            let from = o .1 .0 in
+            let upto = o .1 .1 in
+            let j = o .0 - first g x in
+            let at : first g x + j ≡ o .0 = omega arith in
+            let b = rw (at, eq-eqb (neighbour g (o .0)) u (o .2)) at (sum-holds m′ j (λ k. weigh (eqb (to′ k) u) (wt′ k)) (omega arith)) in
             let w = o .3 in
             omega arith
 

@@ -1,10 +1,10 @@
 -- The graph in rows, and the weight of a vertex's arcs (document 01, "The graph and its numbers").
-use mathlib.Core.Bool.{Bool}
+use mathlib.Core.Bool.{Bool, cond}
 use mathlib.Core.List.{List}
-use Prim.Native.Nat.{ℕ, _+_}
+use Prim.Native.Nat.{ℕ, _+_, _*_}
 use lib.ListN.{getD}
 use lib.Dec.{eqb}
-use lib.IntN.{ℤ, subℕ}
+use lib.IntN.{ℤ, pos, negℤ, subℕ}
 use Rattle.lists.specs.Sum.{between, weigh}
 use Rattle.imbalance.specs.Load.{part}
 
@@ -40,6 +40,10 @@ into g p u t = arcs g u (λ v. eqb (part p v) t)
 -- "Gain of a vertex to a target part: arc weight into the target less arc weight into its own part." `subℕ a b` is the whole number a - b.
 unfoldable pub gain : Graph → List ℕ → ℕ → ℕ → ℤ
 gain g p u t = subℕ (into g p u t) (into g p u (part p u))
+
+-- what an arc of weight w changes of a vertex's gain when its other end leaves part `own`: twice the weight, negated where the vertex is in another part than `own`
+abbrev pub change : Bool → ℕ → ℤ
+change behind w = cond behind (pos (2 * w)) (negℤ (pos (2 * w)))
 
 -- the weight of the arcs from u to x
 unfoldable pub joins : Graph → ℕ → ℕ → ℕ

@@ -5,3 +5,5 @@ pub mod Lookup
 pub mod Cut
 pub mod Number
 pub mod EightBlockGrid
+pub mod Rules
+pub mod Coupe

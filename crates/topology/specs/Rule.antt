@@ -1,4 +1,4 @@
--- The rules of a graph (document 01, "The graph and its numbers"): numbers 1 to 5, each as its line of the table.
+-- The tests of a graph (document 01, "The graph and its numbers"): numbers 1 to 5, each as its line of the table. Rules.antt has the rules that they test.
 use mathlib.Core.Path.{_≡_}
 use mathlib.Core.Bool.{Bool, not, cond, _&&_, _||_}
 use mathlib.Core.List.{List}
@@ -66,7 +66,7 @@ graphNumber n weights g =
     (orElse (rowsNumber n g)
     (cond (heavy weights || heavy (g .weights)) 5 0))
 
--- What 1, 2 and 3 not applying means: n vertices, every row within the arcs, every neighbour a vertex.
+-- What follows where 1, 2 and 3 do not apply, and what the loops ask: every row within the arcs, every neighbour a vertex. The rules themselves are `Lengths`, `Limits` and `RowRules` of Rules.antt.
 pub record Rows (n : ℕ) (g : Graph) : Type 0 where
   pub few : n ≤ mostVertices
   pub counted : length (g .starts) ≡ n + 1
@@ -82,7 +82,7 @@ pub record Symmetric (n : ℕ) (g : Graph) : Type 0 where
   pub equal : (u x : ℕ) → u < n → x < n → joins g u x ≡ joins g x u
   pub loopless : (u : ℕ) → u < n → joins g u u ≡ 0
 
--- What no number from 1 to 5 means.
+-- What follows where no number from 1 to 5 applies, and what the refiners ask. The rules themselves are `graphRules` of Rules.antt.
 pub record Sound (n : ℕ) (weights : List ℕ) (g : Graph) : Type 0 where
   pub rows : Rows n g
   pub symmetric : Symmetric n g

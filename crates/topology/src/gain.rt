@@ -1,10 +1,10 @@
-// The gain of a vertex. Document 01, "Gain of a vertex to a target part".
+// The gain of a vertex, and what a move changes of it. Document 01, "Gain of a vertex to a target part" and "i64 gains added, negated and doubled".
 ghost use mathlib.Core.Path.{_≡_};
 ghost use Prim.Native.Nat.{_<_};
 ghost use lib.ListN.{length};
 ghost use lib.Dec.{eqb};
 ghost use Rattle.lists.specs.Sum.{weigh};
-ghost use Rattle.topology.specs.Graph.{inRows, gain};
+ghost use Rattle.topology.specs.Graph.{inRows, gain, change};
 ghost use Rattle.topology.specs.Rule.{Rows};
 
 // An arc's weight where it goes into part t, else 0.
@@ -40,4 +40,12 @@ pub fn gain_of(
         e += 1;
     }
     (there as i64) - (here as i64)
+}
+
+// What an arc of weight w adds to a vertex's gain when its other end leaves part own: twice the weight, negated where the vertex has another label. A weight of 0 adds 0, as -0 is 0.
+pub fn twice(w: u32, label: u32, own: u32) -> i64
+    ensures { λ r. ⌜ r ≡ change (eqb label own) w ⌝ }
+{
+    let d = 2 * (w as i64);
+    if label == own { d } else { -d }
 }

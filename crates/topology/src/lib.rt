@@ -7,6 +7,7 @@ mod rows;
 
 pub use cut::cut_of;
 pub use gain::gain_of;
+pub use gain::twice;
 pub use lambda::lambda_of;
 ghost use mathlib.Core.Path.{_≡_};
 ghost use Rattle.topology.specs.Graph.{inRows};

@@ -31,14 +31,20 @@ slice-aggregate-with-8-moves-8 c = search needs
 with-8-moves-requires : tie.Need-with-8-moves-requires
 with-8-moves-requires c κs = search needs
 
-cast-t33 : tie.Need-cast-t33
-cast-t33 c = search needs
-
 cast-t34 : tie.Need-cast-t34
 cast-t34 c = search needs
 
 cast-t35 : tie.Need-cast-t35
 cast-t35 c = search needs
+
+cast-t36 : tie.Need-cast-t36
+cast-t36 c = search needs
+
+element-copy-out-t39 : tie.Need-element-copy-out-t39
+element-copy-out-t39 c = search needs
+
+element-copy-out-t42 : tie.Need-element-copy-out-t42
+element-copy-out-t42 c = search needs
 
 array-read-wide : tie.Need-array-read-wide
 array-read-wide c = search needs
@@ -80,7 +86,11 @@ both-requires : tie.Need-both-requires
 both-requires c κs = search needs
 
 returns : tie.Need-returns
-returns c = fm-gives _ _ _ _ _ _ _ _ _ _ _ _ _ _ quarter-is (c .before .before .before .before .before .before .before .before .before .before .before .before .before .before .before .before .with-8-moves .ensures) (c .before .before .before .before .before .before .before .before .wide .ensures) (c .before .before .before .before .before .before .before .wide2 .ensures) (c .before .before .before .before .before .before .wide3 .ensures) (c .before .before .before .before .before .wide4 .ensures) (c .before .before .before .same-labels .ensures) (c .before .same-numbers .ensures) (c .both .ensures)
+returns c =
+    let compared : tie.After-same-labels = c .before .before .before in
+    let counted : tie.After-wide4 = compared .before .before in
+    let called : tie.After-with-8-moves = counted .before .before .before .before .before .before .before .before .before .before .before .before .before .before in
+    fm-gives _ _ _ _ _ _ _ _ _ _ _ _ _ _ quarter-is (called .with-8-moves .ensures) (counted .before .before .before .wide .ensures) (counted .before .before .wide2 .ensures) (counted .before .wide3 .ensures) (counted .wide4 .ensures) (compared .same-labels .ensures) (c .before .same-numbers .ensures) (c .both .ensures)
 
 pub fm-gives-spec : {M : Type 1} → statement M
 fm-gives-spec =
@@ -95,9 +105,11 @@ fm-gives-spec =
     slice-aggregate-with-8-moves-7
     slice-aggregate-with-8-moves-8
     with-8-moves-requires
-    cast-t33
     cast-t34
     cast-t35
+    cast-t36
+    element-copy-out-t39
+    element-copy-out-t42
     array-read-wide
     wide-requires
     array-read-wide-2

@@ -1,8 +1,8 @@
--- `eight_block_grid::self_test` meets its contract: no row differs, so each way out but the last is closed. Assumes nothing.
+-- `eight_block_grid::self_test` meets its contract: nothing differs, so each way out but the last is closed. Assumes nothing.
 use mathlib.Core.Path.{refl, sym}
 use borrow.Author.Needs.{needs}
 use Rattle.eight_block_grid.proofs.Rows.{ten-rows}
-use Rattle.eight_block_grid.proofs.Holds.{holds-1, holds-2, holds-3, holds-4, holds-5, holds-6, holds-7, holds-8, holds-9, holds-10, none-differs, not-so}
+use Rattle.eight_block_grid.proofs.Holds.{holds-1, holds-2, holds-3, holds-4, holds-5, holds-6, holds-7, holds-8, holds-9, holds-10, rounds-hold, none-differs, not-so}
 use Rattle.eight_block_grid.proofs.self_test.Statement.{statement}
 use Rattle.eight_block_grid.proofs.self_test.Tie as tie
 
@@ -66,8 +66,14 @@ row-10-requires c κs = search needs
 returns-10 : tie.Need-returns-10
 returns-10 c = not-so (holds-10 ten-rows) (c .before .row-10 .ensures) (c .if10 .taken)
 
+rounds-well-requires : tie.Need-rounds-well-requires
+rounds-well-requires c κs = search needs
+
 returns-11 : tie.Need-returns-11
-returns-11 c = record { compared = sym (none-differs ten-rows); none-differs = refl }
+returns-11 c = not-so rounds-hold (c .before .rounds-well .ensures) (c .if11 .taken)
+
+returns-12 : tie.Need-returns-12
+returns-12 c = record { compared = sym (none-differs ten-rows); none-differs = refl }
 
 pub self-test-spec : {M : Type 1} → statement M
 self-test-spec =
@@ -93,4 +99,6 @@ self-test-spec =
     returns-9
     row-10-requires
     returns-10
-    returns-11)
+    rounds-well-requires
+    returns-11
+    returns-12)

@@ -25,14 +25,20 @@ slice-aggregate-arc-swap-counted-6 c = search needs
 arc-swap-counted-requires : tie.Need-arc-swap-counted-requires
 arc-swap-counted-requires c κs = search needs
 
-cast-t27 : tie.Need-cast-t27
-cast-t27 c = search needs
-
 cast-t28 : tie.Need-cast-t28
 cast-t28 c = search needs
 
 cast-t29 : tie.Need-cast-t29
 cast-t29 c = search needs
+
+cast-t30 : tie.Need-cast-t30
+cast-t30 c = search needs
+
+element-copy-out-t33 : tie.Need-element-copy-out-t33
+element-copy-out-t33 c = search needs
+
+element-copy-out-t36 : tie.Need-element-copy-out-t36
+element-copy-out-t36 c = search needs
 
 slice-aggregate-same-labels : tie.Need-slice-aggregate-same-labels
 slice-aggregate-same-labels c = search needs
@@ -50,7 +56,10 @@ both-requires : tie.Need-both-requires
 both-requires c κs = search needs
 
 returns : tie.Need-returns
-returns c = swap-gives _ _ _ _ _ _ _ _ quarter-is (c .before .before .before .before .before .before .before .before .before .before .before .before .arc-swap-counted .ensures) (c .before .before .before .same-labels .ensures) (c .before .same-numbers .ensures) (c .both .ensures)
+returns c =
+    let compared : tie.After-same-labels = c .before .before .before in
+    let called : tie.After-arc-swap-counted = compared .before .before .before .before .before .before .before .before .before .before .before .before in
+    swap-gives _ _ _ _ _ _ _ _ quarter-is (called .arc-swap-counted .ensures) (compared .same-labels .ensures) (c .before .same-numbers .ensures) (c .both .ensures)
 
 pub swap-gives-spec : {M : Type 1} → statement M
 swap-gives-spec =
@@ -63,9 +72,11 @@ swap-gives-spec =
     slice-aggregate-arc-swap-counted-5
     slice-aggregate-arc-swap-counted-6
     arc-swap-counted-requires
-    cast-t27
     cast-t28
     cast-t29
+    cast-t30
+    element-copy-out-t33
+    element-copy-out-t36
     slice-aggregate-same-labels
     same-labels-requires
     slice-aggregate-same-numbers

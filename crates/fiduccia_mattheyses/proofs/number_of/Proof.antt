@@ -5,12 +5,6 @@ use Rattle.fiduccia_mattheyses.specs.Entry.{numberOf}
 use borrow.Author.Needs.{needs}
 use Rattle.fiduccia_mattheyses.proofs.number_of.Statement.{statement}
 use Rattle.fiduccia_mattheyses.proofs.number_of.Tie as tie
-use Rattle.fiduccia_mattheyses.proofs.number_of.Reads as reads
-use Rattle.fiduccia_mattheyses.proofs.number_of.Lts as lts
-use Rattle.fiduccia_mattheyses.proofs.too_short.Reads as too-short-reads
-use Rattle.fiduccia_mattheyses.proofs.unfit_settings.Reads as unfit-settings-reads
-use Rattle.imbalance.proofs.label_above.Reads as label-above-reads
-use Rattle.topology.proofs.graph_number.Reads as graph-number-reads
 
 graph-number-requires : tie.Need-graph-number-requires
 graph-number-requires c κs = search needs
@@ -24,25 +18,39 @@ label-above-requires c κs = search needs
 
 returns-2 : tie.Need-returns-2
 unfolding numberOf
-returns-2 c = rw (or-else-then _ _ _ (c .before .before .before .graph-number .ensures) (c .before .before .if1 .left), sym (c .before .label-above .ensures) ∙ c .if2 .taken)
+returns-2 c =
+    let fit : tie.Else1 = search needs in
+    rw (or-else-then _ _ _ (fit .before .graph-number .ensures) (fit .if1 .left), sym (c .before .label-above .ensures) ∙ c .if2 .taken)
 
 unfit-settings-requires : tie.Need-unfit-settings-requires
 unfit-settings-requires c κs = search needs
 
-returns-3 : tie.Need-returns-3
-unfolding numberOf
-returns-3 c = rw (or-else-then _ _ _ (c .before .before .before .before .before .graph-number .ensures) (c .before .before .before .before .if1 .left), sym (c .before .before .before .label-above .ensures) ∙ c .before .before .if2 .left, sym (c .before .unfit-settings .ensures) ∙ c .if3 .taken)
-
 too-short-requires : tie.Need-too-short-requires
 too-short-requires c κs = search needs
 
+returns-3 : tie.Need-returns-3
+unfolding numberOf
+returns-3 c =
+    let tested : tie.After-too-short = search needs in
+    let named : tie.Else2 = search needs in
+    let fit : tie.Else1 = search needs in
+    rw (or-else-then _ _ _ (fit .before .graph-number .ensures) (fit .if1 .left), sym (named .before .label-above .ensures) ∙ named .if2 .left, sym (tested .before .unfit-settings .ensures) ∙ c .if3 .taken)
+
 returns-4 : tie.Need-returns-4
 unfolding numberOf
-returns-4 c = rw (or-else-then _ _ _ (c .before .before .before .before .before .before .before .graph-number .ensures) (c .before .before .before .before .before .before .if1 .left), sym (c .before .before .before .before .before .label-above .ensures) ∙ c .before .before .before .before .if2 .left, sym (c .before .before .before .unfit-settings .ensures) ∙ c .before .before .if3 .left, sym (c .before .too-short .ensures) ∙ c .if4 .taken)
+returns-4 c =
+    let tested : tie.After-too-short = search needs in
+    let named : tie.Else2 = search needs in
+    let fit : tie.Else1 = search needs in
+    rw (or-else-then _ _ _ (fit .before .graph-number .ensures) (fit .if1 .left), sym (named .before .label-above .ensures) ∙ named .if2 .left, sym (tested .before .unfit-settings .ensures) ∙ c .before .if3 .left, sym (tested .too-short .ensures) ∙ c .if4 .taken)
 
 returns-5 : tie.Need-returns-5
 unfolding numberOf
-returns-5 c = rw (or-else-then _ _ _ (c .before .before .before .before .before .before .before .graph-number .ensures) (c .before .before .before .before .before .before .if1 .left), sym (c .before .before .before .before .before .label-above .ensures) ∙ c .before .before .before .before .if2 .left, sym (c .before .before .before .unfit-settings .ensures) ∙ c .before .before .if3 .left, sym (c .before .too-short .ensures) ∙ c .if4 .left)
+returns-5 c =
+    let tested : tie.After-too-short = search needs in
+    let named : tie.Else2 = search needs in
+    let fit : tie.Else1 = search needs in
+    rw (or-else-then _ _ _ (fit .before .graph-number .ensures) (fit .if1 .left), sym (named .before .label-above .ensures) ∙ named .if2 .left, sym (tested .before .unfit-settings .ensures) ∙ c .before .if3 .left, sym (tested .too-short .ensures) ∙ c .if4 .left)
 
 pub number-of-spec : {M : Type 1} → statement M
 number-of-spec =
@@ -53,7 +61,7 @@ number-of-spec =
     label-above-requires
     returns-2
     unfit-settings-requires
-    returns-3
     too-short-requires
+    returns-3
     returns-4
     returns-5)

@@ -6,33 +6,43 @@ use native.Mathlib.Omega.{arith}
 use lib.ListN.{length}
 use borrow.Author.Needs.{needs}
 use Rattle.fiduccia_mattheyses.proofs.Entering.{loadable, take-long, joined-long, joined-past, passes-asked, ran}
-use borrow.Author.Needs.{needs}
 use Rattle.fiduccia_mattheyses.proofs.refine.Statement.{statement}
 use Rattle.fiduccia_mattheyses.proofs.refine.Proof.Tie as tie
-use Rattle.fiduccia_mattheyses.proofs.walk.refine.Reads as reads
-use Rattle.fiduccia_mattheyses.proofs.refine.Proof.Lts as lts
-use Rattle.fiduccia_mattheyses.proofs.walk.clear.Reads as clear-reads
-use Rattle.fiduccia_mattheyses.proofs.walk.make_passes.Reads as make-passes-reads
-use Rattle.fiduccia_mattheyses.proofs.run_report.Reads as run-report-reads
-use Rattle.imbalance.proofs.ceilings_of.Reads as ceilings-of-reads
-use Rattle.imbalance.proofs.parts_load.Reads as parts-load-reads
-use Rattle.imbalance.proofs.total_weight.Reads as total-weight-reads
-use Rattle.lists.proofs.clear_gains.Reads as clear-gains-reads
-use Rattle.lists.proofs.index.Reads as index-reads
-use Rattle.lists.proofs.wide.Reads as wide-reads
-use Rattle.topology.proofs.cut_of.Reads as cut-of-reads
+
+-- ---- the stations: what the function was given, and what it knows before the passes
+abbrev given : tie.After-parts-load → tie.Start
+given loaded = search needs
+
+abbrev counted : tie.After-make-passes → tie.After-index
+counted passed = search needs
+
+abbrev measured : tie.After-index → tie.After-cut-of
+measured limits = search needs
+
+abbrev capped : tie.After-cut-of → tie.After-ceilings-of
+capped cut = search needs
+
+abbrev loaded : tie.After-ceilings-of → tie.After-parts-load
+loaded ceilings = search needs
+
+abbrev start : tie.After-make-passes → tie.Start
+start passed = given (loaded (capped (measured (counted passed))))
 
 parts-load-requires : tie.Need-parts-load-requires
-parts-load-requires c κs = loadable _ _ (c .before .before .before .before .before .before .before .before .pre)
+parts-load-requires c κs =
+    let first : tie.Start = search needs in
+    loadable _ _ (first .pre)
 
 total-weight-requires : tie.Need-total-weight-requires
-total-weight-requires c κs = c .before .before .before .before .before .before .before .before .before .pre .sound .light
+total-weight-requires c κs = given c .pre .sound .light
 
 ceilings-of-requires : tie.Need-ceilings-of-requires
-ceilings-of-requires c κs = (rw (c .total-weight .ensures) (c .before .before .before .before .before .before .before .before .before .before .pre .sound .light), search needs, search needs, c .before .before .before .before .before .before .before .before .before .before .pre .fit)
+ceilings-of-requires c κs =
+    let first = given (c .before) in
+    (rw (c .total-weight .ensures) (first .pre .sound .light), search needs, search needs, first .pre .fit)
 
 cut-of-requires : tie.Need-cut-of-requires
-cut-of-requires c κs = c .before .before .before .before .before .before .before .before .before .before .before .before .pre .sound .rows
+cut-of-requires c κs = given (loaded (c .before)) .pre .sound .rows
 
 wide-requires : tie.Need-wide-requires
 wide-requires c κs = search needs
@@ -41,40 +51,65 @@ index-requires : tie.Need-index-requires
 index-requires c κs = search needs
 
 slice-relend-prefix-make-passes : tie.Need-slice-relend-prefix-make-passes
-slice-relend-prefix-make-passes c = c .before .before .before .before .before .before .before .before .before .before .before .before .before .before .before .before .pre .in-gains
+slice-relend-prefix-make-passes c = given (loaded (capped (measured (c .before)))) .pre .in-gains
 
 slice-aggregate-make-passes : tie.Need-slice-aggregate-make-passes
-slice-aggregate-make-passes c = sym (take-long _ (c .before .before .before .before .before .before .before .before .before .before .before .before .before .before .before .before .before .args .gains .now) (c .before .before .before .before .before .before .before .before .before .before .before .before .before .before .before .before .before .pre .in-gains))
+slice-aggregate-make-passes c =
+    let first = given (loaded (capped (measured (c .before .before)))) in
+    sym (take-long _ (first .args .gains .now) (first .pre .in-gains))
 
 make-passes-requires : tie.Need-make-passes-requires
-make-passes-requires c κs = passes-asked _ _ (c .before .before .before .before .before .before .before .before .before .before .before .before .before .before .before .before .before .before .before .before .pre) _ _ _ _ _ _ (c .before .before .before .before .before .before .before .before .before .before .before .parts-load .ensures) (c .before .before .before .before .before .before .before .before .before .before .total-weight .ensures) (c .before .before .before .before .before .before .before .before .before .ceilings-of .ensures) (c .before .before .before .before .before .before .before .cut-of .ensures) (c .before .before .before .before .before .before .wide .ensures) (c .before .before .before .before .before .index .ensures) _ (take-long _ (c .before .before .before .before .before .before .before .before .before .before .before .before .before .before .before .before .before .before .before .before .args .gains .now) (c .before .before .before .before .before .before .before .before .before .before .before .before .before .before .before .before .before .before .before .before .pre .in-gains))
-
-clear-gains-requires : tie.Need-clear-gains-requires
-clear-gains-requires c κs = let h = joined-long (length (c .before .before .before .before .before .before .before .before .before .before .before .before .before .before .before .before .before .before .before .before .before .before .before .before .before .before .before .before .before .before .args .labels .now)) (c .before .before .before .before .before .before .before .before .before .before .before .before .before .before .before .before .before .before .before .before .before .before .before .before .before .before .before .before .before .before .args .gains .now) (c .before .before .before .before .before .before .before .before .before .make-passes .last .1 .1 .1 .1 .1 .0) (c .before .before .before .before .before .before .before .before .before .make-passes .kept .1 .1 .1 .1 .1 .0) (c .before .before .before .before .before .before .before .before .before .before .before .before .before .before .before .before .before .before .before .before .before .before .before .before .before .before .before .before .before .before .pre .in-gains) in let r = c .before .before .before .before .before .before .before .before .before .before .before .before .before .before .before .before .before .before .before .before .before .before .before .before .before .before .before .before .before .before .pre .in-gains in omega arith
+make-passes-requires c κs =
+    let limits : tie.After-index = search needs in
+    let cut = measured limits in
+    let ceilings = capped cut in
+    let loads = loaded ceilings in
+    let first = given loads in
+    passes-asked _ _ (first .pre) _ _ _ _ _ _ (loads .parts-load .ensures) (ceilings .before .total-weight .ensures) (ceilings .ceilings-of .ensures) (cut .cut-of .ensures) (limits .before .wide .ensures) (limits .index .ensures) _ (take-long _ (first .args .gains .now) (first .pre .in-gains))
 
 clear-requires : tie.Need-clear-requires
-clear-requires c κs = let h = c .before .before .before .before .before .before .before .before .before .before .before .before .make-passes .ensures .moves-long in let r = c .before .before .before .before .before .before .before .before .before .before .before .before .before .before .before .before .before .before .before .before .before .before .before .before .before .before .before .before .before .before .before .before .before .pre .in-moves in omega arith
+clear-requires c κs =
+    let passed : tie.After-make-passes = search needs in
+    omega (arith, passed .make-passes .ensures .moves-long, start passed .pre .in-moves)
 
-run-report-requires : tie.Need-run-report-requires
-run-report-requires c κs = search needs
+finish-requires : tie.Need-finish-requires
+finish-requires c κs =
+    let passed : tie.After-make-passes = search needs in
+    let first = start passed in
+    let long = joined-long (length (first .args .labels .now)) (first .args .gains .now) (passed .make-passes .last .1 .1 .1 .1 .1 .0) (passed .make-passes .kept .1 .1 .1 .1 .1 .0) (first .pre .in-gains) in
+    (first .pre .some, omega (arith, long, first .pre .in-gains))
 
 same-length : tie.Need-same-length
-same-length c = c .before .before .before .before .before .before .before .before .before .before .before .before .before .before .before .make-passes .kept .1 .1 .1 .1 .0
+same-length c = search needs
 
 same-length-2 : tie.Need-same-length-2
-same-length-2 c = c .before .before .before .before .before .clear-gains .kept .0 ∙ joined-long (length (c .before .before .before .before .before .before .before .before .before .before .before .before .before .before .before .before .before .before .before .before .before .before .before .before .before .before .before .before .before .before .before .before .before .before .before .before .args .labels .now)) (c .before .before .before .before .before .before .before .before .before .before .before .before .before .before .before .before .before .before .before .before .before .before .before .before .before .before .before .before .before .before .before .before .before .before .before .before .args .gains .now) (c .before .before .before .before .before .before .before .before .before .before .before .before .before .before .before .make-passes .last .1 .1 .1 .1 .1 .0) (c .before .before .before .before .before .before .before .before .before .before .before .before .before .before .before .make-passes .kept .1 .1 .1 .1 .1 .0) (c .before .before .before .before .before .before .before .before .before .before .before .before .before .before .before .before .before .before .before .before .before .before .before .before .before .before .before .before .before .before .before .before .before .before .before .before .pre .in-gains)
+same-length-2 c = search (joined-long, needs)
 
 same-length-3 : tie.Need-same-length-3
-same-length-3 c = c .before .before .clear .kept .0 ∙ c .before .before .before .before .before .before .before .before .before .before .before .before .before .before .before .make-passes .ensures .moves-long
+same-length-3 c = search needs
 
 same-length-4 : tie.Need-same-length-4
-same-length-4 c = c .before .before .before .before .before .before .before .before .before .before .before .before .before .before .before .make-passes .kept .1 .1 .1 .1 .1 .1 .1 .0
+same-length-4 c = search needs
 
 same-length-5 : tie.Need-same-length-5
-same-length-5 c = c .before .before .before .before .before .before .before .before .before .before .before .before .before .before .before .make-passes .kept .1 .1 .1 .1 .1 .1 .1 .1 .0
+same-length-5 c = search needs
 
 returns : tie.Need-returns
-returns c = ran _ _ (c .before .before .before .before .before .before .before .before .before .before .before .before .before .before .before .before .before .before .before .before .before .before .before .before .before .before .before .before .before .before .before .before .before .before .before .before .pre) _ _ _ _ _ _ (c .before .before .before .before .before .before .before .before .before .before .before .before .before .before .before .before .before .before .before .before .before .before .before .before .before .before .before .parts-load .ensures) (c .before .before .before .before .before .before .before .before .before .before .before .before .before .before .before .before .before .before .before .before .before .before .before .before .before .before .total-weight .ensures) (c .before .before .before .before .before .before .before .before .before .before .before .before .before .before .before .before .before .before .before .before .before .before .before .before .before .ceilings-of .ensures) (c .before .before .before .before .before .before .before .before .before .before .before .before .before .before .before .before .before .before .before .before .before .before .before .cut-of .ensures) (c .before .before .before .before .before .before .before .before .before .before .before .before .before .before .before .before .before .before .before .before .before .before .wide .ensures) (c .before .before .before .before .before .before .before .before .before .before .before .before .before .before .before .before .before .before .before .before .before .index .ensures) _ _ _ _ _ (c .before .before .before .before .before .before .before .before .before .before .before .before .before .before .before .make-passes .ensures) _ _ (joined-long (length (c .before .before .before .before .before .before .before .before .before .before .before .before .before .before .before .before .before .before .before .before .before .before .before .before .before .before .before .before .before .before .before .before .before .before .before .before .args .labels .now)) (c .before .before .before .before .before .before .before .before .before .before .before .before .before .before .before .before .before .before .before .before .before .before .before .before .before .before .before .before .before .before .before .before .before .before .before .before .args .gains .now) (c .before .before .before .before .before .before .before .before .before .before .before .before .before .before .before .make-passes .last .1 .1 .1 .1 .1 .0) (c .before .before .before .before .before .before .before .before .before .before .before .before .before .before .before .make-passes .kept .1 .1 .1 .1 .1 .0) (c .before .before .before .before .before .before .before .before .before .before .before .before .before .before .before .before .before .before .before .before .before .before .before .before .before .before .before .before .before .before .before .before .before .before .before .before .pre .in-gains)) (joined-past (length (c .before .before .before .before .before .before .before .before .before .before .before .before .before .before .before .before .before .before .before .before .before .before .before .before .before .before .before .before .before .before .before .before .before .before .before .before .args .labels .now)) (c .before .before .before .before .before .before .before .before .before .before .before .before .before .before .before .before .before .before .before .before .before .before .before .before .before .before .before .before .before .before .before .before .before .before .before .before .args .gains .now) (c .before .before .before .before .before .before .before .before .before .before .before .before .before .before .before .make-passes .last .1 .1 .1 .1 .1 .0) (c .before .before .before .before .before .before .before .before .before .before .before .before .before .before .before .make-passes .kept .1 .1 .1 .1 .1 .0) (c .before .before .before .before .before .before .before .before .before .before .before .before .before .before .before .before .before .before .before .before .before .before .before .before .before .before .before .before .before .before .before .before .before .before .before .before .pre .in-gains)) (c .before .before .before .before .before .clear-gains .ensures) _ (c .before .before .clear .ensures) _ (c .run-report .ensures)
+returns c =
+    let finished : tie.After-finish = search needs in
+    let cleared : tie.After-clear = search needs in
+    let passed : tie.After-make-passes = search needs in
+    let limits = counted passed in
+    let cut = measured limits in
+    let ceilings = capped cut in
+    let loads = loaded ceilings in
+    let first = given loads in
+    let n = length (first .args .labels .now) in
+    let gains = first .args .gains .now in
+    let front = passed .make-passes .last .1 .1 .1 .1 .1 .0 in
+    let same = passed .make-passes .kept .1 .1 .1 .1 .1 .0 in
+    let room = first .pre .in-gains in
+    ran _ _ (first .pre) _ _ _ _ _ _ (loads .parts-load .ensures) (ceilings .before .total-weight .ensures) (ceilings .ceilings-of .ensures) (cut .cut-of .ensures) (limits .before .wide .ensures) (limits .index .ensures) _ _ _ _ _ (passed .make-passes .ensures) _ _ (joined-long n gains front same room) (joined-past n gains front same room) (finished .finish .ensures .0) _ (cleared .clear .ensures) _ (finished .finish .ensures .1)
 
 pub refine-spec : {M : Type 1} → statement M
 refine-spec =
@@ -89,9 +124,8 @@ refine-spec =
     slice-relend-prefix-make-passes
     slice-aggregate-make-passes
     make-passes-requires
-    clear-gains-requires
     clear-requires
-    run-report-requires
+    finish-requires
     same-length
     same-length-2
     same-length-3

@@ -82,7 +82,7 @@ r = Value.rVal record {
 }
 
 abbrev pub xs : List.List Syntax.Ty
-xs = List._∷_ (Syntax.tyInt Syntax.w64) (List._∷_ (Syntax.tyStruct (List._∷_ 105 (List._∷_ 109 (List._∷_ 98 (List._∷_ 97 (List._∷_ 108 (List._∷_ 97 (List._∷_ 110 (List._∷_ 99 (List._∷_ 101 (List._∷_ 58 (List._∷_ 58 (List._∷_ 76 (List._∷_ 111 (List._∷_ 97 (List._∷_ 100 (List._∷_ 115 List.[])))))))))))))))) (Syntax.tcons (Syntax.tyArray (Syntax.tyInt Syntax.w64) 16) Syntax.tnil)) (List._∷_ (Syntax.tyInt Syntax.w64) (List._∷_ (Syntax.tyInt Syntax.w32) (List._∷_ (Syntax.tyInt Syntax.w32) (List._∷_ (Syntax.tyFloat Ieee.binary64) (List._∷_ (Syntax.tyStruct (List._∷_ 105 (List._∷_ 109 (List._∷_ 98 (List._∷_ 97 (List._∷_ 108 (List._∷_ 97 (List._∷_ 110 (List._∷_ 99 (List._∷_ 101 (List._∷_ 58 (List._∷_ 58 (List._∷_ 67 (List._∷_ 101 (List._∷_ 105 (List._∷_ 108 (List._∷_ 105 (List._∷_ 110 (List._∷_ 103 (List._∷_ 115 List.[]))))))))))))))))))) (Syntax.tcons (Syntax.tyArray (Syntax.tyInt Syntax.w64) 16) Syntax.tnil)) (List._∷_ (Syntax.tyInt Syntax.w64) (List._∷_ (Syntax.tyInt Syntax.w64) (List._∷_ (Syntax.tyInt Syntax.w64) (List._∷_ (Syntax.tyInt Syntax.w32) (List._∷_ (Syntax.tyStruct (List._∷_ 102 (List._∷_ 105 (List._∷_ 100 (List._∷_ 117 (List._∷_ 99 (List._∷_ 99 (List._∷_ 105 (List._∷_ 97 (List._∷_ 95 (List._∷_ 109 (List._∷_ 97 (List._∷_ 116 (List._∷_ 116 (List._∷_ 104 (List._∷_ 101 (List._∷_ 121 (List._∷_ 115 (List._∷_ 101 (List._∷_ 115 (List._∷_ 58 (List._∷_ 58 (List._∷_ 69 (List._∷_ 110 (List._∷_ 100 (List._∷_ 101 (List._∷_ 100 List.[])))))))))))))))))))))))))) (Syntax.tcons (Syntax.tyInt Syntax.w32) (Syntax.tcons (Syntax.tyInt Syntax.w32) (Syntax.tcons (Syntax.tyInt Syntax.w64) (Syntax.tcons (Syntax.tyStruct (List._∷_ 105 (List._∷_ 109 (List._∷_ 98 (List._∷_ 97 (List._∷_ 108 (List._∷_ 97 (List._∷_ 110 (List._∷_ 99 (List._∷_ 101 (List._∷_ 58 (List._∷_ 58 (List._∷_ 76 (List._∷_ 111 (List._∷_ 97 (List._∷_ 100 (List._∷_ 115 List.[])))))))))))))))) (Syntax.tcons (Syntax.tyArray (Syntax.tyInt Syntax.w64) 16) Syntax.tnil)) Syntax.tnil))))) (List._∷_ (Syntax.tyRef Syntax.erased Syntax.imm (Syntax.tyInt Syntax.w32)) (List._∷_ (Syntax.tyStruct (List._∷_ 38 (List._∷_ 91 (List._∷_ 93 List.[]))) (Syntax.tcons (Syntax.tyRef Syntax.erased Syntax.imm (Syntax.tyInt Syntax.w32)) (Syntax.tcons (Syntax.tyInt Syntax.w64) Syntax.tnil))) (List._∷_ (Syntax.tyRef Syntax.erased Syntax.imm (Syntax.tyInt Syntax.w32)) (List._∷_ (Syntax.tyStruct (List._∷_ 38 (List._∷_ 91 (List._∷_ 93 List.[]))) (Syntax.tcons (Syntax.tyRef Syntax.erased Syntax.imm (Syntax.tyInt Syntax.w32)) (Syntax.tcons (Syntax.tyInt Syntax.w64) Syntax.tnil))) (List._∷_ (Syntax.tyRef Syntax.erased Syntax.mut (Syntax.tyInt Syntax.w32)) (List._∷_ (Syntax.tyStruct (List._∷_ 38 (List._∷_ 91 (List._∷_ 93 List.[]))) (Syntax.tcons (Syntax.tyRef Syntax.erased Syntax.mut (Syntax.tyInt Syntax.w32)) (Syntax.tcons (Syntax.tyInt Syntax.w64) Syntax.tnil))) (List._∷_ (Syntax.tyRef Syntax.erased Syntax.mut (Syntax.tyInt Syntax.w64)) (List._∷_ (Syntax.tyStruct (List._∷_ 38 (List._∷_ 91 (List._∷_ 93 List.[]))) (Syntax.tcons (Syntax.tyRef Syntax.erased Syntax.mut (Syntax.tyInt Syntax.w64)) (Syntax.tcons (Syntax.tyInt Syntax.w64) Syntax.tnil))) (List._∷_ (Syntax.tyRef Syntax.erased Syntax.mut MoveTy.behind) (List._∷_ (Syntax.tyStruct (List._∷_ 38 (List._∷_ 91 (List._∷_ 93 List.[]))) (Syntax.tcons (Syntax.tyRef Syntax.erased Syntax.mut MoveTy.behind) (Syntax.tcons (Syntax.tyInt Syntax.w64) Syntax.tnil))) (List._∷_ (Syntax.tyRef Syntax.erased Syntax.mut (Syntax.tyInt Syntax.w32)) (List._∷_ (Syntax.tyStruct (List._∷_ 38 (List._∷_ 91 (List._∷_ 93 List.[]))) (Syntax.tcons (Syntax.tyRef Syntax.erased Syntax.mut (Syntax.tyInt Syntax.w32)) (Syntax.tcons (Syntax.tyInt Syntax.w64) Syntax.tnil))) (List._∷_ (Syntax.tyRef Syntax.erased Syntax.mut (Syntax.tyInt Syntax.w32)) (List._∷_ (Syntax.tyStruct (List._∷_ 38 (List._∷_ 91 (List._∷_ 93 List.[]))) (Syntax.tcons (Syntax.tyRef Syntax.erased Syntax.mut (Syntax.tyInt Syntax.w32)) (Syntax.tcons (Syntax.tyInt Syntax.w64) Syntax.tnil))) (List._∷_ Syntax.tyUnit (List._∷_ (Syntax.tyRef Syntax.erased Syntax.mut (Syntax.tyInt Syntax.w64)) (List._∷_ (Syntax.tyStruct (List._∷_ 38 (List._∷_ 91 (List._∷_ 93 List.[]))) (Syntax.tcons (Syntax.tyRef Syntax.erased Syntax.mut (Syntax.tyInt Syntax.w64)) (Syntax.tcons (Syntax.tyInt Syntax.w64) Syntax.tnil))) (List._∷_ (Syntax.tyRef Syntax.erased Syntax.mut MoveTy.behind) (List._∷_ (Syntax.tyStruct (List._∷_ 38 (List._∷_ 91 (List._∷_ 93 List.[]))) (Syntax.tcons (Syntax.tyRef Syntax.erased Syntax.mut MoveTy.behind) (Syntax.tcons (Syntax.tyInt Syntax.w64) Syntax.tnil))) List.[]))))))))))))))))))))))))))))))
+xs = List._∷_ (Syntax.tyInt Syntax.w64) (List._∷_ (Syntax.tyStruct (List._∷_ 105 (List._∷_ 109 (List._∷_ 98 (List._∷_ 97 (List._∷_ 108 (List._∷_ 97 (List._∷_ 110 (List._∷_ 99 (List._∷_ 101 (List._∷_ 58 (List._∷_ 58 (List._∷_ 76 (List._∷_ 111 (List._∷_ 97 (List._∷_ 100 (List._∷_ 115 List.[])))))))))))))))) (Syntax.tcons (Syntax.tyArray (Syntax.tyInt Syntax.w64) 16) Syntax.tnil)) (List._∷_ (Syntax.tyInt Syntax.w64) (List._∷_ (Syntax.tyInt Syntax.w32) (List._∷_ (Syntax.tyInt Syntax.w32) (List._∷_ (Syntax.tyFloat Ieee.binary64) (List._∷_ (Syntax.tyStruct (List._∷_ 105 (List._∷_ 109 (List._∷_ 98 (List._∷_ 97 (List._∷_ 108 (List._∷_ 97 (List._∷_ 110 (List._∷_ 99 (List._∷_ 101 (List._∷_ 58 (List._∷_ 58 (List._∷_ 67 (List._∷_ 101 (List._∷_ 105 (List._∷_ 108 (List._∷_ 105 (List._∷_ 110 (List._∷_ 103 (List._∷_ 115 List.[]))))))))))))))))))) (Syntax.tcons (Syntax.tyArray (Syntax.tyInt Syntax.w64) 16) Syntax.tnil)) (List._∷_ (Syntax.tyInt Syntax.w64) (List._∷_ (Syntax.tyInt Syntax.w64) (List._∷_ (Syntax.tyInt Syntax.w64) (List._∷_ (Syntax.tyInt Syntax.w32) (List._∷_ (Syntax.tyStruct (List._∷_ 102 (List._∷_ 105 (List._∷_ 100 (List._∷_ 117 (List._∷_ 99 (List._∷_ 99 (List._∷_ 105 (List._∷_ 97 (List._∷_ 95 (List._∷_ 109 (List._∷_ 97 (List._∷_ 116 (List._∷_ 116 (List._∷_ 104 (List._∷_ 101 (List._∷_ 121 (List._∷_ 115 (List._∷_ 101 (List._∷_ 115 (List._∷_ 58 (List._∷_ 58 (List._∷_ 69 (List._∷_ 110 (List._∷_ 100 (List._∷_ 101 (List._∷_ 100 List.[])))))))))))))))))))))))))) (Syntax.tcons (Syntax.tyInt Syntax.w32) (Syntax.tcons (Syntax.tyInt Syntax.w32) (Syntax.tcons (Syntax.tyInt Syntax.w64) (Syntax.tcons (Syntax.tyStruct (List._∷_ 105 (List._∷_ 109 (List._∷_ 98 (List._∷_ 97 (List._∷_ 108 (List._∷_ 97 (List._∷_ 110 (List._∷_ 99 (List._∷_ 101 (List._∷_ 58 (List._∷_ 58 (List._∷_ 76 (List._∷_ 111 (List._∷_ 97 (List._∷_ 100 (List._∷_ 115 List.[])))))))))))))))) (Syntax.tcons (Syntax.tyArray (Syntax.tyInt Syntax.w64) 16) Syntax.tnil)) Syntax.tnil))))) (List._∷_ (Syntax.tyRef Syntax.erased Syntax.imm (Syntax.tyInt Syntax.w32)) (List._∷_ (Syntax.tyStruct (List._∷_ 38 (List._∷_ 91 (List._∷_ 93 List.[]))) (Syntax.tcons (Syntax.tyRef Syntax.erased Syntax.imm (Syntax.tyInt Syntax.w32)) (Syntax.tcons (Syntax.tyInt Syntax.w64) Syntax.tnil))) (List._∷_ (Syntax.tyRef Syntax.erased Syntax.imm (Syntax.tyInt Syntax.w32)) (List._∷_ (Syntax.tyStruct (List._∷_ 38 (List._∷_ 91 (List._∷_ 93 List.[]))) (Syntax.tcons (Syntax.tyRef Syntax.erased Syntax.imm (Syntax.tyInt Syntax.w32)) (Syntax.tcons (Syntax.tyInt Syntax.w64) Syntax.tnil))) (List._∷_ (Syntax.tyRef Syntax.erased Syntax.mut (Syntax.tyInt Syntax.w32)) (List._∷_ (Syntax.tyStruct (List._∷_ 38 (List._∷_ 91 (List._∷_ 93 List.[]))) (Syntax.tcons (Syntax.tyRef Syntax.erased Syntax.mut (Syntax.tyInt Syntax.w32)) (Syntax.tcons (Syntax.tyInt Syntax.w64) Syntax.tnil))) (List._∷_ (Syntax.tyRef Syntax.erased Syntax.mut (Syntax.tyInt Syntax.w64)) (List._∷_ (Syntax.tyStruct (List._∷_ 38 (List._∷_ 91 (List._∷_ 93 List.[]))) (Syntax.tcons (Syntax.tyRef Syntax.erased Syntax.mut (Syntax.tyInt Syntax.w64)) (Syntax.tcons (Syntax.tyInt Syntax.w64) Syntax.tnil))) (List._∷_ (Syntax.tyRef Syntax.erased Syntax.mut MoveTy.behind) (List._∷_ (Syntax.tyStruct (List._∷_ 38 (List._∷_ 91 (List._∷_ 93 List.[]))) (Syntax.tcons (Syntax.tyRef Syntax.erased Syntax.mut MoveTy.behind) (Syntax.tcons (Syntax.tyInt Syntax.w64) Syntax.tnil))) (List._∷_ (Syntax.tyRef Syntax.erased Syntax.mut (Syntax.tyInt Syntax.w32)) (List._∷_ (Syntax.tyStruct (List._∷_ 38 (List._∷_ 91 (List._∷_ 93 List.[]))) (Syntax.tcons (Syntax.tyRef Syntax.erased Syntax.mut (Syntax.tyInt Syntax.w32)) (Syntax.tcons (Syntax.tyInt Syntax.w64) Syntax.tnil))) (List._∷_ (Syntax.tyRef Syntax.erased Syntax.mut (Syntax.tyInt Syntax.w32)) (List._∷_ (Syntax.tyStruct (List._∷_ 38 (List._∷_ 91 (List._∷_ 93 List.[]))) (Syntax.tcons (Syntax.tyRef Syntax.erased Syntax.mut (Syntax.tyInt Syntax.w32)) (Syntax.tcons (Syntax.tyInt Syntax.w64) Syntax.tnil))) (List._∷_ Syntax.tyUnit (List._∷_ (Syntax.tyRef Syntax.erased Syntax.mut MoveTy.behind) (List._∷_ (Syntax.tyStruct (List._∷_ 38 (List._∷_ 91 (List._∷_ 93 List.[]))) (Syntax.tcons (Syntax.tyRef Syntax.erased Syntax.mut MoveTy.behind) (Syntax.tcons (Syntax.tyInt Syntax.w64) Syntax.tnil))) (List._∷_ (Syntax.tyRef Syntax.erased Syntax.mut (Syntax.tyInt Syntax.w64)) (List._∷_ (Syntax.tyStruct (List._∷_ 38 (List._∷_ 91 (List._∷_ 93 List.[]))) (Syntax.tcons (Syntax.tyRef Syntax.erased Syntax.mut (Syntax.tyInt Syntax.w64)) (Syntax.tcons (Syntax.tyInt Syntax.w64) Syntax.tnil))) List.[]))))))))))))))))))))))))))))))
 
 abbrev pub m : Nat.ℕ
 m = 9
@@ -190,37 +190,16 @@ r·6 = Value.rVal record {
 }
 
 abbrev pub ps·7 : List.List (Kinds.PK 1)
-ps·7 = List._∷_ (MutSlice.pMutS (Signed.SInt Syntax.w64) 0 tt) (List._∷_ (Num.pNum Syntax.w64) List.[])
+ps·7 = List._∷_ (MutSlice.pMutS MoveTy.R 0 tt) (List._∷_ (Num.pNum Syntax.w64) List.[])
 
 abbrev pub r·7 : Kinds.RK 1
 r·7 = Unit'.rUnit
 
 abbrev pub ps·8 : List.List (Kinds.PK 1)
-ps·8 = List._∷_ (MutSlice.pMutS MoveTy.R 0 tt) (List._∷_ (Num.pNum Syntax.w64) List.[])
+ps·8 = List._∷_ (MutSlice.pMutS (Signed.SInt Syntax.w64) 0 tt) (List._∷_ (Num.pNum Syntax.w64) (List._∷_ (Value.pVal record { ty = Declared.row Ended.the-type; one = Path'.refl; val = Laws'5.val Ended.the-type Laws.the-laws; tells = Laws'5.tells Ended.the-type Laws.the-laws; still = Laws'5.still Ended.the-type Laws.the-copy Exit.yes; row = Rows.whole (Declared.row Ended.the-type); rd = λ x. x; mk = λ x. x } λ M 𝓤 H A W. record { copies = Laws'5.copy Ended.the-type Laws.the-copy 𝓤 H A W; lawful = Laws'5.lawful Ended.the-type Laws.the-laws 𝓤 H A W; makes = Laws'5.makes Ended.the-type Laws.the-plain 𝓤 H A; in-mem = Local.mem-whole 𝓤 H A W (Declared.row Ended.the-type); of-mem = Local.whole-mem 𝓤 H A W (Declared.row Ended.the-type) }) (List._∷_ (Num.pNum Syntax.w64) List.[])))
 
 abbrev pub r·8 : Kinds.RK 1
-r·8 = Unit'.rUnit
-
-abbrev pub ps·9 : List.List (Kinds.PK 0)
-ps·9 = List._∷_ (Value.pVal record {
-  ty = Declared.row Ended.the-type;
-  one = Path'.refl;
-  val = Laws'5.val Ended.the-type Laws.the-laws;
-  tells = Laws'5.tells Ended.the-type Laws.the-laws;
-  still = Laws'5.still Ended.the-type Laws.the-copy Exit.yes;
-  row = Rows.whole (Declared.row Ended.the-type);
-  rd = λ x. x;
-  mk = λ x. x;
-} λ M 𝓤 H A W. record {
-  copies = Laws'5.copy Ended.the-type Laws.the-copy 𝓤 H A W;
-  lawful = Laws'5.lawful Ended.the-type Laws.the-laws 𝓤 H A W;
-  makes = Laws'5.makes Ended.the-type Laws.the-plain 𝓤 H A;
-  in-mem = Local.mem-whole 𝓤 H A W (Declared.row Ended.the-type);
-  of-mem = Local.whole-mem 𝓤 H A W (Declared.row Ended.the-type);
-}) (List._∷_ (Num.pNum Syntax.w64) List.[])
-
-abbrev pub r·9 : Kinds.RK 0
-r·9 = Value.rVal record {
+r·8 = Value.rVal record {
   ty = Declared.row Report.the-type;
   one = Path'.refl;
   val = Laws'5.val Report.the-type Laws'.the-laws;
@@ -319,133 +298,127 @@ abbrev b25 : Syntax.Body
 b25 = Syntax.call "fiduccia_mattheyses::make_passes" (List._∷_ (Syntax.copy (Syntax.place 1 List.[])) (List._∷_ (Syntax.copy (Syntax.place 2 List.[])) (List._∷_ (Syntax.copy (Syntax.place 3 List.[])) (List._∷_ (Syntax.copy (Syntax.place 4 List.[])) (List._∷_ (Syntax.copy (Syntax.place 28 List.[])) (List._∷_ (Syntax.copy (Syntax.place 30 List.[])) (List._∷_ (Syntax.copy (Syntax.place 32 List.[])) (List._∷_ (Syntax.copy (Syntax.place 34 List.[])) (List._∷_ (Syntax.copy (Syntax.place 36 List.[])) (List._∷_ (Syntax.copy (Syntax.place 12 List.[])) (List._∷_ (Syntax.copy (Syntax.place 18 List.[])) (List._∷_ (Syntax.copy (Syntax.place 17 List.[])) (List._∷_ (Syntax.copy (Syntax.place 19 List.[])) (List._∷_ (Syntax.copy (Syntax.place 20 List.[])) (List._∷_ (Syntax.copy (Syntax.place 21 List.[])) List.[]))))))))))))))) (Syntax.place 22 List.[])
 
 abbrev b26 : Syntax.Body
-b26 = Syntax.assign (Syntax.place 38 List.[]) (Syntax.addrOf (Syntax.place 6 (List._∷_ (Syntax.field 0) (List._∷_ (Syntax.deref (Syntax.tyInt Syntax.w64)) List.[]))))
+b26 = Syntax.assign (Syntax.place 38 List.[]) (Syntax.addrOf (Syntax.place 7 (List._∷_ (Syntax.field 0) (List._∷_ (Syntax.deref MoveTy.by-value) List.[]))))
 
 abbrev b27 : Syntax.Body
-b27 = Syntax.assign (Syntax.place 39 List.[]) (Syntax.aggregate (List._∷_ (Syntax.copy (Syntax.place 38 List.[])) (List._∷_ (Syntax.copy (Syntax.place 6 (List._∷_ (Syntax.field 1) List.[]))) List.[])))
+b27 = Syntax.assign (Syntax.place 39 List.[]) (Syntax.aggregate (List._∷_ (Syntax.copy (Syntax.place 38 List.[])) (List._∷_ (Syntax.copy (Syntax.place 7 (List._∷_ (Syntax.field 1) List.[]))) List.[])))
 
 abbrev b28 : Syntax.Body
-b28 = Syntax.call "lists::clear_gains" (List._∷_ (Syntax.copy (Syntax.place 39 List.[])) (List._∷_ (Syntax.copy (Syntax.place 11 List.[])) List.[])) (Syntax.place 37 List.[])
+b28 = Syntax.call "fiduccia_mattheyses::clear" (List._∷_ (Syntax.copy (Syntax.place 39 List.[])) (List._∷_ (Syntax.copy (Syntax.place 11 List.[])) List.[])) (Syntax.place 37 List.[])
 
 abbrev b29 : Syntax.Body
-b29 = Syntax.assign (Syntax.place 40 List.[]) (Syntax.addrOf (Syntax.place 7 (List._∷_ (Syntax.field 0) (List._∷_ (Syntax.deref MoveTy.by-value) List.[]))))
+b29 = Syntax.assign (Syntax.place 40 List.[]) (Syntax.addrOf (Syntax.place 6 (List._∷_ (Syntax.field 0) (List._∷_ (Syntax.deref (Syntax.tyInt Syntax.w64)) List.[]))))
 
 abbrev b30 : Syntax.Body
-b30 = Syntax.assign (Syntax.place 41 List.[]) (Syntax.aggregate (List._∷_ (Syntax.copy (Syntax.place 40 List.[])) (List._∷_ (Syntax.copy (Syntax.place 7 (List._∷_ (Syntax.field 1) List.[]))) List.[])))
+b30 = Syntax.assign (Syntax.place 41 List.[]) (Syntax.aggregate (List._∷_ (Syntax.copy (Syntax.place 40 List.[])) (List._∷_ (Syntax.copy (Syntax.place 6 (List._∷_ (Syntax.field 1) List.[]))) List.[])))
 
 abbrev b31 : Syntax.Body
-b31 = Syntax.call "fiduccia_mattheyses::clear" (List._∷_ (Syntax.copy (Syntax.place 41 List.[])) (List._∷_ (Syntax.copy (Syntax.place 11 List.[])) List.[])) (Syntax.place 37 List.[])
+b31 = Syntax.call "fiduccia_mattheyses::finish" (List._∷_ (Syntax.copy (Syntax.place 41 List.[])) (List._∷_ (Syntax.copy (Syntax.place 11 List.[])) (List._∷_ (Syntax.copy (Syntax.place 22 List.[])) (List._∷_ (Syntax.copy (Syntax.place 18 List.[])) List.[])))) (Syntax.place 0 List.[])
 
 abbrev b32 : Syntax.Body
-b32 = Syntax.call "fiduccia_mattheyses::run_report" (List._∷_ (Syntax.copy (Syntax.place 22 List.[])) (List._∷_ (Syntax.copy (Syntax.place 18 List.[])) List.[])) (Syntax.place 0 List.[])
+b32 = Syntax.return
 
 abbrev b33 : Syntax.Body
-b33 = Syntax.return
+b33 = Syntax.seq b31 b32
 
 abbrev b34 : Syntax.Body
-b34 = Syntax.seq b32 b33
+b34 = Syntax.seq b30 b33
 
 abbrev b35 : Syntax.Body
-b35 = Syntax.seq b31 b34
+b35 = Syntax.seq b29 b34
 
 abbrev b36 : Syntax.Body
-b36 = Syntax.seq b30 b35
+b36 = Syntax.seq b28 b35
 
 abbrev b37 : Syntax.Body
-b37 = Syntax.seq b29 b36
+b37 = Syntax.seq b27 b36
 
 abbrev b38 : Syntax.Body
-b38 = Syntax.seq b28 b37
+b38 = Syntax.seq b26 b37
 
 abbrev b39 : Syntax.Body
-b39 = Syntax.seq b27 b38
+b39 = Syntax.seq b25 b38
 
 abbrev b40 : Syntax.Body
-b40 = Syntax.seq b26 b39
+b40 = Syntax.seq b24 b39
 
 abbrev b41 : Syntax.Body
-b41 = Syntax.seq b25 b40
+b41 = Syntax.seq b23 b40
 
 abbrev b42 : Syntax.Body
-b42 = Syntax.seq b24 b41
+b42 = Syntax.seq b22 b41
 
 abbrev b43 : Syntax.Body
-b43 = Syntax.seq b23 b42
+b43 = Syntax.seq b21 b42
 
 abbrev b44 : Syntax.Body
-b44 = Syntax.seq b22 b43
+b44 = Syntax.seq b20 b43
 
 abbrev b45 : Syntax.Body
-b45 = Syntax.seq b21 b44
+b45 = Syntax.seq b19 b44
 
 abbrev b46 : Syntax.Body
-b46 = Syntax.seq b20 b45
+b46 = Syntax.seq b18 b45
 
 abbrev b47 : Syntax.Body
-b47 = Syntax.seq b19 b46
+b47 = Syntax.seq b17 b46
 
 abbrev b48 : Syntax.Body
-b48 = Syntax.seq b18 b47
+b48 = Syntax.seq b16 b47
 
 abbrev b49 : Syntax.Body
-b49 = Syntax.seq b17 b48
+b49 = Syntax.seq b15 b48
 
 abbrev b50 : Syntax.Body
-b50 = Syntax.seq b16 b49
+b50 = Syntax.seq b14 b49
 
 abbrev b51 : Syntax.Body
-b51 = Syntax.seq b15 b50
+b51 = Syntax.seq b13 b50
 
 abbrev b52 : Syntax.Body
-b52 = Syntax.seq b14 b51
+b52 = Syntax.seq b12 b51
 
 abbrev b53 : Syntax.Body
-b53 = Syntax.seq b13 b52
+b53 = Syntax.seq b11 b52
 
 abbrev b54 : Syntax.Body
-b54 = Syntax.seq b12 b53
+b54 = Syntax.seq b10 b53
 
 abbrev b55 : Syntax.Body
-b55 = Syntax.seq b11 b54
+b55 = Syntax.seq b9 b54
 
 abbrev b56 : Syntax.Body
-b56 = Syntax.seq b10 b55
+b56 = Syntax.seq b8 b55
 
 abbrev b57 : Syntax.Body
-b57 = Syntax.seq b9 b56
+b57 = Syntax.seq b7 b56
 
 abbrev b58 : Syntax.Body
-b58 = Syntax.seq b8 b57
+b58 = Syntax.seq b6 b57
 
 abbrev b59 : Syntax.Body
-b59 = Syntax.seq b7 b58
+b59 = Syntax.seq b5 b58
 
 abbrev b60 : Syntax.Body
-b60 = Syntax.seq b6 b59
+b60 = Syntax.seq b4 b59
 
 abbrev b61 : Syntax.Body
-b61 = Syntax.seq b5 b60
+b61 = Syntax.seq b3 b60
 
 abbrev b62 : Syntax.Body
-b62 = Syntax.seq b4 b61
+b62 = Syntax.seq b2 b61
 
 abbrev b63 : Syntax.Body
-b63 = Syntax.seq b3 b62
+b63 = Syntax.seq b1 b62
 
 abbrev b64 : Syntax.Body
-b64 = Syntax.seq b2 b63
-
-abbrev b65 : Syntax.Body
-b65 = Syntax.seq b1 b64
-
-abbrev b66 : Syntax.Body
-b66 = Syntax.seq b0 b65
+b64 = Syntax.seq b0 b63
 
 abbrev pub body : Syntax.Body
-body = b66
+body = b64
 
 abbrev pub Claims : Type 1
-Claims = Kinds.In 2 ps·0 × Kinds.Out 2 ps·0 r·0 × Kinds.In 1 ps·1 × Kinds.Out 1 ps·1 r·1 × Kinds.In 0 ps·2 × Kinds.Out 0 ps·2 r·2 × Kinds.In 4 ps·3 × Kinds.Out 4 ps·3 r·3 × Kinds.In 0 ps·4 × Kinds.Out 0 ps·4 r·4 × Kinds.In 0 ps·5 × Kinds.Out 0 ps·5 r·5 × Kinds.In 9 ps·6 × Kinds.Out 9 ps·6 r·6 × Kinds.In 1 ps·7 × Kinds.Out 1 ps·7 r·7 × Kinds.In 1 ps·8 × Kinds.Out 1 ps·8 r·8 × Kinds.In 0 ps·9 × Kinds.Out 0 ps·9 r·9
+Claims = Kinds.In 2 ps·0 × Kinds.Out 2 ps·0 r·0 × Kinds.In 1 ps·1 × Kinds.Out 1 ps·1 r·1 × Kinds.In 0 ps·2 × Kinds.Out 0 ps·2 r·2 × Kinds.In 4 ps·3 × Kinds.Out 4 ps·3 r·3 × Kinds.In 0 ps·4 × Kinds.Out 0 ps·4 r·4 × Kinds.In 0 ps·5 × Kinds.Out 0 ps·5 r·5 × Kinds.In 9 ps·6 × Kinds.Out 9 ps·6 r·6 × Kinds.In 1 ps·7 × Kinds.Out 1 ps·7 r·7 × Kinds.In 1 ps·8 × Kinds.Out 1 ps·8 r·8
 
 abbrev pub t0 : List.List Row.Entry
 t0 = List._∷_ (
@@ -508,7 +481,7 @@ abbrev pub t2 : List.List Row.Entry
 t2 = List._∷_ (
   32,
   Rows.any-gone (Syntax.tyStruct (List._∷_ 38 (List._∷_ 91 (List._∷_ 93 List.[]))) (Syntax.tcons (Syntax.tyRef Syntax.erased Syntax.mut MoveTy.behind) (Syntax.tcons (Syntax.tyInt Syntax.w64) Syntax.tnil))),
-) (List._∷_ (33, Rows.any-gone (Syntax.tyRef Syntax.erased Syntax.mut (Syntax.tyInt Syntax.w32))) (List._∷_ (34, Rows.any-gone (Syntax.tyStruct (List._∷_ 38 (List._∷_ 91 (List._∷_ 93 List.[]))) (Syntax.tcons (Syntax.tyRef Syntax.erased Syntax.mut (Syntax.tyInt Syntax.w32)) (Syntax.tcons (Syntax.tyInt Syntax.w64) Syntax.tnil)))) (List._∷_ (35, Rows.any-gone (Syntax.tyRef Syntax.erased Syntax.mut (Syntax.tyInt Syntax.w32))) (List._∷_ (36, Rows.any-gone (Syntax.tyStruct (List._∷_ 38 (List._∷_ 91 (List._∷_ 93 List.[]))) (Syntax.tcons (Syntax.tyRef Syntax.erased Syntax.mut (Syntax.tyInt Syntax.w32)) (Syntax.tcons (Syntax.tyInt Syntax.w64) Syntax.tnil)))) (List._∷_ (37, Rows.any-gone Syntax.tyUnit) (List._∷_ (38, Rows.any-gone (Syntax.tyRef Syntax.erased Syntax.mut (Syntax.tyInt Syntax.w64))) (List._∷_ (39, Rows.any-gone (Syntax.tyStruct (List._∷_ 38 (List._∷_ 91 (List._∷_ 93 List.[]))) (Syntax.tcons (Syntax.tyRef Syntax.erased Syntax.mut (Syntax.tyInt Syntax.w64)) (Syntax.tcons (Syntax.tyInt Syntax.w64) Syntax.tnil)))) (List._∷_ (40, Rows.any-gone (Syntax.tyRef Syntax.erased Syntax.mut MoveTy.behind)) (List._∷_ (41, Rows.any-gone (Syntax.tyStruct (List._∷_ 38 (List._∷_ 91 (List._∷_ 93 List.[]))) (Syntax.tcons (Syntax.tyRef Syntax.erased Syntax.mut MoveTy.behind) (Syntax.tcons (Syntax.tyInt Syntax.w64) Syntax.tnil)))) List.[])))))))))
+) (List._∷_ (33, Rows.any-gone (Syntax.tyRef Syntax.erased Syntax.mut (Syntax.tyInt Syntax.w32))) (List._∷_ (34, Rows.any-gone (Syntax.tyStruct (List._∷_ 38 (List._∷_ 91 (List._∷_ 93 List.[]))) (Syntax.tcons (Syntax.tyRef Syntax.erased Syntax.mut (Syntax.tyInt Syntax.w32)) (Syntax.tcons (Syntax.tyInt Syntax.w64) Syntax.tnil)))) (List._∷_ (35, Rows.any-gone (Syntax.tyRef Syntax.erased Syntax.mut (Syntax.tyInt Syntax.w32))) (List._∷_ (36, Rows.any-gone (Syntax.tyStruct (List._∷_ 38 (List._∷_ 91 (List._∷_ 93 List.[]))) (Syntax.tcons (Syntax.tyRef Syntax.erased Syntax.mut (Syntax.tyInt Syntax.w32)) (Syntax.tcons (Syntax.tyInt Syntax.w64) Syntax.tnil)))) (List._∷_ (37, Rows.any-gone Syntax.tyUnit) (List._∷_ (38, Rows.any-gone (Syntax.tyRef Syntax.erased Syntax.mut MoveTy.behind)) (List._∷_ (39, Rows.any-gone (Syntax.tyStruct (List._∷_ 38 (List._∷_ 91 (List._∷_ 93 List.[]))) (Syntax.tcons (Syntax.tyRef Syntax.erased Syntax.mut MoveTy.behind) (Syntax.tcons (Syntax.tyInt Syntax.w64) Syntax.tnil)))) (List._∷_ (40, Rows.any-gone (Syntax.tyRef Syntax.erased Syntax.mut (Syntax.tyInt Syntax.w64))) (List._∷_ (41, Rows.any-gone (Syntax.tyStruct (List._∷_ 38 (List._∷_ 91 (List._∷_ 93 List.[]))) (Syntax.tcons (Syntax.tyRef Syntax.erased Syntax.mut (Syntax.tyInt Syntax.w64)) (Syntax.tcons (Syntax.tyInt Syntax.w64) Syntax.tnil)))) List.[])))))))))
 
 abbrev pub t3 : List.List Row.Entry
 t3 = List._∷_ (0, Rows.whole (Declared.row Report.the-type)) (List._∷_ (
@@ -1303,7 +1276,7 @@ abbrev pub t32 : List.List Row.Entry
 t32 = List._∷_ (
   32,
   Mut.mslice MoveTy.R (Syntax.tyRef Syntax.erased Syntax.mut MoveTy.behind) 13,
-) (List._∷_ (33, Rows.any-gone (Syntax.tyRef Syntax.erased Syntax.mut (Syntax.tyInt Syntax.w32))) (List._∷_ (34, Rows.any-gone (Syntax.tyStruct (List._∷_ 38 (List._∷_ 91 (List._∷_ 93 List.[]))) (Syntax.tcons (Syntax.tyRef Syntax.erased Syntax.mut (Syntax.tyInt Syntax.w32)) (Syntax.tcons (Syntax.tyInt Syntax.w64) Syntax.tnil)))) (List._∷_ (35, Rows.any-gone (Syntax.tyRef Syntax.erased Syntax.mut (Syntax.tyInt Syntax.w32))) (List._∷_ (36, Rows.any-gone (Syntax.tyStruct (List._∷_ 38 (List._∷_ 91 (List._∷_ 93 List.[]))) (Syntax.tcons (Syntax.tyRef Syntax.erased Syntax.mut (Syntax.tyInt Syntax.w32)) (Syntax.tcons (Syntax.tyInt Syntax.w64) Syntax.tnil)))) (List._∷_ (37, Rows.any-gone Syntax.tyUnit) (List._∷_ (38, Rows.any-gone (Syntax.tyRef Syntax.erased Syntax.mut (Syntax.tyInt Syntax.w64))) (List._∷_ (39, Rows.any-gone (Syntax.tyStruct (List._∷_ 38 (List._∷_ 91 (List._∷_ 93 List.[]))) (Syntax.tcons (Syntax.tyRef Syntax.erased Syntax.mut (Syntax.tyInt Syntax.w64)) (Syntax.tcons (Syntax.tyInt Syntax.w64) Syntax.tnil)))) (List._∷_ (40, Rows.any-gone (Syntax.tyRef Syntax.erased Syntax.mut MoveTy.behind)) (List._∷_ (41, Rows.any-gone (Syntax.tyStruct (List._∷_ 38 (List._∷_ 91 (List._∷_ 93 List.[]))) (Syntax.tcons (Syntax.tyRef Syntax.erased Syntax.mut MoveTy.behind) (Syntax.tcons (Syntax.tyInt Syntax.w64) Syntax.tnil)))) List.[])))))))))
+) (List._∷_ (33, Rows.any-gone (Syntax.tyRef Syntax.erased Syntax.mut (Syntax.tyInt Syntax.w32))) (List._∷_ (34, Rows.any-gone (Syntax.tyStruct (List._∷_ 38 (List._∷_ 91 (List._∷_ 93 List.[]))) (Syntax.tcons (Syntax.tyRef Syntax.erased Syntax.mut (Syntax.tyInt Syntax.w32)) (Syntax.tcons (Syntax.tyInt Syntax.w64) Syntax.tnil)))) (List._∷_ (35, Rows.any-gone (Syntax.tyRef Syntax.erased Syntax.mut (Syntax.tyInt Syntax.w32))) (List._∷_ (36, Rows.any-gone (Syntax.tyStruct (List._∷_ 38 (List._∷_ 91 (List._∷_ 93 List.[]))) (Syntax.tcons (Syntax.tyRef Syntax.erased Syntax.mut (Syntax.tyInt Syntax.w32)) (Syntax.tcons (Syntax.tyInt Syntax.w64) Syntax.tnil)))) (List._∷_ (37, Rows.any-gone Syntax.tyUnit) (List._∷_ (38, Rows.any-gone (Syntax.tyRef Syntax.erased Syntax.mut MoveTy.behind)) (List._∷_ (39, Rows.any-gone (Syntax.tyStruct (List._∷_ 38 (List._∷_ 91 (List._∷_ 93 List.[]))) (Syntax.tcons (Syntax.tyRef Syntax.erased Syntax.mut MoveTy.behind) (Syntax.tcons (Syntax.tyInt Syntax.w64) Syntax.tnil)))) (List._∷_ (40, Rows.any-gone (Syntax.tyRef Syntax.erased Syntax.mut (Syntax.tyInt Syntax.w64))) (List._∷_ (41, Rows.any-gone (Syntax.tyStruct (List._∷_ 38 (List._∷_ 91 (List._∷_ 93 List.[]))) (Syntax.tcons (Syntax.tyRef Syntax.erased Syntax.mut (Syntax.tyInt Syntax.w64)) (Syntax.tcons (Syntax.tyInt Syntax.w64) Syntax.tnil)))) List.[])))))))))
 
 abbrev pub t33 : List.List Row.Entry
 t33 = List._∷_ (
@@ -1357,13 +1330,13 @@ t34 = List._∷_ (
 ) (List._∷_ (
   34,
   Rows.any-gone (Syntax.tyStruct (List._∷_ 38 (List._∷_ 91 (List._∷_ 93 List.[]))) (Syntax.tcons (Syntax.tyRef Syntax.erased Syntax.mut (Syntax.tyInt Syntax.w32)) (Syntax.tcons (Syntax.tyInt Syntax.w64) Syntax.tnil))),
-) (List._∷_ (35, Rows.any-gone (Syntax.tyRef Syntax.erased Syntax.mut (Syntax.tyInt Syntax.w32))) (List._∷_ (36, Rows.any-gone (Syntax.tyStruct (List._∷_ 38 (List._∷_ 91 (List._∷_ 93 List.[]))) (Syntax.tcons (Syntax.tyRef Syntax.erased Syntax.mut (Syntax.tyInt Syntax.w32)) (Syntax.tcons (Syntax.tyInt Syntax.w64) Syntax.tnil)))) (List._∷_ (37, Rows.any-gone Syntax.tyUnit) (List._∷_ (38, Rows.any-gone (Syntax.tyRef Syntax.erased Syntax.mut (Syntax.tyInt Syntax.w64))) (List._∷_ (39, Rows.any-gone (Syntax.tyStruct (List._∷_ 38 (List._∷_ 91 (List._∷_ 93 List.[]))) (Syntax.tcons (Syntax.tyRef Syntax.erased Syntax.mut (Syntax.tyInt Syntax.w64)) (Syntax.tcons (Syntax.tyInt Syntax.w64) Syntax.tnil)))) (List._∷_ (40, Rows.any-gone (Syntax.tyRef Syntax.erased Syntax.mut MoveTy.behind)) (List._∷_ (41, Rows.any-gone (Syntax.tyStruct (List._∷_ 38 (List._∷_ 91 (List._∷_ 93 List.[]))) (Syntax.tcons (Syntax.tyRef Syntax.erased Syntax.mut MoveTy.behind) (Syntax.tcons (Syntax.tyInt Syntax.w64) Syntax.tnil)))) List.[])))))))))
+) (List._∷_ (35, Rows.any-gone (Syntax.tyRef Syntax.erased Syntax.mut (Syntax.tyInt Syntax.w32))) (List._∷_ (36, Rows.any-gone (Syntax.tyStruct (List._∷_ 38 (List._∷_ 91 (List._∷_ 93 List.[]))) (Syntax.tcons (Syntax.tyRef Syntax.erased Syntax.mut (Syntax.tyInt Syntax.w32)) (Syntax.tcons (Syntax.tyInt Syntax.w64) Syntax.tnil)))) (List._∷_ (37, Rows.any-gone Syntax.tyUnit) (List._∷_ (38, Rows.any-gone (Syntax.tyRef Syntax.erased Syntax.mut MoveTy.behind)) (List._∷_ (39, Rows.any-gone (Syntax.tyStruct (List._∷_ 38 (List._∷_ 91 (List._∷_ 93 List.[]))) (Syntax.tcons (Syntax.tyRef Syntax.erased Syntax.mut MoveTy.behind) (Syntax.tcons (Syntax.tyInt Syntax.w64) Syntax.tnil)))) (List._∷_ (40, Rows.any-gone (Syntax.tyRef Syntax.erased Syntax.mut (Syntax.tyInt Syntax.w64))) (List._∷_ (41, Rows.any-gone (Syntax.tyStruct (List._∷_ 38 (List._∷_ 91 (List._∷_ 93 List.[]))) (Syntax.tcons (Syntax.tyRef Syntax.erased Syntax.mut (Syntax.tyInt Syntax.w64)) (Syntax.tcons (Syntax.tyInt Syntax.w64) Syntax.tnil)))) List.[])))))))))
 
 abbrev pub t35 : List.List Row.Entry
 t35 = List._∷_ (
   32,
   Mut.mslice MoveTy.R (Syntax.tyRef Syntax.erased Syntax.mut MoveTy.behind) 13,
-) (List._∷_ (33, Rows.any-gone (Syntax.tyRef Syntax.erased Syntax.mut (Syntax.tyInt Syntax.w32))) (List._∷_ (34, Mut.mslice (Referent.rtF (Referent.fInt Syntax.w32)) (Syntax.tyRef Syntax.erased Syntax.mut (Syntax.tyInt Syntax.w32)) 14) (List._∷_ (35, Rows.any-gone (Syntax.tyRef Syntax.erased Syntax.mut (Syntax.tyInt Syntax.w32))) (List._∷_ (36, Rows.any-gone (Syntax.tyStruct (List._∷_ 38 (List._∷_ 91 (List._∷_ 93 List.[]))) (Syntax.tcons (Syntax.tyRef Syntax.erased Syntax.mut (Syntax.tyInt Syntax.w32)) (Syntax.tcons (Syntax.tyInt Syntax.w64) Syntax.tnil)))) (List._∷_ (37, Rows.any-gone Syntax.tyUnit) (List._∷_ (38, Rows.any-gone (Syntax.tyRef Syntax.erased Syntax.mut (Syntax.tyInt Syntax.w64))) (List._∷_ (39, Rows.any-gone (Syntax.tyStruct (List._∷_ 38 (List._∷_ 91 (List._∷_ 93 List.[]))) (Syntax.tcons (Syntax.tyRef Syntax.erased Syntax.mut (Syntax.tyInt Syntax.w64)) (Syntax.tcons (Syntax.tyInt Syntax.w64) Syntax.tnil)))) (List._∷_ (40, Rows.any-gone (Syntax.tyRef Syntax.erased Syntax.mut MoveTy.behind)) (List._∷_ (41, Rows.any-gone (Syntax.tyStruct (List._∷_ 38 (List._∷_ 91 (List._∷_ 93 List.[]))) (Syntax.tcons (Syntax.tyRef Syntax.erased Syntax.mut MoveTy.behind) (Syntax.tcons (Syntax.tyInt Syntax.w64) Syntax.tnil)))) List.[])))))))))
+) (List._∷_ (33, Rows.any-gone (Syntax.tyRef Syntax.erased Syntax.mut (Syntax.tyInt Syntax.w32))) (List._∷_ (34, Mut.mslice (Referent.rtF (Referent.fInt Syntax.w32)) (Syntax.tyRef Syntax.erased Syntax.mut (Syntax.tyInt Syntax.w32)) 14) (List._∷_ (35, Rows.any-gone (Syntax.tyRef Syntax.erased Syntax.mut (Syntax.tyInt Syntax.w32))) (List._∷_ (36, Rows.any-gone (Syntax.tyStruct (List._∷_ 38 (List._∷_ 91 (List._∷_ 93 List.[]))) (Syntax.tcons (Syntax.tyRef Syntax.erased Syntax.mut (Syntax.tyInt Syntax.w32)) (Syntax.tcons (Syntax.tyInt Syntax.w64) Syntax.tnil)))) (List._∷_ (37, Rows.any-gone Syntax.tyUnit) (List._∷_ (38, Rows.any-gone (Syntax.tyRef Syntax.erased Syntax.mut MoveTy.behind)) (List._∷_ (39, Rows.any-gone (Syntax.tyStruct (List._∷_ 38 (List._∷_ 91 (List._∷_ 93 List.[]))) (Syntax.tcons (Syntax.tyRef Syntax.erased Syntax.mut MoveTy.behind) (Syntax.tcons (Syntax.tyInt Syntax.w64) Syntax.tnil)))) (List._∷_ (40, Rows.any-gone (Syntax.tyRef Syntax.erased Syntax.mut (Syntax.tyInt Syntax.w64))) (List._∷_ (41, Rows.any-gone (Syntax.tyStruct (List._∷_ 38 (List._∷_ 91 (List._∷_ 93 List.[]))) (Syntax.tcons (Syntax.tyRef Syntax.erased Syntax.mut (Syntax.tyInt Syntax.w64)) (Syntax.tcons (Syntax.tyInt Syntax.w64) Syntax.tnil)))) List.[])))))))))
 
 abbrev pub t36 : List.List Row.Entry
 t36 = List._∷_ (
@@ -1411,13 +1384,13 @@ abbrev pub t37 : List.List Row.Entry
 t37 = List._∷_ (
   32,
   Mut.mslice MoveTy.R (Syntax.tyRef Syntax.erased Syntax.mut MoveTy.behind) 13,
-) (List._∷_ (33, Rows.any-gone (Syntax.tyRef Syntax.erased Syntax.mut (Syntax.tyInt Syntax.w32))) (List._∷_ (34, Mut.mslice (Referent.rtF (Referent.fInt Syntax.w32)) (Syntax.tyRef Syntax.erased Syntax.mut (Syntax.tyInt Syntax.w32)) 14) (List._∷_ (35, Relend.msptr (Referent.rtF (Referent.fInt Syntax.w32)) (Syntax.tyRef Syntax.erased Syntax.mut (Syntax.tyInt Syntax.w32)) 15) (List._∷_ (36, Rows.any-gone (Syntax.tyStruct (List._∷_ 38 (List._∷_ 91 (List._∷_ 93 List.[]))) (Syntax.tcons (Syntax.tyRef Syntax.erased Syntax.mut (Syntax.tyInt Syntax.w32)) (Syntax.tcons (Syntax.tyInt Syntax.w64) Syntax.tnil)))) (List._∷_ (37, Rows.any-gone Syntax.tyUnit) (List._∷_ (38, Rows.any-gone (Syntax.tyRef Syntax.erased Syntax.mut (Syntax.tyInt Syntax.w64))) (List._∷_ (39, Rows.any-gone (Syntax.tyStruct (List._∷_ 38 (List._∷_ 91 (List._∷_ 93 List.[]))) (Syntax.tcons (Syntax.tyRef Syntax.erased Syntax.mut (Syntax.tyInt Syntax.w64)) (Syntax.tcons (Syntax.tyInt Syntax.w64) Syntax.tnil)))) (List._∷_ (40, Rows.any-gone (Syntax.tyRef Syntax.erased Syntax.mut MoveTy.behind)) (List._∷_ (41, Rows.any-gone (Syntax.tyStruct (List._∷_ 38 (List._∷_ 91 (List._∷_ 93 List.[]))) (Syntax.tcons (Syntax.tyRef Syntax.erased Syntax.mut MoveTy.behind) (Syntax.tcons (Syntax.tyInt Syntax.w64) Syntax.tnil)))) List.[])))))))))
+) (List._∷_ (33, Rows.any-gone (Syntax.tyRef Syntax.erased Syntax.mut (Syntax.tyInt Syntax.w32))) (List._∷_ (34, Mut.mslice (Referent.rtF (Referent.fInt Syntax.w32)) (Syntax.tyRef Syntax.erased Syntax.mut (Syntax.tyInt Syntax.w32)) 14) (List._∷_ (35, Relend.msptr (Referent.rtF (Referent.fInt Syntax.w32)) (Syntax.tyRef Syntax.erased Syntax.mut (Syntax.tyInt Syntax.w32)) 15) (List._∷_ (36, Rows.any-gone (Syntax.tyStruct (List._∷_ 38 (List._∷_ 91 (List._∷_ 93 List.[]))) (Syntax.tcons (Syntax.tyRef Syntax.erased Syntax.mut (Syntax.tyInt Syntax.w32)) (Syntax.tcons (Syntax.tyInt Syntax.w64) Syntax.tnil)))) (List._∷_ (37, Rows.any-gone Syntax.tyUnit) (List._∷_ (38, Rows.any-gone (Syntax.tyRef Syntax.erased Syntax.mut MoveTy.behind)) (List._∷_ (39, Rows.any-gone (Syntax.tyStruct (List._∷_ 38 (List._∷_ 91 (List._∷_ 93 List.[]))) (Syntax.tcons (Syntax.tyRef Syntax.erased Syntax.mut MoveTy.behind) (Syntax.tcons (Syntax.tyInt Syntax.w64) Syntax.tnil)))) (List._∷_ (40, Rows.any-gone (Syntax.tyRef Syntax.erased Syntax.mut (Syntax.tyInt Syntax.w64))) (List._∷_ (41, Rows.any-gone (Syntax.tyStruct (List._∷_ 38 (List._∷_ 91 (List._∷_ 93 List.[]))) (Syntax.tcons (Syntax.tyRef Syntax.erased Syntax.mut (Syntax.tyInt Syntax.w64)) (Syntax.tcons (Syntax.tyInt Syntax.w64) Syntax.tnil)))) List.[])))))))))
 
 abbrev pub t38 : List.List Row.Entry
 t38 = List._∷_ (
   32,
   Mut.mslice MoveTy.R (Syntax.tyRef Syntax.erased Syntax.mut MoveTy.behind) 13,
-) (List._∷_ (33, Rows.any-gone (Syntax.tyRef Syntax.erased Syntax.mut (Syntax.tyInt Syntax.w32))) (List._∷_ (34, Mut.mslice (Referent.rtF (Referent.fInt Syntax.w32)) (Syntax.tyRef Syntax.erased Syntax.mut (Syntax.tyInt Syntax.w32)) 14) (List._∷_ (35, Rows.any-gone (Syntax.tyRef Syntax.erased Syntax.mut (Syntax.tyInt Syntax.w32))) (List._∷_ (36, Mut.mslice (Referent.rtF (Referent.fInt Syntax.w32)) (Syntax.tyRef Syntax.erased Syntax.mut (Syntax.tyInt Syntax.w32)) 15) (List._∷_ (37, Rows.any-gone Syntax.tyUnit) (List._∷_ (38, Rows.any-gone (Syntax.tyRef Syntax.erased Syntax.mut (Syntax.tyInt Syntax.w64))) (List._∷_ (39, Rows.any-gone (Syntax.tyStruct (List._∷_ 38 (List._∷_ 91 (List._∷_ 93 List.[]))) (Syntax.tcons (Syntax.tyRef Syntax.erased Syntax.mut (Syntax.tyInt Syntax.w64)) (Syntax.tcons (Syntax.tyInt Syntax.w64) Syntax.tnil)))) (List._∷_ (40, Rows.any-gone (Syntax.tyRef Syntax.erased Syntax.mut MoveTy.behind)) (List._∷_ (41, Rows.any-gone (Syntax.tyStruct (List._∷_ 38 (List._∷_ 91 (List._∷_ 93 List.[]))) (Syntax.tcons (Syntax.tyRef Syntax.erased Syntax.mut MoveTy.behind) (Syntax.tcons (Syntax.tyInt Syntax.w64) Syntax.tnil)))) List.[])))))))))
+) (List._∷_ (33, Rows.any-gone (Syntax.tyRef Syntax.erased Syntax.mut (Syntax.tyInt Syntax.w32))) (List._∷_ (34, Mut.mslice (Referent.rtF (Referent.fInt Syntax.w32)) (Syntax.tyRef Syntax.erased Syntax.mut (Syntax.tyInt Syntax.w32)) 14) (List._∷_ (35, Rows.any-gone (Syntax.tyRef Syntax.erased Syntax.mut (Syntax.tyInt Syntax.w32))) (List._∷_ (36, Mut.mslice (Referent.rtF (Referent.fInt Syntax.w32)) (Syntax.tyRef Syntax.erased Syntax.mut (Syntax.tyInt Syntax.w32)) 15) (List._∷_ (37, Rows.any-gone Syntax.tyUnit) (List._∷_ (38, Rows.any-gone (Syntax.tyRef Syntax.erased Syntax.mut MoveTy.behind)) (List._∷_ (39, Rows.any-gone (Syntax.tyStruct (List._∷_ 38 (List._∷_ 91 (List._∷_ 93 List.[]))) (Syntax.tcons (Syntax.tyRef Syntax.erased Syntax.mut MoveTy.behind) (Syntax.tcons (Syntax.tyInt Syntax.w64) Syntax.tnil)))) (List._∷_ (40, Rows.any-gone (Syntax.tyRef Syntax.erased Syntax.mut (Syntax.tyInt Syntax.w64))) (List._∷_ (41, Rows.any-gone (Syntax.tyStruct (List._∷_ 38 (List._∷_ 91 (List._∷_ 93 List.[]))) (Syntax.tcons (Syntax.tyRef Syntax.erased Syntax.mut (Syntax.tyInt Syntax.w64)) (Syntax.tcons (Syntax.tyInt Syntax.w64) Syntax.tnil)))) List.[])))))))))
 
 abbrev pub t39 : List.List Row.Entry
 t39 = List._∷_ (16, Rows.sc-here (Row.sFloat Ieee.binary64)) (List._∷_ (
@@ -1441,7 +1414,7 @@ abbrev pub t40 : List.List Row.Entry
 t40 = List._∷_ (
   32,
   Mut.msleft MoveTy.R (Syntax.tyRef Syntax.erased Syntax.mut MoveTy.behind),
-) (List._∷_ (33, Rows.any-gone (Syntax.tyRef Syntax.erased Syntax.mut (Syntax.tyInt Syntax.w32))) (List._∷_ (34, Mut.msleft (Referent.rtF (Referent.fInt Syntax.w32)) (Syntax.tyRef Syntax.erased Syntax.mut (Syntax.tyInt Syntax.w32))) (List._∷_ (35, Rows.any-gone (Syntax.tyRef Syntax.erased Syntax.mut (Syntax.tyInt Syntax.w32))) (List._∷_ (36, Mut.msleft (Referent.rtF (Referent.fInt Syntax.w32)) (Syntax.tyRef Syntax.erased Syntax.mut (Syntax.tyInt Syntax.w32))) (List._∷_ (37, Rows.any-gone Syntax.tyUnit) (List._∷_ (38, Rows.any-gone (Syntax.tyRef Syntax.erased Syntax.mut (Syntax.tyInt Syntax.w64))) (List._∷_ (39, Rows.any-gone (Syntax.tyStruct (List._∷_ 38 (List._∷_ 91 (List._∷_ 93 List.[]))) (Syntax.tcons (Syntax.tyRef Syntax.erased Syntax.mut (Syntax.tyInt Syntax.w64)) (Syntax.tcons (Syntax.tyInt Syntax.w64) Syntax.tnil)))) (List._∷_ (40, Rows.any-gone (Syntax.tyRef Syntax.erased Syntax.mut MoveTy.behind)) (List._∷_ (41, Rows.any-gone (Syntax.tyStruct (List._∷_ 38 (List._∷_ 91 (List._∷_ 93 List.[]))) (Syntax.tcons (Syntax.tyRef Syntax.erased Syntax.mut MoveTy.behind) (Syntax.tcons (Syntax.tyInt Syntax.w64) Syntax.tnil)))) List.[])))))))))
+) (List._∷_ (33, Rows.any-gone (Syntax.tyRef Syntax.erased Syntax.mut (Syntax.tyInt Syntax.w32))) (List._∷_ (34, Mut.msleft (Referent.rtF (Referent.fInt Syntax.w32)) (Syntax.tyRef Syntax.erased Syntax.mut (Syntax.tyInt Syntax.w32))) (List._∷_ (35, Rows.any-gone (Syntax.tyRef Syntax.erased Syntax.mut (Syntax.tyInt Syntax.w32))) (List._∷_ (36, Mut.msleft (Referent.rtF (Referent.fInt Syntax.w32)) (Syntax.tyRef Syntax.erased Syntax.mut (Syntax.tyInt Syntax.w32))) (List._∷_ (37, Rows.any-gone Syntax.tyUnit) (List._∷_ (38, Rows.any-gone (Syntax.tyRef Syntax.erased Syntax.mut MoveTy.behind)) (List._∷_ (39, Rows.any-gone (Syntax.tyStruct (List._∷_ 38 (List._∷_ 91 (List._∷_ 93 List.[]))) (Syntax.tcons (Syntax.tyRef Syntax.erased Syntax.mut MoveTy.behind) (Syntax.tcons (Syntax.tyInt Syntax.w64) Syntax.tnil)))) (List._∷_ (40, Rows.any-gone (Syntax.tyRef Syntax.erased Syntax.mut (Syntax.tyInt Syntax.w64))) (List._∷_ (41, Rows.any-gone (Syntax.tyStruct (List._∷_ 38 (List._∷_ 91 (List._∷_ 93 List.[]))) (Syntax.tcons (Syntax.tyRef Syntax.erased Syntax.mut (Syntax.tyInt Syntax.w64)) (Syntax.tcons (Syntax.tyInt Syntax.w64) Syntax.tnil)))) List.[])))))))))
 
 abbrev pub t41 : List.List Row.Entry
 t41 = List._∷_ (
@@ -1669,7 +1642,7 @@ abbrev pub t48 : List.List Row.Entry
 t48 = List._∷_ (
   32,
   Rows.any-gone (Syntax.tyStruct (List._∷_ 38 (List._∷_ 91 (List._∷_ 93 List.[]))) (Syntax.tcons (Syntax.tyRef Syntax.erased Syntax.mut MoveTy.behind) (Syntax.tcons (Syntax.tyInt Syntax.w64) Syntax.tnil))),
-) (List._∷_ (33, Rows.any-gone (Syntax.tyRef Syntax.erased Syntax.mut (Syntax.tyInt Syntax.w32))) (List._∷_ (34, Mut.msleft (Referent.rtF (Referent.fInt Syntax.w32)) (Syntax.tyRef Syntax.erased Syntax.mut (Syntax.tyInt Syntax.w32))) (List._∷_ (35, Rows.any-gone (Syntax.tyRef Syntax.erased Syntax.mut (Syntax.tyInt Syntax.w32))) (List._∷_ (36, Mut.msleft (Referent.rtF (Referent.fInt Syntax.w32)) (Syntax.tyRef Syntax.erased Syntax.mut (Syntax.tyInt Syntax.w32))) (List._∷_ (37, Rows.any-gone Syntax.tyUnit) (List._∷_ (38, Rows.any-gone (Syntax.tyRef Syntax.erased Syntax.mut (Syntax.tyInt Syntax.w64))) (List._∷_ (39, Rows.any-gone (Syntax.tyStruct (List._∷_ 38 (List._∷_ 91 (List._∷_ 93 List.[]))) (Syntax.tcons (Syntax.tyRef Syntax.erased Syntax.mut (Syntax.tyInt Syntax.w64)) (Syntax.tcons (Syntax.tyInt Syntax.w64) Syntax.tnil)))) (List._∷_ (40, Rows.any-gone (Syntax.tyRef Syntax.erased Syntax.mut MoveTy.behind)) (List._∷_ (41, Rows.any-gone (Syntax.tyStruct (List._∷_ 38 (List._∷_ 91 (List._∷_ 93 List.[]))) (Syntax.tcons (Syntax.tyRef Syntax.erased Syntax.mut MoveTy.behind) (Syntax.tcons (Syntax.tyInt Syntax.w64) Syntax.tnil)))) List.[])))))))))
+) (List._∷_ (33, Rows.any-gone (Syntax.tyRef Syntax.erased Syntax.mut (Syntax.tyInt Syntax.w32))) (List._∷_ (34, Mut.msleft (Referent.rtF (Referent.fInt Syntax.w32)) (Syntax.tyRef Syntax.erased Syntax.mut (Syntax.tyInt Syntax.w32))) (List._∷_ (35, Rows.any-gone (Syntax.tyRef Syntax.erased Syntax.mut (Syntax.tyInt Syntax.w32))) (List._∷_ (36, Mut.msleft (Referent.rtF (Referent.fInt Syntax.w32)) (Syntax.tyRef Syntax.erased Syntax.mut (Syntax.tyInt Syntax.w32))) (List._∷_ (37, Rows.any-gone Syntax.tyUnit) (List._∷_ (38, Rows.any-gone (Syntax.tyRef Syntax.erased Syntax.mut MoveTy.behind)) (List._∷_ (39, Rows.any-gone (Syntax.tyStruct (List._∷_ 38 (List._∷_ 91 (List._∷_ 93 List.[]))) (Syntax.tcons (Syntax.tyRef Syntax.erased Syntax.mut MoveTy.behind) (Syntax.tcons (Syntax.tyInt Syntax.w64) Syntax.tnil)))) (List._∷_ (40, Rows.any-gone (Syntax.tyRef Syntax.erased Syntax.mut (Syntax.tyInt Syntax.w64))) (List._∷_ (41, Rows.any-gone (Syntax.tyStruct (List._∷_ 38 (List._∷_ 91 (List._∷_ 93 List.[]))) (Syntax.tcons (Syntax.tyRef Syntax.erased Syntax.mut (Syntax.tyInt Syntax.w64)) (Syntax.tcons (Syntax.tyInt Syntax.w64) Syntax.tnil)))) List.[])))))))))
 
 abbrev pub t49 : List.List Row.Entry
 t49 = List._∷_ (
@@ -1717,7 +1690,7 @@ abbrev pub t50 : List.List Row.Entry
 t50 = List._∷_ (
   32,
   Rows.any-gone (Syntax.tyStruct (List._∷_ 38 (List._∷_ 91 (List._∷_ 93 List.[]))) (Syntax.tcons (Syntax.tyRef Syntax.erased Syntax.mut MoveTy.behind) (Syntax.tcons (Syntax.tyInt Syntax.w64) Syntax.tnil))),
-) (List._∷_ (33, Rows.any-gone (Syntax.tyRef Syntax.erased Syntax.mut (Syntax.tyInt Syntax.w32))) (List._∷_ (34, Rows.any-gone (Syntax.tyStruct (List._∷_ 38 (List._∷_ 91 (List._∷_ 93 List.[]))) (Syntax.tcons (Syntax.tyRef Syntax.erased Syntax.mut (Syntax.tyInt Syntax.w32)) (Syntax.tcons (Syntax.tyInt Syntax.w64) Syntax.tnil)))) (List._∷_ (35, Rows.any-gone (Syntax.tyRef Syntax.erased Syntax.mut (Syntax.tyInt Syntax.w32))) (List._∷_ (36, Mut.msleft (Referent.rtF (Referent.fInt Syntax.w32)) (Syntax.tyRef Syntax.erased Syntax.mut (Syntax.tyInt Syntax.w32))) (List._∷_ (37, Rows.any-gone Syntax.tyUnit) (List._∷_ (38, Rows.any-gone (Syntax.tyRef Syntax.erased Syntax.mut (Syntax.tyInt Syntax.w64))) (List._∷_ (39, Rows.any-gone (Syntax.tyStruct (List._∷_ 38 (List._∷_ 91 (List._∷_ 93 List.[]))) (Syntax.tcons (Syntax.tyRef Syntax.erased Syntax.mut (Syntax.tyInt Syntax.w64)) (Syntax.tcons (Syntax.tyInt Syntax.w64) Syntax.tnil)))) (List._∷_ (40, Rows.any-gone (Syntax.tyRef Syntax.erased Syntax.mut MoveTy.behind)) (List._∷_ (41, Rows.any-gone (Syntax.tyStruct (List._∷_ 38 (List._∷_ 91 (List._∷_ 93 List.[]))) (Syntax.tcons (Syntax.tyRef Syntax.erased Syntax.mut MoveTy.behind) (Syntax.tcons (Syntax.tyInt Syntax.w64) Syntax.tnil)))) List.[])))))))))
+) (List._∷_ (33, Rows.any-gone (Syntax.tyRef Syntax.erased Syntax.mut (Syntax.tyInt Syntax.w32))) (List._∷_ (34, Rows.any-gone (Syntax.tyStruct (List._∷_ 38 (List._∷_ 91 (List._∷_ 93 List.[]))) (Syntax.tcons (Syntax.tyRef Syntax.erased Syntax.mut (Syntax.tyInt Syntax.w32)) (Syntax.tcons (Syntax.tyInt Syntax.w64) Syntax.tnil)))) (List._∷_ (35, Rows.any-gone (Syntax.tyRef Syntax.erased Syntax.mut (Syntax.tyInt Syntax.w32))) (List._∷_ (36, Mut.msleft (Referent.rtF (Referent.fInt Syntax.w32)) (Syntax.tyRef Syntax.erased Syntax.mut (Syntax.tyInt Syntax.w32))) (List._∷_ (37, Rows.any-gone Syntax.tyUnit) (List._∷_ (38, Rows.any-gone (Syntax.tyRef Syntax.erased Syntax.mut MoveTy.behind)) (List._∷_ (39, Rows.any-gone (Syntax.tyStruct (List._∷_ 38 (List._∷_ 91 (List._∷_ 93 List.[]))) (Syntax.tcons (Syntax.tyRef Syntax.erased Syntax.mut MoveTy.behind) (Syntax.tcons (Syntax.tyInt Syntax.w64) Syntax.tnil)))) (List._∷_ (40, Rows.any-gone (Syntax.tyRef Syntax.erased Syntax.mut (Syntax.tyInt Syntax.w64))) (List._∷_ (41, Rows.any-gone (Syntax.tyStruct (List._∷_ 38 (List._∷_ 91 (List._∷_ 93 List.[]))) (Syntax.tcons (Syntax.tyRef Syntax.erased Syntax.mut (Syntax.tyInt Syntax.w64)) (Syntax.tcons (Syntax.tyInt Syntax.w64) Syntax.tnil)))) List.[])))))))))
 
 abbrev pub t51 : List.List Row.Entry
 t51 = List._∷_ (
@@ -1782,10 +1755,10 @@ t52 = List._∷_ (
   Mut.mslice (Referent.rtF (Referent.fInt Syntax.w32)) (Syntax.tyRef (Syntax.named 4) Syntax.mut (Syntax.tyInt Syntax.w32)) 4,
 ) (List._∷_ (
   6,
-  Relend.mslice-owed (Signed.SInt Syntax.w64) (Syntax.tyRef (Syntax.named 5) Syntax.mut (Syntax.tyInt Syntax.w64)) 5 16 Row.off,
+  Mut.mslice (Signed.SInt Syntax.w64) (Syntax.tyRef (Syntax.named 5) Syntax.mut (Syntax.tyInt Syntax.w64)) 5,
 ) (List._∷_ (
   7,
-  Mut.mslice MoveTy.R (Syntax.tyRef (Syntax.named 6) Syntax.mut MoveTy.behind) 6,
+  Relend.mslice-owed MoveTy.R (Syntax.tyRef (Syntax.named 6) Syntax.mut MoveTy.behind) 6 16 Row.off,
 ) (List._∷_ (
   8,
   Mut.mslice (Referent.rtF (Referent.fInt Syntax.w32)) (Syntax.tyRef (Syntax.named 7) Syntax.mut (Syntax.tyInt Syntax.w32)) 7,
@@ -1807,25 +1780,25 @@ abbrev pub t53 : List.List Row.Entry
 t53 = List._∷_ (
   32,
   Rows.any-gone (Syntax.tyStruct (List._∷_ 38 (List._∷_ 91 (List._∷_ 93 List.[]))) (Syntax.tcons (Syntax.tyRef Syntax.erased Syntax.mut MoveTy.behind) (Syntax.tcons (Syntax.tyInt Syntax.w64) Syntax.tnil))),
-) (List._∷_ (33, Rows.any-gone (Syntax.tyRef Syntax.erased Syntax.mut (Syntax.tyInt Syntax.w32))) (List._∷_ (34, Rows.any-gone (Syntax.tyStruct (List._∷_ 38 (List._∷_ 91 (List._∷_ 93 List.[]))) (Syntax.tcons (Syntax.tyRef Syntax.erased Syntax.mut (Syntax.tyInt Syntax.w32)) (Syntax.tcons (Syntax.tyInt Syntax.w64) Syntax.tnil)))) (List._∷_ (35, Rows.any-gone (Syntax.tyRef Syntax.erased Syntax.mut (Syntax.tyInt Syntax.w32))) (List._∷_ (36, Rows.any-gone (Syntax.tyStruct (List._∷_ 38 (List._∷_ 91 (List._∷_ 93 List.[]))) (Syntax.tcons (Syntax.tyRef Syntax.erased Syntax.mut (Syntax.tyInt Syntax.w32)) (Syntax.tcons (Syntax.tyInt Syntax.w64) Syntax.tnil)))) (List._∷_ (37, Rows.any-gone Syntax.tyUnit) (List._∷_ (38, Relend.msptr (Signed.SInt Syntax.w64) (Syntax.tyRef Syntax.erased Syntax.mut (Syntax.tyInt Syntax.w64)) 16) (List._∷_ (39, Rows.any-gone (Syntax.tyStruct (List._∷_ 38 (List._∷_ 91 (List._∷_ 93 List.[]))) (Syntax.tcons (Syntax.tyRef Syntax.erased Syntax.mut (Syntax.tyInt Syntax.w64)) (Syntax.tcons (Syntax.tyInt Syntax.w64) Syntax.tnil)))) (List._∷_ (40, Rows.any-gone (Syntax.tyRef Syntax.erased Syntax.mut MoveTy.behind)) (List._∷_ (41, Rows.any-gone (Syntax.tyStruct (List._∷_ 38 (List._∷_ 91 (List._∷_ 93 List.[]))) (Syntax.tcons (Syntax.tyRef Syntax.erased Syntax.mut MoveTy.behind) (Syntax.tcons (Syntax.tyInt Syntax.w64) Syntax.tnil)))) List.[])))))))))
+) (List._∷_ (33, Rows.any-gone (Syntax.tyRef Syntax.erased Syntax.mut (Syntax.tyInt Syntax.w32))) (List._∷_ (34, Rows.any-gone (Syntax.tyStruct (List._∷_ 38 (List._∷_ 91 (List._∷_ 93 List.[]))) (Syntax.tcons (Syntax.tyRef Syntax.erased Syntax.mut (Syntax.tyInt Syntax.w32)) (Syntax.tcons (Syntax.tyInt Syntax.w64) Syntax.tnil)))) (List._∷_ (35, Rows.any-gone (Syntax.tyRef Syntax.erased Syntax.mut (Syntax.tyInt Syntax.w32))) (List._∷_ (36, Rows.any-gone (Syntax.tyStruct (List._∷_ 38 (List._∷_ 91 (List._∷_ 93 List.[]))) (Syntax.tcons (Syntax.tyRef Syntax.erased Syntax.mut (Syntax.tyInt Syntax.w32)) (Syntax.tcons (Syntax.tyInt Syntax.w64) Syntax.tnil)))) (List._∷_ (37, Rows.any-gone Syntax.tyUnit) (List._∷_ (38, Relend.msptr MoveTy.R (Syntax.tyRef Syntax.erased Syntax.mut MoveTy.behind) 16) (List._∷_ (39, Rows.any-gone (Syntax.tyStruct (List._∷_ 38 (List._∷_ 91 (List._∷_ 93 List.[]))) (Syntax.tcons (Syntax.tyRef Syntax.erased Syntax.mut MoveTy.behind) (Syntax.tcons (Syntax.tyInt Syntax.w64) Syntax.tnil)))) (List._∷_ (40, Rows.any-gone (Syntax.tyRef Syntax.erased Syntax.mut (Syntax.tyInt Syntax.w64))) (List._∷_ (41, Rows.any-gone (Syntax.tyStruct (List._∷_ 38 (List._∷_ 91 (List._∷_ 93 List.[]))) (Syntax.tcons (Syntax.tyRef Syntax.erased Syntax.mut (Syntax.tyInt Syntax.w64)) (Syntax.tcons (Syntax.tyInt Syntax.w64) Syntax.tnil)))) List.[])))))))))
 
 abbrev pub t54 : List.List Row.Entry
 t54 = List._∷_ (
   32,
   Rows.any-gone (Syntax.tyStruct (List._∷_ 38 (List._∷_ 91 (List._∷_ 93 List.[]))) (Syntax.tcons (Syntax.tyRef Syntax.erased Syntax.mut MoveTy.behind) (Syntax.tcons (Syntax.tyInt Syntax.w64) Syntax.tnil))),
-) (List._∷_ (33, Rows.any-gone (Syntax.tyRef Syntax.erased Syntax.mut (Syntax.tyInt Syntax.w32))) (List._∷_ (34, Rows.any-gone (Syntax.tyStruct (List._∷_ 38 (List._∷_ 91 (List._∷_ 93 List.[]))) (Syntax.tcons (Syntax.tyRef Syntax.erased Syntax.mut (Syntax.tyInt Syntax.w32)) (Syntax.tcons (Syntax.tyInt Syntax.w64) Syntax.tnil)))) (List._∷_ (35, Rows.any-gone (Syntax.tyRef Syntax.erased Syntax.mut (Syntax.tyInt Syntax.w32))) (List._∷_ (36, Rows.any-gone (Syntax.tyStruct (List._∷_ 38 (List._∷_ 91 (List._∷_ 93 List.[]))) (Syntax.tcons (Syntax.tyRef Syntax.erased Syntax.mut (Syntax.tyInt Syntax.w32)) (Syntax.tcons (Syntax.tyInt Syntax.w64) Syntax.tnil)))) (List._∷_ (37, Rows.any-gone Syntax.tyUnit) (List._∷_ (38, Rows.any-gone (Syntax.tyRef Syntax.erased Syntax.mut (Syntax.tyInt Syntax.w64))) (List._∷_ (39, Mut.mslice (Signed.SInt Syntax.w64) (Syntax.tyRef Syntax.erased Syntax.mut (Syntax.tyInt Syntax.w64)) 16) (List._∷_ (40, Rows.any-gone (Syntax.tyRef Syntax.erased Syntax.mut MoveTy.behind)) (List._∷_ (41, Rows.any-gone (Syntax.tyStruct (List._∷_ 38 (List._∷_ 91 (List._∷_ 93 List.[]))) (Syntax.tcons (Syntax.tyRef Syntax.erased Syntax.mut MoveTy.behind) (Syntax.tcons (Syntax.tyInt Syntax.w64) Syntax.tnil)))) List.[])))))))))
+) (List._∷_ (33, Rows.any-gone (Syntax.tyRef Syntax.erased Syntax.mut (Syntax.tyInt Syntax.w32))) (List._∷_ (34, Rows.any-gone (Syntax.tyStruct (List._∷_ 38 (List._∷_ 91 (List._∷_ 93 List.[]))) (Syntax.tcons (Syntax.tyRef Syntax.erased Syntax.mut (Syntax.tyInt Syntax.w32)) (Syntax.tcons (Syntax.tyInt Syntax.w64) Syntax.tnil)))) (List._∷_ (35, Rows.any-gone (Syntax.tyRef Syntax.erased Syntax.mut (Syntax.tyInt Syntax.w32))) (List._∷_ (36, Rows.any-gone (Syntax.tyStruct (List._∷_ 38 (List._∷_ 91 (List._∷_ 93 List.[]))) (Syntax.tcons (Syntax.tyRef Syntax.erased Syntax.mut (Syntax.tyInt Syntax.w32)) (Syntax.tcons (Syntax.tyInt Syntax.w64) Syntax.tnil)))) (List._∷_ (37, Rows.any-gone Syntax.tyUnit) (List._∷_ (38, Rows.any-gone (Syntax.tyRef Syntax.erased Syntax.mut MoveTy.behind)) (List._∷_ (39, Mut.mslice MoveTy.R (Syntax.tyRef Syntax.erased Syntax.mut MoveTy.behind) 16) (List._∷_ (40, Rows.any-gone (Syntax.tyRef Syntax.erased Syntax.mut (Syntax.tyInt Syntax.w64))) (List._∷_ (41, Rows.any-gone (Syntax.tyStruct (List._∷_ 38 (List._∷_ 91 (List._∷_ 93 List.[]))) (Syntax.tcons (Syntax.tyRef Syntax.erased Syntax.mut (Syntax.tyInt Syntax.w64)) (Syntax.tcons (Syntax.tyInt Syntax.w64) Syntax.tnil)))) List.[])))))))))
 
 abbrev pub t55 : List.List Row.Entry
 t55 = List._∷_ (
   32,
   Rows.any-gone (Syntax.tyStruct (List._∷_ 38 (List._∷_ 91 (List._∷_ 93 List.[]))) (Syntax.tcons (Syntax.tyRef Syntax.erased Syntax.mut MoveTy.behind) (Syntax.tcons (Syntax.tyInt Syntax.w64) Syntax.tnil))),
-) (List._∷_ (33, Rows.any-gone (Syntax.tyRef Syntax.erased Syntax.mut (Syntax.tyInt Syntax.w32))) (List._∷_ (34, Rows.any-gone (Syntax.tyStruct (List._∷_ 38 (List._∷_ 91 (List._∷_ 93 List.[]))) (Syntax.tcons (Syntax.tyRef Syntax.erased Syntax.mut (Syntax.tyInt Syntax.w32)) (Syntax.tcons (Syntax.tyInt Syntax.w64) Syntax.tnil)))) (List._∷_ (35, Rows.any-gone (Syntax.tyRef Syntax.erased Syntax.mut (Syntax.tyInt Syntax.w32))) (List._∷_ (36, Rows.any-gone (Syntax.tyStruct (List._∷_ 38 (List._∷_ 91 (List._∷_ 93 List.[]))) (Syntax.tcons (Syntax.tyRef Syntax.erased Syntax.mut (Syntax.tyInt Syntax.w32)) (Syntax.tcons (Syntax.tyInt Syntax.w64) Syntax.tnil)))) (List._∷_ (37, Rows.sc-here Row.sUnit) (List._∷_ (38, Rows.any-gone (Syntax.tyRef Syntax.erased Syntax.mut (Syntax.tyInt Syntax.w64))) (List._∷_ (39, Mut.msleft (Signed.SInt Syntax.w64) (Syntax.tyRef Syntax.erased Syntax.mut (Syntax.tyInt Syntax.w64))) (List._∷_ (40, Rows.any-gone (Syntax.tyRef Syntax.erased Syntax.mut MoveTy.behind)) (List._∷_ (41, Rows.any-gone (Syntax.tyStruct (List._∷_ 38 (List._∷_ 91 (List._∷_ 93 List.[]))) (Syntax.tcons (Syntax.tyRef Syntax.erased Syntax.mut MoveTy.behind) (Syntax.tcons (Syntax.tyInt Syntax.w64) Syntax.tnil)))) List.[])))))))))
+) (List._∷_ (33, Rows.any-gone (Syntax.tyRef Syntax.erased Syntax.mut (Syntax.tyInt Syntax.w32))) (List._∷_ (34, Rows.any-gone (Syntax.tyStruct (List._∷_ 38 (List._∷_ 91 (List._∷_ 93 List.[]))) (Syntax.tcons (Syntax.tyRef Syntax.erased Syntax.mut (Syntax.tyInt Syntax.w32)) (Syntax.tcons (Syntax.tyInt Syntax.w64) Syntax.tnil)))) (List._∷_ (35, Rows.any-gone (Syntax.tyRef Syntax.erased Syntax.mut (Syntax.tyInt Syntax.w32))) (List._∷_ (36, Rows.any-gone (Syntax.tyStruct (List._∷_ 38 (List._∷_ 91 (List._∷_ 93 List.[]))) (Syntax.tcons (Syntax.tyRef Syntax.erased Syntax.mut (Syntax.tyInt Syntax.w32)) (Syntax.tcons (Syntax.tyInt Syntax.w64) Syntax.tnil)))) (List._∷_ (37, Rows.sc-here Row.sUnit) (List._∷_ (38, Rows.any-gone (Syntax.tyRef Syntax.erased Syntax.mut MoveTy.behind)) (List._∷_ (39, Mut.msleft MoveTy.R (Syntax.tyRef Syntax.erased Syntax.mut MoveTy.behind)) (List._∷_ (40, Rows.any-gone (Syntax.tyRef Syntax.erased Syntax.mut (Syntax.tyInt Syntax.w64))) (List._∷_ (41, Rows.any-gone (Syntax.tyStruct (List._∷_ 38 (List._∷_ 91 (List._∷_ 93 List.[]))) (Syntax.tcons (Syntax.tyRef Syntax.erased Syntax.mut (Syntax.tyInt Syntax.w64)) (Syntax.tcons (Syntax.tyInt Syntax.w64) Syntax.tnil)))) List.[])))))))))
 
 abbrev pub t56 : List.List Row.Entry
 t56 = List._∷_ (
   32,
   Rows.any-gone (Syntax.tyStruct (List._∷_ 38 (List._∷_ 91 (List._∷_ 93 List.[]))) (Syntax.tcons (Syntax.tyRef Syntax.erased Syntax.mut MoveTy.behind) (Syntax.tcons (Syntax.tyInt Syntax.w64) Syntax.tnil))),
-) (List._∷_ (33, Rows.any-gone (Syntax.tyRef Syntax.erased Syntax.mut (Syntax.tyInt Syntax.w32))) (List._∷_ (34, Rows.any-gone (Syntax.tyStruct (List._∷_ 38 (List._∷_ 91 (List._∷_ 93 List.[]))) (Syntax.tcons (Syntax.tyRef Syntax.erased Syntax.mut (Syntax.tyInt Syntax.w32)) (Syntax.tcons (Syntax.tyInt Syntax.w64) Syntax.tnil)))) (List._∷_ (35, Rows.any-gone (Syntax.tyRef Syntax.erased Syntax.mut (Syntax.tyInt Syntax.w32))) (List._∷_ (36, Rows.any-gone (Syntax.tyStruct (List._∷_ 38 (List._∷_ 91 (List._∷_ 93 List.[]))) (Syntax.tcons (Syntax.tyRef Syntax.erased Syntax.mut (Syntax.tyInt Syntax.w32)) (Syntax.tcons (Syntax.tyInt Syntax.w64) Syntax.tnil)))) (List._∷_ (37, Rows.any-gone Syntax.tyUnit) (List._∷_ (38, Rows.any-gone (Syntax.tyRef Syntax.erased Syntax.mut (Syntax.tyInt Syntax.w64))) (List._∷_ (39, Mut.msleft (Signed.SInt Syntax.w64) (Syntax.tyRef Syntax.erased Syntax.mut (Syntax.tyInt Syntax.w64))) (List._∷_ (40, Rows.any-gone (Syntax.tyRef Syntax.erased Syntax.mut MoveTy.behind)) (List._∷_ (41, Rows.any-gone (Syntax.tyStruct (List._∷_ 38 (List._∷_ 91 (List._∷_ 93 List.[]))) (Syntax.tcons (Syntax.tyRef Syntax.erased Syntax.mut MoveTy.behind) (Syntax.tcons (Syntax.tyInt Syntax.w64) Syntax.tnil)))) List.[])))))))))
+) (List._∷_ (33, Rows.any-gone (Syntax.tyRef Syntax.erased Syntax.mut (Syntax.tyInt Syntax.w32))) (List._∷_ (34, Rows.any-gone (Syntax.tyStruct (List._∷_ 38 (List._∷_ 91 (List._∷_ 93 List.[]))) (Syntax.tcons (Syntax.tyRef Syntax.erased Syntax.mut (Syntax.tyInt Syntax.w32)) (Syntax.tcons (Syntax.tyInt Syntax.w64) Syntax.tnil)))) (List._∷_ (35, Rows.any-gone (Syntax.tyRef Syntax.erased Syntax.mut (Syntax.tyInt Syntax.w32))) (List._∷_ (36, Rows.any-gone (Syntax.tyStruct (List._∷_ 38 (List._∷_ 91 (List._∷_ 93 List.[]))) (Syntax.tcons (Syntax.tyRef Syntax.erased Syntax.mut (Syntax.tyInt Syntax.w32)) (Syntax.tcons (Syntax.tyInt Syntax.w64) Syntax.tnil)))) (List._∷_ (37, Rows.any-gone Syntax.tyUnit) (List._∷_ (38, Rows.any-gone (Syntax.tyRef Syntax.erased Syntax.mut MoveTy.behind)) (List._∷_ (39, Mut.msleft MoveTy.R (Syntax.tyRef Syntax.erased Syntax.mut MoveTy.behind)) (List._∷_ (40, Rows.any-gone (Syntax.tyRef Syntax.erased Syntax.mut (Syntax.tyInt Syntax.w64))) (List._∷_ (41, Rows.any-gone (Syntax.tyStruct (List._∷_ 38 (List._∷_ 91 (List._∷_ 93 List.[]))) (Syntax.tcons (Syntax.tyRef Syntax.erased Syntax.mut (Syntax.tyInt Syntax.w64)) (Syntax.tcons (Syntax.tyInt Syntax.w64) Syntax.tnil)))) List.[])))))))))
 
 abbrev pub t57 : List.List Row.Entry
 t57 = List._∷_ (
@@ -1848,10 +1821,10 @@ t57 = List._∷_ (
   Mut.mslice (Referent.rtF (Referent.fInt Syntax.w32)) (Syntax.tyRef (Syntax.named 4) Syntax.mut (Syntax.tyInt Syntax.w32)) 4,
 ) (List._∷_ (
   6,
-  Mut.mslice (Signed.SInt Syntax.w64) (Syntax.tyRef (Syntax.named 5) Syntax.mut (Syntax.tyInt Syntax.w64)) 5,
+  Relend.mslice-owed (Signed.SInt Syntax.w64) (Syntax.tyRef (Syntax.named 5) Syntax.mut (Syntax.tyInt Syntax.w64)) 5 17 Row.off,
 ) (List._∷_ (
   7,
-  Relend.mslice-owed MoveTy.R (Syntax.tyRef (Syntax.named 6) Syntax.mut MoveTy.behind) 6 17 Row.off,
+  Mut.mslice MoveTy.R (Syntax.tyRef (Syntax.named 6) Syntax.mut MoveTy.behind) 6,
 ) (List._∷_ (
   8,
   Mut.mslice (Referent.rtF (Referent.fInt Syntax.w32)) (Syntax.tyRef (Syntax.named 7) Syntax.mut (Syntax.tyInt Syntax.w32)) 7,
@@ -1873,25 +1846,58 @@ abbrev pub t58 : List.List Row.Entry
 t58 = List._∷_ (
   32,
   Rows.any-gone (Syntax.tyStruct (List._∷_ 38 (List._∷_ 91 (List._∷_ 93 List.[]))) (Syntax.tcons (Syntax.tyRef Syntax.erased Syntax.mut MoveTy.behind) (Syntax.tcons (Syntax.tyInt Syntax.w64) Syntax.tnil))),
-) (List._∷_ (33, Rows.any-gone (Syntax.tyRef Syntax.erased Syntax.mut (Syntax.tyInt Syntax.w32))) (List._∷_ (34, Rows.any-gone (Syntax.tyStruct (List._∷_ 38 (List._∷_ 91 (List._∷_ 93 List.[]))) (Syntax.tcons (Syntax.tyRef Syntax.erased Syntax.mut (Syntax.tyInt Syntax.w32)) (Syntax.tcons (Syntax.tyInt Syntax.w64) Syntax.tnil)))) (List._∷_ (35, Rows.any-gone (Syntax.tyRef Syntax.erased Syntax.mut (Syntax.tyInt Syntax.w32))) (List._∷_ (36, Rows.any-gone (Syntax.tyStruct (List._∷_ 38 (List._∷_ 91 (List._∷_ 93 List.[]))) (Syntax.tcons (Syntax.tyRef Syntax.erased Syntax.mut (Syntax.tyInt Syntax.w32)) (Syntax.tcons (Syntax.tyInt Syntax.w64) Syntax.tnil)))) (List._∷_ (37, Rows.any-gone Syntax.tyUnit) (List._∷_ (38, Rows.any-gone (Syntax.tyRef Syntax.erased Syntax.mut (Syntax.tyInt Syntax.w64))) (List._∷_ (39, Rows.any-gone (Syntax.tyStruct (List._∷_ 38 (List._∷_ 91 (List._∷_ 93 List.[]))) (Syntax.tcons (Syntax.tyRef Syntax.erased Syntax.mut (Syntax.tyInt Syntax.w64)) (Syntax.tcons (Syntax.tyInt Syntax.w64) Syntax.tnil)))) (List._∷_ (40, Relend.msptr MoveTy.R (Syntax.tyRef Syntax.erased Syntax.mut MoveTy.behind) 17) (List._∷_ (41, Rows.any-gone (Syntax.tyStruct (List._∷_ 38 (List._∷_ 91 (List._∷_ 93 List.[]))) (Syntax.tcons (Syntax.tyRef Syntax.erased Syntax.mut MoveTy.behind) (Syntax.tcons (Syntax.tyInt Syntax.w64) Syntax.tnil)))) List.[])))))))))
+) (List._∷_ (33, Rows.any-gone (Syntax.tyRef Syntax.erased Syntax.mut (Syntax.tyInt Syntax.w32))) (List._∷_ (34, Rows.any-gone (Syntax.tyStruct (List._∷_ 38 (List._∷_ 91 (List._∷_ 93 List.[]))) (Syntax.tcons (Syntax.tyRef Syntax.erased Syntax.mut (Syntax.tyInt Syntax.w32)) (Syntax.tcons (Syntax.tyInt Syntax.w64) Syntax.tnil)))) (List._∷_ (35, Rows.any-gone (Syntax.tyRef Syntax.erased Syntax.mut (Syntax.tyInt Syntax.w32))) (List._∷_ (36, Rows.any-gone (Syntax.tyStruct (List._∷_ 38 (List._∷_ 91 (List._∷_ 93 List.[]))) (Syntax.tcons (Syntax.tyRef Syntax.erased Syntax.mut (Syntax.tyInt Syntax.w32)) (Syntax.tcons (Syntax.tyInt Syntax.w64) Syntax.tnil)))) (List._∷_ (37, Rows.any-gone Syntax.tyUnit) (List._∷_ (38, Rows.any-gone (Syntax.tyRef Syntax.erased Syntax.mut MoveTy.behind)) (List._∷_ (39, Rows.any-gone (Syntax.tyStruct (List._∷_ 38 (List._∷_ 91 (List._∷_ 93 List.[]))) (Syntax.tcons (Syntax.tyRef Syntax.erased Syntax.mut MoveTy.behind) (Syntax.tcons (Syntax.tyInt Syntax.w64) Syntax.tnil)))) (List._∷_ (40, Relend.msptr (Signed.SInt Syntax.w64) (Syntax.tyRef Syntax.erased Syntax.mut (Syntax.tyInt Syntax.w64)) 17) (List._∷_ (41, Rows.any-gone (Syntax.tyStruct (List._∷_ 38 (List._∷_ 91 (List._∷_ 93 List.[]))) (Syntax.tcons (Syntax.tyRef Syntax.erased Syntax.mut (Syntax.tyInt Syntax.w64)) (Syntax.tcons (Syntax.tyInt Syntax.w64) Syntax.tnil)))) List.[])))))))))
 
 abbrev pub t59 : List.List Row.Entry
 t59 = List._∷_ (
   32,
   Rows.any-gone (Syntax.tyStruct (List._∷_ 38 (List._∷_ 91 (List._∷_ 93 List.[]))) (Syntax.tcons (Syntax.tyRef Syntax.erased Syntax.mut MoveTy.behind) (Syntax.tcons (Syntax.tyInt Syntax.w64) Syntax.tnil))),
-) (List._∷_ (33, Rows.any-gone (Syntax.tyRef Syntax.erased Syntax.mut (Syntax.tyInt Syntax.w32))) (List._∷_ (34, Rows.any-gone (Syntax.tyStruct (List._∷_ 38 (List._∷_ 91 (List._∷_ 93 List.[]))) (Syntax.tcons (Syntax.tyRef Syntax.erased Syntax.mut (Syntax.tyInt Syntax.w32)) (Syntax.tcons (Syntax.tyInt Syntax.w64) Syntax.tnil)))) (List._∷_ (35, Rows.any-gone (Syntax.tyRef Syntax.erased Syntax.mut (Syntax.tyInt Syntax.w32))) (List._∷_ (36, Rows.any-gone (Syntax.tyStruct (List._∷_ 38 (List._∷_ 91 (List._∷_ 93 List.[]))) (Syntax.tcons (Syntax.tyRef Syntax.erased Syntax.mut (Syntax.tyInt Syntax.w32)) (Syntax.tcons (Syntax.tyInt Syntax.w64) Syntax.tnil)))) (List._∷_ (37, Rows.any-gone Syntax.tyUnit) (List._∷_ (38, Rows.any-gone (Syntax.tyRef Syntax.erased Syntax.mut (Syntax.tyInt Syntax.w64))) (List._∷_ (39, Rows.any-gone (Syntax.tyStruct (List._∷_ 38 (List._∷_ 91 (List._∷_ 93 List.[]))) (Syntax.tcons (Syntax.tyRef Syntax.erased Syntax.mut (Syntax.tyInt Syntax.w64)) (Syntax.tcons (Syntax.tyInt Syntax.w64) Syntax.tnil)))) (List._∷_ (40, Rows.any-gone (Syntax.tyRef Syntax.erased Syntax.mut MoveTy.behind)) (List._∷_ (41, Mut.mslice MoveTy.R (Syntax.tyRef Syntax.erased Syntax.mut MoveTy.behind) 17) List.[])))))))))
+) (List._∷_ (33, Rows.any-gone (Syntax.tyRef Syntax.erased Syntax.mut (Syntax.tyInt Syntax.w32))) (List._∷_ (34, Rows.any-gone (Syntax.tyStruct (List._∷_ 38 (List._∷_ 91 (List._∷_ 93 List.[]))) (Syntax.tcons (Syntax.tyRef Syntax.erased Syntax.mut (Syntax.tyInt Syntax.w32)) (Syntax.tcons (Syntax.tyInt Syntax.w64) Syntax.tnil)))) (List._∷_ (35, Rows.any-gone (Syntax.tyRef Syntax.erased Syntax.mut (Syntax.tyInt Syntax.w32))) (List._∷_ (36, Rows.any-gone (Syntax.tyStruct (List._∷_ 38 (List._∷_ 91 (List._∷_ 93 List.[]))) (Syntax.tcons (Syntax.tyRef Syntax.erased Syntax.mut (Syntax.tyInt Syntax.w32)) (Syntax.tcons (Syntax.tyInt Syntax.w64) Syntax.tnil)))) (List._∷_ (37, Rows.any-gone Syntax.tyUnit) (List._∷_ (38, Rows.any-gone (Syntax.tyRef Syntax.erased Syntax.mut MoveTy.behind)) (List._∷_ (39, Rows.any-gone (Syntax.tyStruct (List._∷_ 38 (List._∷_ 91 (List._∷_ 93 List.[]))) (Syntax.tcons (Syntax.tyRef Syntax.erased Syntax.mut MoveTy.behind) (Syntax.tcons (Syntax.tyInt Syntax.w64) Syntax.tnil)))) (List._∷_ (40, Rows.any-gone (Syntax.tyRef Syntax.erased Syntax.mut (Syntax.tyInt Syntax.w64))) (List._∷_ (41, Mut.mslice (Signed.SInt Syntax.w64) (Syntax.tyRef Syntax.erased Syntax.mut (Syntax.tyInt Syntax.w64)) 17) List.[])))))))))
 
 abbrev pub t60 : List.List Row.Entry
-t60 = List._∷_ (
-  32,
-  Rows.any-gone (Syntax.tyStruct (List._∷_ 38 (List._∷_ 91 (List._∷_ 93 List.[]))) (Syntax.tcons (Syntax.tyRef Syntax.erased Syntax.mut MoveTy.behind) (Syntax.tcons (Syntax.tyInt Syntax.w64) Syntax.tnil))),
-) (List._∷_ (33, Rows.any-gone (Syntax.tyRef Syntax.erased Syntax.mut (Syntax.tyInt Syntax.w32))) (List._∷_ (34, Rows.any-gone (Syntax.tyStruct (List._∷_ 38 (List._∷_ 91 (List._∷_ 93 List.[]))) (Syntax.tcons (Syntax.tyRef Syntax.erased Syntax.mut (Syntax.tyInt Syntax.w32)) (Syntax.tcons (Syntax.tyInt Syntax.w64) Syntax.tnil)))) (List._∷_ (35, Rows.any-gone (Syntax.tyRef Syntax.erased Syntax.mut (Syntax.tyInt Syntax.w32))) (List._∷_ (36, Rows.any-gone (Syntax.tyStruct (List._∷_ 38 (List._∷_ 91 (List._∷_ 93 List.[]))) (Syntax.tcons (Syntax.tyRef Syntax.erased Syntax.mut (Syntax.tyInt Syntax.w32)) (Syntax.tcons (Syntax.tyInt Syntax.w64) Syntax.tnil)))) (List._∷_ (37, Rows.sc-here Row.sUnit) (List._∷_ (38, Rows.any-gone (Syntax.tyRef Syntax.erased Syntax.mut (Syntax.tyInt Syntax.w64))) (List._∷_ (39, Rows.any-gone (Syntax.tyStruct (List._∷_ 38 (List._∷_ 91 (List._∷_ 93 List.[]))) (Syntax.tcons (Syntax.tyRef Syntax.erased Syntax.mut (Syntax.tyInt Syntax.w64)) (Syntax.tcons (Syntax.tyInt Syntax.w64) Syntax.tnil)))) (List._∷_ (40, Rows.any-gone (Syntax.tyRef Syntax.erased Syntax.mut MoveTy.behind)) (List._∷_ (41, Mut.msleft MoveTy.R (Syntax.tyRef Syntax.erased Syntax.mut MoveTy.behind)) List.[])))))))))
+t60 = List._∷_ (0, Rows.whole (Declared.row Report.the-type)) (List._∷_ (
+  1,
+  Rows.sslice (Referent.rtF (Referent.fInt Syntax.w32)) (Syntax.tyRef (Syntax.named 0) Syntax.imm (Syntax.tyInt Syntax.w32)) 0,
+) (List._∷_ (
+  2,
+  Rows.sslice (Referent.rtF (Referent.fInt Syntax.w32)) (Syntax.tyRef (Syntax.named 1) Syntax.imm (Syntax.tyInt Syntax.w32)) 1,
+) (List._∷_ (
+  3,
+  Rows.sslice (Referent.rtF (Referent.fInt Syntax.w32)) (Syntax.tyRef (Syntax.named 2) Syntax.imm (Syntax.tyInt Syntax.w32)) 2,
+) (List._∷_ (
+  4,
+  Rows.sslice (Referent.rtF (Referent.fInt Syntax.w32)) (Syntax.tyRef (Syntax.named 3) Syntax.imm (Syntax.tyInt Syntax.w32)) 3,
+) (List._∷_ (
+  5,
+  Mut.mslice (Referent.rtF (Referent.fInt Syntax.w32)) (Syntax.tyRef (Syntax.named 4) Syntax.mut (Syntax.tyInt Syntax.w32)) 4,
+) (List._∷_ (
+  6,
+  Relend.mslice-owed (Signed.SInt Syntax.w64) (Syntax.tyRef (Syntax.named 5) Syntax.mut (Syntax.tyInt Syntax.w64)) 5 17 Row.off,
+) (List._∷_ (
+  7,
+  Mut.mslice MoveTy.R (Syntax.tyRef (Syntax.named 6) Syntax.mut MoveTy.behind) 6,
+) (List._∷_ (
+  8,
+  Mut.mslice (Referent.rtF (Referent.fInt Syntax.w32)) (Syntax.tyRef (Syntax.named 7) Syntax.mut (Syntax.tyInt Syntax.w32)) 7,
+) (List._∷_ (
+  9,
+  Mut.mslice (Referent.rtF (Referent.fInt Syntax.w32)) (Syntax.tyRef (Syntax.named 8) Syntax.mut (Syntax.tyInt Syntax.w32)) 8,
+) (List._∷_ (
+  10,
+  Rows.any-gone (Syntax.tyStruct (List._∷_ 102 (List._∷_ 105 (List._∷_ 100 (List._∷_ 117 (List._∷_ 99 (List._∷_ 99 (List._∷_ 105 (List._∷_ 97 (List._∷_ 95 (List._∷_ 109 (List._∷_ 97 (List._∷_ 116 (List._∷_ 116 (List._∷_ 104 (List._∷_ 101 (List._∷_ 121 (List._∷_ 115 (List._∷_ 101 (List._∷_ 115 (List._∷_ 58 (List._∷_ 58 (List._∷_ 83 (List._∷_ 101 (List._∷_ 116 (List._∷_ 116 (List._∷_ 105 (List._∷_ 110 (List._∷_ 103 (List._∷_ 115 List.[]))))))))))))))))))))))))))))) (Syntax.tcons (Syntax.tyInt Syntax.w32) (Syntax.tcons (Syntax.tyInt Syntax.w32) (Syntax.tcons (Syntax.tyInt Syntax.w32) (Syntax.tcons (Syntax.tyInt Syntax.w32) (Syntax.tcons (Syntax.tyInt Syntax.w32) (Syntax.tcons (Syntax.tyFloat Ieee.binary64) Syntax.tnil))))))),
+) (List._∷_ (11, Rows.sc-here (Row.sInt Syntax.w64)) (List._∷_ (
+  12,
+  Rows.any-gone (Syntax.tyStruct (List._∷_ 105 (List._∷_ 109 (List._∷_ 98 (List._∷_ 97 (List._∷_ 108 (List._∷_ 97 (List._∷_ 110 (List._∷_ 99 (List._∷_ 101 (List._∷_ 58 (List._∷_ 58 (List._∷_ 76 (List._∷_ 111 (List._∷_ 97 (List._∷_ 100 (List._∷_ 115 List.[])))))))))))))))) (Syntax.tcons (Syntax.tyArray (Syntax.tyInt Syntax.w64) 16) Syntax.tnil)),
+) (List._∷_ (13, Rows.sc-here (Row.sInt Syntax.w64)) (List._∷_ (
+  14,
+  Rows.sc-here (Row.sInt Syntax.w32),
+) (List._∷_ (15, Rows.sc-here (Row.sInt Syntax.w32)) List.[])))))))))))))))
 
 abbrev pub t61 : List.List Row.Entry
 t61 = List._∷_ (
   32,
   Rows.any-gone (Syntax.tyStruct (List._∷_ 38 (List._∷_ 91 (List._∷_ 93 List.[]))) (Syntax.tcons (Syntax.tyRef Syntax.erased Syntax.mut MoveTy.behind) (Syntax.tcons (Syntax.tyInt Syntax.w64) Syntax.tnil))),
-) (List._∷_ (33, Rows.any-gone (Syntax.tyRef Syntax.erased Syntax.mut (Syntax.tyInt Syntax.w32))) (List._∷_ (34, Rows.any-gone (Syntax.tyStruct (List._∷_ 38 (List._∷_ 91 (List._∷_ 93 List.[]))) (Syntax.tcons (Syntax.tyRef Syntax.erased Syntax.mut (Syntax.tyInt Syntax.w32)) (Syntax.tcons (Syntax.tyInt Syntax.w64) Syntax.tnil)))) (List._∷_ (35, Rows.any-gone (Syntax.tyRef Syntax.erased Syntax.mut (Syntax.tyInt Syntax.w32))) (List._∷_ (36, Rows.any-gone (Syntax.tyStruct (List._∷_ 38 (List._∷_ 91 (List._∷_ 93 List.[]))) (Syntax.tcons (Syntax.tyRef Syntax.erased Syntax.mut (Syntax.tyInt Syntax.w32)) (Syntax.tcons (Syntax.tyInt Syntax.w64) Syntax.tnil)))) (List._∷_ (37, Rows.any-gone Syntax.tyUnit) (List._∷_ (38, Rows.any-gone (Syntax.tyRef Syntax.erased Syntax.mut (Syntax.tyInt Syntax.w64))) (List._∷_ (39, Rows.any-gone (Syntax.tyStruct (List._∷_ 38 (List._∷_ 91 (List._∷_ 93 List.[]))) (Syntax.tcons (Syntax.tyRef Syntax.erased Syntax.mut (Syntax.tyInt Syntax.w64)) (Syntax.tcons (Syntax.tyInt Syntax.w64) Syntax.tnil)))) (List._∷_ (40, Rows.any-gone (Syntax.tyRef Syntax.erased Syntax.mut MoveTy.behind)) (List._∷_ (41, Mut.msleft MoveTy.R (Syntax.tyRef Syntax.erased Syntax.mut MoveTy.behind)) List.[])))))))))
+) (List._∷_ (33, Rows.any-gone (Syntax.tyRef Syntax.erased Syntax.mut (Syntax.tyInt Syntax.w32))) (List._∷_ (34, Rows.any-gone (Syntax.tyStruct (List._∷_ 38 (List._∷_ 91 (List._∷_ 93 List.[]))) (Syntax.tcons (Syntax.tyRef Syntax.erased Syntax.mut (Syntax.tyInt Syntax.w32)) (Syntax.tcons (Syntax.tyInt Syntax.w64) Syntax.tnil)))) (List._∷_ (35, Rows.any-gone (Syntax.tyRef Syntax.erased Syntax.mut (Syntax.tyInt Syntax.w32))) (List._∷_ (36, Rows.any-gone (Syntax.tyStruct (List._∷_ 38 (List._∷_ 91 (List._∷_ 93 List.[]))) (Syntax.tcons (Syntax.tyRef Syntax.erased Syntax.mut (Syntax.tyInt Syntax.w32)) (Syntax.tcons (Syntax.tyInt Syntax.w64) Syntax.tnil)))) (List._∷_ (37, Rows.any-gone Syntax.tyUnit) (List._∷_ (38, Rows.any-gone (Syntax.tyRef Syntax.erased Syntax.mut MoveTy.behind)) (List._∷_ (39, Rows.any-gone (Syntax.tyStruct (List._∷_ 38 (List._∷_ 91 (List._∷_ 93 List.[]))) (Syntax.tcons (Syntax.tyRef Syntax.erased Syntax.mut MoveTy.behind) (Syntax.tcons (Syntax.tyInt Syntax.w64) Syntax.tnil)))) (List._∷_ (40, Rows.any-gone (Syntax.tyRef Syntax.erased Syntax.mut (Syntax.tyInt Syntax.w64))) (List._∷_ (41, Mut.msleft (Signed.SInt Syntax.w64) (Syntax.tyRef Syntax.erased Syntax.mut (Syntax.tyInt Syntax.w64))) List.[])))))))))
 
 abbrev pub t62 : List.List Row.Entry
 t62 = List._∷_ (0, Rows.whole (Declared.row Report.the-type)) (List._∷_ (
@@ -1911,7 +1917,7 @@ t62 = List._∷_ (0, Rows.whole (Declared.row Report.the-type)) (List._∷_ (
   Mut.mslice (Referent.rtF (Referent.fInt Syntax.w32)) (Syntax.tyRef (Syntax.named 4) Syntax.mut (Syntax.tyInt Syntax.w32)) 4,
 ) (List._∷_ (
   6,
-  Mut.mslice (Signed.SInt Syntax.w64) (Syntax.tyRef (Syntax.named 5) Syntax.mut (Syntax.tyInt Syntax.w64)) 5,
+  Relend.mslice-owed (Signed.SInt Syntax.w64) (Syntax.tyRef (Syntax.named 5) Syntax.mut (Syntax.tyInt Syntax.w64)) 5 17 Row.off,
 ) (List._∷_ (
   7,
   Mut.mslice MoveTy.R (Syntax.tyRef (Syntax.named 6) Syntax.mut MoveTy.behind) 6,
@@ -1924,7 +1930,7 @@ t62 = List._∷_ (0, Rows.whole (Declared.row Report.the-type)) (List._∷_ (
 ) (List._∷_ (
   10,
   Rows.any-gone (Syntax.tyStruct (List._∷_ 102 (List._∷_ 105 (List._∷_ 100 (List._∷_ 117 (List._∷_ 99 (List._∷_ 99 (List._∷_ 105 (List._∷_ 97 (List._∷_ 95 (List._∷_ 109 (List._∷_ 97 (List._∷_ 116 (List._∷_ 116 (List._∷_ 104 (List._∷_ 101 (List._∷_ 121 (List._∷_ 115 (List._∷_ 101 (List._∷_ 115 (List._∷_ 58 (List._∷_ 58 (List._∷_ 83 (List._∷_ 101 (List._∷_ 116 (List._∷_ 116 (List._∷_ 105 (List._∷_ 110 (List._∷_ 103 (List._∷_ 115 List.[]))))))))))))))))))))))))))))) (Syntax.tcons (Syntax.tyInt Syntax.w32) (Syntax.tcons (Syntax.tyInt Syntax.w32) (Syntax.tcons (Syntax.tyInt Syntax.w32) (Syntax.tcons (Syntax.tyInt Syntax.w32) (Syntax.tcons (Syntax.tyInt Syntax.w32) (Syntax.tcons (Syntax.tyFloat Ieee.binary64) Syntax.tnil))))))),
-) (List._∷_ (11, Rows.sc-here (Row.sInt Syntax.w64)) (List._∷_ (
+) (List._∷_ (11, Rows.any-gone (Syntax.tyInt Syntax.w64)) (List._∷_ (
   12,
   Rows.any-gone (Syntax.tyStruct (List._∷_ 105 (List._∷_ 109 (List._∷_ 98 (List._∷_ 97 (List._∷_ 108 (List._∷_ 97 (List._∷_ 110 (List._∷_ 99 (List._∷_ 101 (List._∷_ 58 (List._∷_ 58 (List._∷_ 76 (List._∷_ 111 (List._∷_ 97 (List._∷_ 100 (List._∷_ 115 List.[])))))))))))))))) (Syntax.tcons (Syntax.tyArray (Syntax.tyInt Syntax.w64) 16) Syntax.tnil)),
 ) (List._∷_ (13, Rows.sc-here (Row.sInt Syntax.w64)) (List._∷_ (
@@ -1950,7 +1956,7 @@ t63 = List._∷_ (0, Rows.whole (Declared.row Report.the-type)) (List._∷_ (
   Mut.mslice (Referent.rtF (Referent.fInt Syntax.w32)) (Syntax.tyRef (Syntax.named 4) Syntax.mut (Syntax.tyInt Syntax.w32)) 4,
 ) (List._∷_ (
   6,
-  Mut.mslice (Signed.SInt Syntax.w64) (Syntax.tyRef (Syntax.named 5) Syntax.mut (Syntax.tyInt Syntax.w64)) 5,
+  Relend.mslice-owed (Signed.SInt Syntax.w64) (Syntax.tyRef (Syntax.named 5) Syntax.mut (Syntax.tyInt Syntax.w64)) 5 17 Row.off,
 ) (List._∷_ (
   7,
   Mut.mslice MoveTy.R (Syntax.tyRef (Syntax.named 6) Syntax.mut MoveTy.behind) 6,
@@ -1966,7 +1972,7 @@ t63 = List._∷_ (0, Rows.whole (Declared.row Report.the-type)) (List._∷_ (
 ) (List._∷_ (11, Rows.any-gone (Syntax.tyInt Syntax.w64)) (List._∷_ (
   12,
   Rows.any-gone (Syntax.tyStruct (List._∷_ 105 (List._∷_ 109 (List._∷_ 98 (List._∷_ 97 (List._∷_ 108 (List._∷_ 97 (List._∷_ 110 (List._∷_ 99 (List._∷_ 101 (List._∷_ 58 (List._∷_ 58 (List._∷_ 76 (List._∷_ 111 (List._∷_ 97 (List._∷_ 100 (List._∷_ 115 List.[])))))))))))))))) (Syntax.tcons (Syntax.tyArray (Syntax.tyInt Syntax.w64) 16) Syntax.tnil)),
-) (List._∷_ (13, Rows.sc-here (Row.sInt Syntax.w64)) (List._∷_ (
+) (List._∷_ (13, Rows.any-gone (Syntax.tyInt Syntax.w64)) (List._∷_ (
   14,
   Rows.sc-here (Row.sInt Syntax.w32),
 ) (List._∷_ (15, Rows.sc-here (Row.sInt Syntax.w32)) List.[])))))))))))))))
@@ -1989,7 +1995,7 @@ t64 = List._∷_ (0, Rows.whole (Declared.row Report.the-type)) (List._∷_ (
   Mut.mslice (Referent.rtF (Referent.fInt Syntax.w32)) (Syntax.tyRef (Syntax.named 4) Syntax.mut (Syntax.tyInt Syntax.w32)) 4,
 ) (List._∷_ (
   6,
-  Mut.mslice (Signed.SInt Syntax.w64) (Syntax.tyRef (Syntax.named 5) Syntax.mut (Syntax.tyInt Syntax.w64)) 5,
+  Relend.mslice-owed (Signed.SInt Syntax.w64) (Syntax.tyRef (Syntax.named 5) Syntax.mut (Syntax.tyInt Syntax.w64)) 5 17 Row.off,
 ) (List._∷_ (
   7,
   Mut.mslice MoveTy.R (Syntax.tyRef (Syntax.named 6) Syntax.mut MoveTy.behind) 6,
@@ -2007,7 +2013,7 @@ t64 = List._∷_ (0, Rows.whole (Declared.row Report.the-type)) (List._∷_ (
   Rows.any-gone (Syntax.tyStruct (List._∷_ 105 (List._∷_ 109 (List._∷_ 98 (List._∷_ 97 (List._∷_ 108 (List._∷_ 97 (List._∷_ 110 (List._∷_ 99 (List._∷_ 101 (List._∷_ 58 (List._∷_ 58 (List._∷_ 76 (List._∷_ 111 (List._∷_ 97 (List._∷_ 100 (List._∷_ 115 List.[])))))))))))))))) (Syntax.tcons (Syntax.tyArray (Syntax.tyInt Syntax.w64) 16) Syntax.tnil)),
 ) (List._∷_ (13, Rows.any-gone (Syntax.tyInt Syntax.w64)) (List._∷_ (
   14,
-  Rows.sc-here (Row.sInt Syntax.w32),
+  Rows.any-gone (Syntax.tyInt Syntax.w32),
 ) (List._∷_ (15, Rows.sc-here (Row.sInt Syntax.w32)) List.[])))))))))))))))
 
 abbrev pub t65 : List.List Row.Entry
@@ -2028,7 +2034,7 @@ t65 = List._∷_ (0, Rows.whole (Declared.row Report.the-type)) (List._∷_ (
   Mut.mslice (Referent.rtF (Referent.fInt Syntax.w32)) (Syntax.tyRef (Syntax.named 4) Syntax.mut (Syntax.tyInt Syntax.w32)) 4,
 ) (List._∷_ (
   6,
-  Mut.mslice (Signed.SInt Syntax.w64) (Syntax.tyRef (Syntax.named 5) Syntax.mut (Syntax.tyInt Syntax.w64)) 5,
+  Relend.mslice-owed (Signed.SInt Syntax.w64) (Syntax.tyRef (Syntax.named 5) Syntax.mut (Syntax.tyInt Syntax.w64)) 5 17 Row.off,
 ) (List._∷_ (
   7,
   Mut.mslice MoveTy.R (Syntax.tyRef (Syntax.named 6) Syntax.mut MoveTy.behind) 6,
@@ -2047,7 +2053,7 @@ t65 = List._∷_ (0, Rows.whole (Declared.row Report.the-type)) (List._∷_ (
 ) (List._∷_ (13, Rows.any-gone (Syntax.tyInt Syntax.w64)) (List._∷_ (
   14,
   Rows.any-gone (Syntax.tyInt Syntax.w32),
-) (List._∷_ (15, Rows.sc-here (Row.sInt Syntax.w32)) List.[])))))))))))))))
+) (List._∷_ (15, Rows.any-gone (Syntax.tyInt Syntax.w32)) List.[])))))))))))))))
 
 abbrev pub t66 : List.List Row.Entry
 t66 = List._∷_ (16, Rows.any-gone (Syntax.tyFloat Ieee.binary64)) (List._∷_ (
@@ -2311,46 +2317,40 @@ abbrev pub T81 : Row.Cx
 T81 = record { locals = List._++_ t57 (List._++_ t46 t59); slots = List.[] }
 
 abbrev pub T82 : Row.Cx
-T82 = record { locals = List._++_ t57 (List._++_ t46 t60); slots = List.[] }
+T82 = record { locals = List._++_ t60 (List._++_ t46 t61); slots = List.[] }
 
 abbrev pub T83 : Row.Cx
-T83 = record { locals = List._++_ t57 (List._++_ t46 t61); slots = List.[] }
+T83 = record { locals = List._++_ t62 (List._++_ t46 t61); slots = List.[] }
+
+abbrev pub T84 : Row.Cx
+T84 = record { locals = List._++_ t63 (List._++_ t46 t61); slots = List.[] }
 
 abbrev pub T85 : Row.Cx
-T85 = record { locals = List._++_ t51 (List._++_ t46 t2); slots = List.[] }
+T85 = record { locals = List._++_ t64 (List._++_ t46 t61); slots = List.[] }
+
+abbrev pub T86 : Row.Cx
+T86 = record { locals = List._++_ t65 (List._++_ t46 t61); slots = List.[] }
 
 abbrev pub T87 : Row.Cx
-T87 = record { locals = List._++_ t62 (List._++_ t46 t2); slots = List.[] }
+T87 = record { locals = List._++_ t65 (List._++_ t66 t61); slots = List.[] }
 
 abbrev pub T88 : Row.Cx
-T88 = record { locals = List._++_ t63 (List._++_ t46 t2); slots = List.[] }
+T88 = record { locals = List._++_ t65 (List._++_ t67 t61); slots = List.[] }
 
 abbrev pub T89 : Row.Cx
-T89 = record { locals = List._++_ t64 (List._++_ t46 t2); slots = List.[] }
+T89 = record { locals = List._++_ t65 (List._++_ t68 t61); slots = List.[] }
 
 abbrev pub T90 : Row.Cx
-T90 = record { locals = List._++_ t65 (List._++_ t46 t2); slots = List.[] }
+T90 = record { locals = List._++_ t65 (List._++_ t69 t61); slots = List.[] }
 
 abbrev pub T91 : Row.Cx
-T91 = record { locals = List._++_ t3 (List._++_ t46 t2); slots = List.[] }
+T91 = record { locals = List._++_ t65 (List._++_ t70 t61); slots = List.[] }
 
 abbrev pub T92 : Row.Cx
-T92 = record { locals = List._++_ t3 (List._++_ t66 t2); slots = List.[] }
-
-abbrev pub T93 : Row.Cx
-T93 = record { locals = List._++_ t3 (List._++_ t67 t2); slots = List.[] }
+T92 = record { locals = List._++_ t65 (List._++_ t1 t61); slots = List.[] }
 
 abbrev pub T94 : Row.Cx
-T94 = record { locals = List._++_ t3 (List._++_ t68 t2); slots = List.[] }
-
-abbrev pub T95 : Row.Cx
-T95 = record { locals = List._++_ t3 (List._++_ t69 t2); slots = List.[] }
-
-abbrev pub T96 : Row.Cx
-T96 = record { locals = List._++_ t3 (List._++_ t70 t2); slots = List.[] }
-
-abbrev pub T97 : Row.Cx
-T97 = record { locals = List._++_ t3 (List._++_ t1 t2); slots = List.[] }
+T94 = record { locals = List._++_ t3 (List._++_ t1 t2); slots = List.[] }
 
 abbrev pub O0 : Typed.Outs
 O0 = record { next = Option.none; exits = List.[]; returns = Option.some T1 }
@@ -2522,14 +2522,14 @@ module _ (claims· : Claims) where
   s67 = Know.k-sl-known (Referent.fInt Syntax.w32) T68 9 8 (Syntax.tyRef (Syntax.named 8) Syntax.mut (Syntax.tyInt Syntax.w32)) Row.off 0 λ x. x
 
   abbrev s70 : Typed.Gives T69 T72
-  s70 = Relend.k-sl-relend (Signed.SInt Syntax.w64) T69 6 38 5 16 (Syntax.tyRef (Syntax.named 5) Syntax.mut (Syntax.tyInt Syntax.w64)) (Syntax.tyRef Syntax.erased Syntax.mut (Syntax.tyInt Syntax.w64)) Row.off λ x. x
+  s70 = Relend.k-sl-relend MoveTy.R T69 7 38 6 16 (Syntax.tyRef (Syntax.named 6) Syntax.mut MoveTy.behind) (Syntax.tyRef Syntax.erased Syntax.mut MoveTy.behind) Row.off λ x. x
 
   abbrev s71 : Typed.Asks T72 T73
-  s71 = Relend.k-sl-aggregate (Signed.SInt Syntax.w64) (Relend.asMut (Signed.SInt Syntax.w64)) T72 38 39 16 (Syntax.tyRef Syntax.erased Syntax.mut (Syntax.tyInt Syntax.w64)) (Syntax.tyRef Syntax.erased Syntax.mut (Syntax.tyInt Syntax.w64)) (λ x. x) (Scalar.oFld 6 (List._∷_ (Syntax.field 1) List.[]) (Syntax.tyInt Syntax.w64) 8 λ v. Shared.lenV (v .0))
+  s71 = Relend.k-sl-aggregate MoveTy.R (Relend.asMut MoveTy.R) T72 38 39 16 (Syntax.tyRef Syntax.erased Syntax.mut MoveTy.behind) (Syntax.tyRef Syntax.erased Syntax.mut MoveTy.behind) (λ x. x) (Scalar.oFld 7 (List._∷_ (Syntax.field 1) List.[]) (Syntax.tyInt Syntax.w64) 8 λ v. Shared.lenV (v .0))
 
   abbrev s72 : Typed.Both T73 T74
   s72 = Call.callB ps·7 r·7 (claims· .14) (claims· .15) T73 (
-    record { pos = 39; ty = Syntax.tyRef Syntax.erased Syntax.mut (Syntax.tyInt Syntax.w64); ref = λ x. x },
+    record { pos = 39; ty = Syntax.tyRef Syntax.erased Syntax.mut MoveTy.behind; ref = λ x. x },
     (Num.vAt 11 λ x. x, tt),
   ) 37 (List._∷_ 16 List.[]) Syntax.tyUnit
 
@@ -2537,365 +2537,350 @@ module _ (claims· : Claims) where
   s73 = Scalar.n-room T74 37 Syntax.tyUnit
 
   abbrev s75 : Typed.Both T75 T77
-  s75 = Relend.k-back-sl (Signed.SInt Syntax.w64) T75 39 6 5 16 (Syntax.tyRef (Syntax.named 5) Syntax.mut (Syntax.tyInt Syntax.w64)) (Syntax.tyRef Syntax.erased Syntax.mut (Syntax.tyInt Syntax.w64)) Row.off (λ x. x) λ x. x
+  s75 = Relend.k-back-sl MoveTy.R T75 39 7 6 16 (Syntax.tyRef (Syntax.named 6) Syntax.mut MoveTy.behind) (Syntax.tyRef Syntax.erased Syntax.mut MoveTy.behind) Row.off (λ x. x) λ x. x
 
   abbrev s78 : Typed.Gives T77 T80
-  s78 = Relend.k-sl-relend MoveTy.R T77 7 40 6 17 (Syntax.tyRef (Syntax.named 6) Syntax.mut MoveTy.behind) (Syntax.tyRef Syntax.erased Syntax.mut MoveTy.behind) Row.off λ x. x
+  s78 = Relend.k-sl-relend (Signed.SInt Syntax.w64) T77 6 40 5 17 (Syntax.tyRef (Syntax.named 5) Syntax.mut (Syntax.tyInt Syntax.w64)) (Syntax.tyRef Syntax.erased Syntax.mut (Syntax.tyInt Syntax.w64)) Row.off λ x. x
 
   abbrev s79 : Typed.Asks T80 T81
-  s79 = Relend.k-sl-aggregate MoveTy.R (Relend.asMut MoveTy.R) T80 40 41 17 (Syntax.tyRef Syntax.erased Syntax.mut MoveTy.behind) (Syntax.tyRef Syntax.erased Syntax.mut MoveTy.behind) (λ x. x) (Scalar.oFld 7 (List._∷_ (Syntax.field 1) List.[]) (Syntax.tyInt Syntax.w64) 8 λ v. Shared.lenV (v .0))
+  s79 = Relend.k-sl-aggregate (Signed.SInt Syntax.w64) (Relend.asMut (Signed.SInt Syntax.w64)) T80 40 41 17 (Syntax.tyRef Syntax.erased Syntax.mut (Syntax.tyInt Syntax.w64)) (Syntax.tyRef Syntax.erased Syntax.mut (Syntax.tyInt Syntax.w64)) (λ x. x) (Scalar.oFld 6 (List._∷_ (Syntax.field 1) List.[]) (Syntax.tyInt Syntax.w64) 8 λ v. Shared.lenV (v .0))
 
   abbrev s80 : Typed.Both T81 T82
   s80 = Call.callB ps·8 r·8 (claims· .16) (claims· .17) T81 (
-    record { pos = 41; ty = Syntax.tyRef Syntax.erased Syntax.mut MoveTy.behind; ref = λ x. x },
-    (Num.vAt 11 λ x. x, tt),
-  ) 37 (List._∷_ 17 List.[]) Syntax.tyUnit
+    record { pos = 41; ty = Syntax.tyRef Syntax.erased Syntax.mut (Syntax.tyInt Syntax.w64); ref = λ x. x },
+    (Num.vAt 11 λ x. x, (record { pos = 22; st = List.[]; d = 0; at = λ x. x }, (Num.vAt 18 λ x. x, tt))),
+  ) 0 (List._∷_ 17 List.[]) (Syntax.tyStruct (List._∷_ 102 (List._∷_ 105 (List._∷_ 100 (List._∷_ 117 (List._∷_ 99 (List._∷_ 99 (List._∷_ 105 (List._∷_ 97 (List._∷_ 95 (List._∷_ 109 (List._∷_ 97 (List._∷_ 116 (List._∷_ 116 (List._∷_ 104 (List._∷_ 101 (List._∷_ 121 (List._∷_ 115 (List._∷_ 101 (List._∷_ 115 (List._∷_ 58 (List._∷_ 58 (List._∷_ 82 (List._∷_ 101 (List._∷_ 112 (List._∷_ 111 (List._∷_ 114 (List._∷_ 116 List.[]))))))))))))))))))))))))))) (Syntax.tcons (Syntax.tyInt Syntax.w32) (Syntax.tcons (Syntax.tyInt Syntax.w32) (Syntax.tcons (Syntax.tyInt Syntax.w32) (Syntax.tcons (Syntax.tyInt Syntax.w64) (Syntax.tcons (Syntax.tyInt Syntax.w64) (Syntax.tcons (Syntax.tyStruct (List._∷_ 105 (List._∷_ 109 (List._∷_ 98 (List._∷_ 97 (List._∷_ 108 (List._∷_ 97 (List._∷_ 110 (List._∷_ 99 (List._∷_ 101 (List._∷_ 58 (List._∷_ 58 (List._∷_ 76 (List._∷_ 111 (List._∷_ 97 (List._∷_ 100 (List._∷_ 115 List.[])))))))))))))))) (Syntax.tcons (Syntax.tyArray (Syntax.tyInt Syntax.w64) 16) Syntax.tnil)) Syntax.tnil)))))))
 
   abbrev s81 : Typed.Mo T82 → Typed.Mo T83
-  s81 = Scalar.n-room T82 37 Syntax.tyUnit
+  s81 = Scalar.n-room T82 11 (Syntax.tyInt Syntax.w64)
 
-  abbrev s83 : Typed.Both T83 T85
-  s83 = Relend.k-back-sl MoveTy.R T83 41 7 6 17 (Syntax.tyRef (Syntax.named 6) Syntax.mut MoveTy.behind) (Syntax.tyRef Syntax.erased Syntax.mut MoveTy.behind) Row.off (λ x. x) λ x. x
+  abbrev s82 : Typed.Mo T83 → Typed.Mo T84
+  s82 = Scalar.n-room T83 13 (Syntax.tyInt Syntax.w64)
 
-  abbrev s85 : Typed.Both T85 T87
-  s85 = Call.callB ps·9 r·9 (claims· .18) (claims· .19) T85 (
-    record { pos = 22; st = List.[]; d = 0; at = λ x. x },
-    (Num.vAt 18 λ x. x, tt),
-  ) 0 List.[] (Syntax.tyStruct (List._∷_ 102 (List._∷_ 105 (List._∷_ 100 (List._∷_ 117 (List._∷_ 99 (List._∷_ 99 (List._∷_ 105 (List._∷_ 97 (List._∷_ 95 (List._∷_ 109 (List._∷_ 97 (List._∷_ 116 (List._∷_ 116 (List._∷_ 104 (List._∷_ 101 (List._∷_ 121 (List._∷_ 115 (List._∷_ 101 (List._∷_ 115 (List._∷_ 58 (List._∷_ 58 (List._∷_ 82 (List._∷_ 101 (List._∷_ 112 (List._∷_ 111 (List._∷_ 114 (List._∷_ 116 List.[]))))))))))))))))))))))))))) (Syntax.tcons (Syntax.tyInt Syntax.w32) (Syntax.tcons (Syntax.tyInt Syntax.w32) (Syntax.tcons (Syntax.tyInt Syntax.w32) (Syntax.tcons (Syntax.tyInt Syntax.w64) (Syntax.tcons (Syntax.tyInt Syntax.w64) (Syntax.tcons (Syntax.tyStruct (List._∷_ 105 (List._∷_ 109 (List._∷_ 98 (List._∷_ 97 (List._∷_ 108 (List._∷_ 97 (List._∷_ 110 (List._∷_ 99 (List._∷_ 101 (List._∷_ 58 (List._∷_ 58 (List._∷_ 76 (List._∷_ 111 (List._∷_ 97 (List._∷_ 100 (List._∷_ 115 List.[])))))))))))))))) (Syntax.tcons (Syntax.tyArray (Syntax.tyInt Syntax.w64) 16) Syntax.tnil)) Syntax.tnil)))))))
+  abbrev s83 : Typed.Mo T84 → Typed.Mo T85
+  s83 = Scalar.n-room T84 14 (Syntax.tyInt Syntax.w32)
+
+  abbrev s84 : Typed.Mo T85 → Typed.Mo T86
+  s84 = Scalar.n-room T85 15 (Syntax.tyInt Syntax.w32)
+
+  abbrev s85 : Typed.Mo T86 → Typed.Mo T87
+  s85 = Scalar.n-room T86 16 (Syntax.tyFloat Ieee.binary64)
 
   abbrev s86 : Typed.Mo T87 → Typed.Mo T88
-  s86 = Scalar.n-room T87 11 (Syntax.tyInt Syntax.w64)
+  s86 = Scalar.n-room T87 18 (Syntax.tyInt Syntax.w64)
 
   abbrev s87 : Typed.Mo T88 → Typed.Mo T89
-  s87 = Scalar.n-room T88 13 (Syntax.tyInt Syntax.w64)
+  s87 = Scalar.n-room T88 19 (Syntax.tyInt Syntax.w64)
 
   abbrev s88 : Typed.Mo T89 → Typed.Mo T90
-  s88 = Scalar.n-room T89 14 (Syntax.tyInt Syntax.w32)
+  s88 = Scalar.n-room T89 20 (Syntax.tyInt Syntax.w64)
 
   abbrev s89 : Typed.Mo T90 → Typed.Mo T91
-  s89 = Scalar.n-room T90 15 (Syntax.tyInt Syntax.w32)
+  s89 = Scalar.n-room T90 21 (Syntax.tyInt Syntax.w32)
 
   abbrev s90 : Typed.Mo T91 → Typed.Mo T92
-  s90 = Scalar.n-room T91 16 (Syntax.tyFloat Ieee.binary64)
+  s90 = Scalar.n-room T91 22 (Syntax.tyStruct (List._∷_ 102 (List._∷_ 105 (List._∷_ 100 (List._∷_ 117 (List._∷_ 99 (List._∷_ 99 (List._∷_ 105 (List._∷_ 97 (List._∷_ 95 (List._∷_ 109 (List._∷_ 97 (List._∷_ 116 (List._∷_ 116 (List._∷_ 104 (List._∷_ 101 (List._∷_ 121 (List._∷_ 115 (List._∷_ 101 (List._∷_ 115 (List._∷_ 58 (List._∷_ 58 (List._∷_ 69 (List._∷_ 110 (List._∷_ 100 (List._∷_ 101 (List._∷_ 100 List.[])))))))))))))))))))))))))) (Syntax.tcons (Syntax.tyInt Syntax.w32) (Syntax.tcons (Syntax.tyInt Syntax.w32) (Syntax.tcons (Syntax.tyInt Syntax.w64) (Syntax.tcons (Syntax.tyStruct (List._∷_ 105 (List._∷_ 109 (List._∷_ 98 (List._∷_ 97 (List._∷_ 108 (List._∷_ 97 (List._∷_ 110 (List._∷_ 99 (List._∷_ 101 (List._∷_ 58 (List._∷_ 58 (List._∷_ 76 (List._∷_ 111 (List._∷_ 97 (List._∷_ 100 (List._∷_ 115 List.[])))))))))))))))) (Syntax.tcons (Syntax.tyArray (Syntax.tyInt Syntax.w64) 16) Syntax.tnil)) Syntax.tnil)))))
 
-  abbrev s91 : Typed.Mo T92 → Typed.Mo T93
-  s91 = Scalar.n-room T92 18 (Syntax.tyInt Syntax.w64)
-
-  abbrev s92 : Typed.Mo T93 → Typed.Mo T94
-  s92 = Scalar.n-room T93 19 (Syntax.tyInt Syntax.w64)
-
-  abbrev s93 : Typed.Mo T94 → Typed.Mo T95
-  s93 = Scalar.n-room T94 20 (Syntax.tyInt Syntax.w64)
-
-  abbrev s94 : Typed.Mo T95 → Typed.Mo T96
-  s94 = Scalar.n-room T95 21 (Syntax.tyInt Syntax.w32)
-
-  abbrev s95 : Typed.Mo T96 → Typed.Mo T97
-  s95 = Scalar.n-room T96 22 (Syntax.tyStruct (List._∷_ 102 (List._∷_ 105 (List._∷_ 100 (List._∷_ 117 (List._∷_ 99 (List._∷_ 99 (List._∷_ 105 (List._∷_ 97 (List._∷_ 95 (List._∷_ 109 (List._∷_ 97 (List._∷_ 116 (List._∷_ 116 (List._∷_ 104 (List._∷_ 101 (List._∷_ 121 (List._∷_ 115 (List._∷_ 101 (List._∷_ 115 (List._∷_ 58 (List._∷_ 58 (List._∷_ 69 (List._∷_ 110 (List._∷_ 100 (List._∷_ 101 (List._∷_ 100 List.[])))))))))))))))))))))))))) (Syntax.tcons (Syntax.tyInt Syntax.w32) (Syntax.tcons (Syntax.tyInt Syntax.w32) (Syntax.tcons (Syntax.tyInt Syntax.w64) (Syntax.tcons (Syntax.tyStruct (List._∷_ 105 (List._∷_ 109 (List._∷_ 98 (List._∷_ 97 (List._∷_ 108 (List._∷_ 97 (List._∷_ 110 (List._∷_ 99 (List._∷_ 101 (List._∷_ 58 (List._∷_ 58 (List._∷_ 76 (List._∷_ 111 (List._∷_ 97 (List._∷_ 100 (List._∷_ 115 List.[])))))))))))))))) (Syntax.tcons (Syntax.tyArray (Syntax.tyInt Syntax.w64) 16) Syntax.tnil)) Syntax.tnil)))))
+  abbrev s92 : Typed.Both T92 T94
+  s92 = Relend.k-back-sl (Signed.SInt Syntax.w64) T92 41 6 5 17 (Syntax.tyRef (Syntax.named 5) Syntax.mut (Syntax.tyInt Syntax.w64)) (Syntax.tyRef Syntax.erased Syntax.mut (Syntax.tyInt Syntax.w64)) Row.off (λ x. x) λ x. x
 
   module _ (Pre· : (κs : Lifetimes.Lfts 9) → Kinds.Dens κs ps → Type 0) (Post· : (κs : Lifetimes.Lfts 9) → (a : Kinds.Dens κs ps) → Kinds.Plain 9 ps r κs) where
     module _ (M : Type 1) where
       abbrev pub Closed : Type 2
-      Closed = (𝓤 : URA.URA M) (H : Wp.Heap 𝓤) (A : Atoms.Atoms 𝓤) (W : Kit.Given 𝓤 H A) (𝓣 : Wp.Tables 𝓤 H) (known0 : Plain.Known 𝓤 H A W 𝓣 2 ps·0 r·0 (claims· .0) (claims· .1) "imbalance::parts_load") (known1 : Plain.Known 𝓤 H A W 𝓣 1 ps·1 r·1 (claims· .2) (claims· .3) "imbalance::total_weight") (known2 : Plain.Known 𝓤 H A W 𝓣 0 ps·2 r·2 (claims· .4) (claims· .5) "imbalance::ceilings_of") (known3 : Plain.Known 𝓤 H A W 𝓣 4 ps·3 r·3 (claims· .6) (claims· .7) "topology::cut::cut_of") (known4 : Plain.Known 𝓤 H A W 𝓣 0 ps·4 r·4 (claims· .8) (claims· .9) "lists::wide") (known5 : Plain.Known 𝓤 H A W 𝓣 0 ps·5 r·5 (claims· .10) (claims· .11) "lists::index") (known6 : Plain.Known 𝓤 H A W 𝓣 9 ps·6 r·6 (claims· .12) (claims· .13) "fiduccia_mattheyses::make_passes") (known7 : Plain.Known 𝓤 H A W 𝓣 1 ps·7 r·7 (claims· .14) (claims· .15) "lists::clear_gains") (known8 : Plain.Known 𝓤 H A W 𝓣 1 ps·8 r·8 (claims· .16) (claims· .17) "fiduccia_mattheyses::clear") (known9 : Plain.Known 𝓤 H A W 𝓣 0 ps·9 r·9 (claims· .18) (claims· .19) "fiduccia_mattheyses::run_report") → Statement.Triple 𝓤 (Wp.WpFn 𝓤 H (𝓣 .C) (𝓣 .Λ) (Function.fnOf 9 ps r xs m hs body)) (Function.plainOf 𝓤 H A 9 ps r Pre· Post·)
+      Closed = (𝓤 : URA.URA M) (H : Wp.Heap 𝓤) (A : Atoms.Atoms 𝓤) (W : Kit.Given 𝓤 H A) (𝓣 : Wp.Tables 𝓤 H) (known0 : Plain.Known 𝓤 H A W 𝓣 2 ps·0 r·0 (claims· .0) (claims· .1) "imbalance::parts_load") (known1 : Plain.Known 𝓤 H A W 𝓣 1 ps·1 r·1 (claims· .2) (claims· .3) "imbalance::total_weight") (known2 : Plain.Known 𝓤 H A W 𝓣 0 ps·2 r·2 (claims· .4) (claims· .5) "imbalance::ceilings_of") (known3 : Plain.Known 𝓤 H A W 𝓣 4 ps·3 r·3 (claims· .6) (claims· .7) "topology::cut::cut_of") (known4 : Plain.Known 𝓤 H A W 𝓣 0 ps·4 r·4 (claims· .8) (claims· .9) "lists::wide") (known5 : Plain.Known 𝓤 H A W 𝓣 0 ps·5 r·5 (claims· .10) (claims· .11) "lists::index") (known6 : Plain.Known 𝓤 H A W 𝓣 9 ps·6 r·6 (claims· .12) (claims· .13) "fiduccia_mattheyses::make_passes") (known7 : Plain.Known 𝓤 H A W 𝓣 1 ps·7 r·7 (claims· .14) (claims· .15) "fiduccia_mattheyses::clear") (known8 : Plain.Known 𝓤 H A W 𝓣 1 ps·8 r·8 (claims· .16) (claims· .17) "fiduccia_mattheyses::finish") → Statement.Triple 𝓤 (Wp.WpFn 𝓤 H (𝓣 .C) (𝓣 .Λ) (Function.fnOf 9 ps r xs m hs body)) (Function.plainOf 𝓤 H A 9 ps r Pre· Post·)
 
     module _ where
-      abbrev at0 : Typed.TF T97 O0
+      abbrev at0 : Typed.TF T94 O0
       at0 = Typed.atRet O0
 
-      abbrev at1 : Typed.TF T96 O0
-      at1 = λ Ψ. Typed.pass T96 T97 s95 (at0 Ψ)
+      abbrev at1 : Typed.TF T94 O0
+      at1 = λ Ψ. at0 Ψ
 
-      abbrev at2 : Typed.TF T95 O0
-      at2 = λ Ψ. Typed.pass T95 T96 s94 (at1 Ψ)
+      abbrev at2 : Typed.TF T92 O0
+      at2 = λ Ψ. Typed.both s92 (at1 Ψ)
 
-      abbrev at3 : Typed.TF T94 O0
-      at3 = λ Ψ. Typed.pass T94 T95 s93 (at2 Ψ)
+      abbrev at3 : Typed.TF T92 O0
+      at3 = λ Ψ. at2 Ψ
 
-      abbrev at4 : Typed.TF T93 O0
-      at4 = λ Ψ. Typed.pass T93 T94 s92 (at3 Ψ)
+      abbrev at4 : Typed.TF T91 O0
+      at4 = λ Ψ. Typed.pass T91 T92 s90 (at3 Ψ)
 
-      abbrev at5 : Typed.TF T92 O0
-      at5 = λ Ψ. Typed.pass T92 T93 s91 (at4 Ψ)
+      abbrev at5 : Typed.TF T90 O0
+      at5 = λ Ψ. Typed.pass T90 T91 s89 (at4 Ψ)
 
-      abbrev at6 : Typed.TF T91 O0
-      at6 = λ Ψ. Typed.pass T91 T92 s90 (at5 Ψ)
+      abbrev at6 : Typed.TF T89 O0
+      at6 = λ Ψ. Typed.pass T89 T90 s88 (at5 Ψ)
 
-      abbrev at7 : Typed.TF T90 O0
-      at7 = λ Ψ. Typed.pass T90 T91 s89 (at6 Ψ)
+      abbrev at7 : Typed.TF T88 O0
+      at7 = λ Ψ. Typed.pass T88 T89 s87 (at6 Ψ)
 
-      abbrev at8 : Typed.TF T89 O0
-      at8 = λ Ψ. Typed.pass T89 T90 s88 (at7 Ψ)
+      abbrev at8 : Typed.TF T87 O0
+      at8 = λ Ψ. Typed.pass T87 T88 s86 (at7 Ψ)
 
-      abbrev at9 : Typed.TF T88 O0
-      at9 = λ Ψ. Typed.pass T88 T89 s87 (at8 Ψ)
+      abbrev at9 : Typed.TF T86 O0
+      at9 = λ Ψ. Typed.pass T86 T87 s85 (at8 Ψ)
 
-      abbrev at10 : Typed.TF T87 O0
-      at10 = λ Ψ. Typed.pass T87 T88 s86 (at9 Ψ)
+      abbrev at10 : Typed.TF T85 O0
+      at10 = λ Ψ. Typed.pass T85 T86 s84 (at9 Ψ)
 
-      abbrev at11 : Typed.TF T85 O0
-      at11 = λ Ψ. Typed.both s85 (at10 Ψ)
+      abbrev at11 : Typed.TF T84 O0
+      at11 = λ Ψ. Typed.pass T84 T85 s83 (at10 Ψ)
 
-      abbrev at12 : Typed.TF T85 O0
-      at12 = λ Ψ. at11 Ψ
+      abbrev at12 : Typed.TF T83 O0
+      at12 = λ Ψ. Typed.pass T83 T84 s82 (at11 Ψ)
 
-      abbrev at13 : Typed.TF T83 O0
-      at13 = λ Ψ. Typed.both s83 (at12 Ψ)
+      abbrev at13 : Typed.TF T82 O0
+      at13 = λ Ψ. Typed.pass T82 T83 s81 (at12 Ψ)
 
-      abbrev at14 : Typed.TF T83 O0
-      at14 = λ Ψ. at13 Ψ
+      abbrev at14 : Typed.TF T81 O0
+      at14 = λ Ψ. Typed.both s80 (at13 Ψ)
 
-      abbrev at15 : Typed.TF T82 O0
-      at15 = λ Ψ. Typed.pass T82 T83 s81 (at14 Ψ)
+      abbrev at15 : Typed.TF T80 O0
+      at15 = λ Ψ. Typed.ask s79 (at14 Ψ)
 
-      abbrev at16 : Typed.TF T81 O0
-      at16 = λ Ψ. Typed.both s80 (at15 Ψ)
+      abbrev at16 : Typed.TF T77 O0
+      at16 = λ Ψ. Typed.give s78 (at15 Ψ)
 
-      abbrev at17 : Typed.TF T80 O0
-      at17 = λ Ψ. Typed.ask s79 (at16 Ψ)
+      abbrev at17 : Typed.TF T77 O0
+      at17 = λ Ψ. at16 Ψ
 
       abbrev at18 : Typed.TF T77 O0
-      at18 = λ Ψ. Typed.give s78 (at17 Ψ)
+      at18 = λ Ψ. at17 Ψ
 
-      abbrev at19 : Typed.TF T77 O0
-      at19 = λ Ψ. at18 Ψ
+      abbrev at19 : Typed.TF T75 O0
+      at19 = λ Ψ. Typed.both s75 (at18 Ψ)
 
-      abbrev at20 : Typed.TF T77 O0
+      abbrev at20 : Typed.TF T75 O0
       at20 = λ Ψ. at19 Ψ
 
-      abbrev at21 : Typed.TF T75 O0
-      at21 = λ Ψ. Typed.both s75 (at20 Ψ)
+      abbrev at21 : Typed.TF T74 O0
+      at21 = λ Ψ. Typed.pass T74 T75 s73 (at20 Ψ)
 
-      abbrev at22 : Typed.TF T75 O0
-      at22 = λ Ψ. at21 Ψ
+      abbrev at22 : Typed.TF T73 O0
+      at22 = λ Ψ. Typed.both s72 (at21 Ψ)
 
-      abbrev at23 : Typed.TF T74 O0
-      at23 = λ Ψ. Typed.pass T74 T75 s73 (at22 Ψ)
+      abbrev at23 : Typed.TF T72 O0
+      at23 = λ Ψ. Typed.ask s71 (at22 Ψ)
 
-      abbrev at24 : Typed.TF T73 O0
-      at24 = λ Ψ. Typed.both s72 (at23 Ψ)
+      abbrev at24 : Typed.TF T69 O0
+      at24 = λ Ψ. Typed.give s70 (at23 Ψ)
 
-      abbrev at25 : Typed.TF T72 O0
-      at25 = λ Ψ. Typed.ask s71 (at24 Ψ)
+      abbrev at25 : Typed.TF T69 O0
+      at25 = λ Ψ. at24 Ψ
 
       abbrev at26 : Typed.TF T69 O0
-      at26 = λ Ψ. Typed.give s70 (at25 Ψ)
+      at26 = λ Ψ. at25 Ψ
 
-      abbrev at27 : Typed.TF T69 O0
-      at27 = λ Ψ. at26 Ψ
+      abbrev at27 : Typed.TF T68 O0
+      at27 = λ Ψ. Typed.give s67 (at26 Ψ)
 
-      abbrev at28 : Typed.TF T69 O0
-      at28 = λ Ψ. at27 Ψ
+      abbrev at28 : Typed.TF T65 O0
+      at28 = λ Ψ. Typed.both s66 (at27 Ψ)
 
-      abbrev at29 : Typed.TF T68 O0
-      at29 = λ Ψ. Typed.give s67 (at28 Ψ)
+      abbrev at29 : Typed.TF T65 O0
+      at29 = λ Ψ. at28 Ψ
 
       abbrev at30 : Typed.TF T65 O0
-      at30 = λ Ψ. Typed.both s66 (at29 Ψ)
+      at30 = λ Ψ. at29 Ψ
 
-      abbrev at31 : Typed.TF T65 O0
-      at31 = λ Ψ. at30 Ψ
+      abbrev at31 : Typed.TF T64 O0
+      at31 = λ Ψ. Typed.give s63 (at30 Ψ)
 
-      abbrev at32 : Typed.TF T65 O0
-      at32 = λ Ψ. at31 Ψ
+      abbrev at32 : Typed.TF T61 O0
+      at32 = λ Ψ. Typed.both s62 (at31 Ψ)
 
-      abbrev at33 : Typed.TF T64 O0
-      at33 = λ Ψ. Typed.give s63 (at32 Ψ)
+      abbrev at33 : Typed.TF T61 O0
+      at33 = λ Ψ. at32 Ψ
 
       abbrev at34 : Typed.TF T61 O0
-      at34 = λ Ψ. Typed.both s62 (at33 Ψ)
+      at34 = λ Ψ. at33 Ψ
 
-      abbrev at35 : Typed.TF T61 O0
-      at35 = λ Ψ. at34 Ψ
+      abbrev at35 : Typed.TF T58 O0
+      at35 = λ Ψ. Typed.both s59 (at34 Ψ)
 
-      abbrev at36 : Typed.TF T61 O0
+      abbrev at36 : Typed.TF T58 O0
       at36 = λ Ψ. at35 Ψ
 
       abbrev at37 : Typed.TF T58 O0
-      at37 = λ Ψ. Typed.both s59 (at36 Ψ)
+      at37 = λ Ψ. at36 Ψ
 
-      abbrev at38 : Typed.TF T58 O0
-      at38 = λ Ψ. at37 Ψ
+      abbrev at38 : Typed.TF T55 O0
+      at38 = λ Ψ. Typed.both s56 (at37 Ψ)
 
-      abbrev at39 : Typed.TF T58 O0
+      abbrev at39 : Typed.TF T55 O0
       at39 = λ Ψ. at38 Ψ
 
       abbrev at40 : Typed.TF T55 O0
-      at40 = λ Ψ. Typed.both s56 (at39 Ψ)
+      at40 = λ Ψ. at39 Ψ
 
-      abbrev at41 : Typed.TF T55 O0
-      at41 = λ Ψ. at40 Ψ
+      abbrev at41 : Typed.TF T54 O0
+      at41 = λ Ψ. Typed.give s53 (at40 Ψ)
 
-      abbrev at42 : Typed.TF T55 O0
-      at42 = λ Ψ. at41 Ψ
+      abbrev at42 : Typed.TF T52 O0
+      at42 = λ Ψ. Typed.both s52 (at41 Ψ)
 
-      abbrev at43 : Typed.TF T54 O0
-      at43 = λ Ψ. Typed.give s53 (at42 Ψ)
+      abbrev at43 : Typed.TF T52 O0
+      at43 = λ Ψ. at42 Ψ
 
-      abbrev at44 : Typed.TF T52 O0
-      at44 = λ Ψ. Typed.both s52 (at43 Ψ)
+      abbrev at44 : Typed.TF T51 O0
+      at44 = λ Ψ. Typed.pass T51 T52 s50 (at43 Ψ)
 
-      abbrev at45 : Typed.TF T52 O0
-      at45 = λ Ψ. at44 Ψ
+      abbrev at45 : Typed.TF T50 O0
+      at45 = λ Ψ. Typed.pass T50 T51 s49 (at44 Ψ)
 
-      abbrev at46 : Typed.TF T51 O0
-      at46 = λ Ψ. Typed.pass T51 T52 s50 (at45 Ψ)
+      abbrev at46 : Typed.TF T49 O0
+      at46 = λ Ψ. Typed.both s48 (at45 Ψ)
 
-      abbrev at47 : Typed.TF T50 O0
-      at47 = λ Ψ. Typed.pass T50 T51 s49 (at46 Ψ)
+      abbrev at47 : Typed.TF T48 O0
+      at47 = λ Ψ. Typed.ask s47 (at46 Ψ)
 
-      abbrev at48 : Typed.TF T49 O0
-      at48 = λ Ψ. Typed.both s48 (at47 Ψ)
+      abbrev at48 : Typed.TF T46 O0
+      at48 = λ Ψ. Typed.give s46 (at47 Ψ)
 
-      abbrev at49 : Typed.TF T48 O0
-      at49 = λ Ψ. Typed.ask s47 (at48 Ψ)
+      abbrev at49 : Typed.TF T46 O0
+      at49 = λ Ψ. at48 Ψ
 
-      abbrev at50 : Typed.TF T46 O0
-      at50 = λ Ψ. Typed.give s46 (at49 Ψ)
+      abbrev at50 : Typed.TF T45 O0
+      at50 = λ Ψ. Typed.ask s44 (at49 Ψ)
 
-      abbrev at51 : Typed.TF T46 O0
-      at51 = λ Ψ. at50 Ψ
+      abbrev at51 : Typed.TF T43 O0
+      at51 = λ Ψ. Typed.give s43 (at50 Ψ)
 
-      abbrev at52 : Typed.TF T45 O0
-      at52 = λ Ψ. Typed.ask s44 (at51 Ψ)
+      abbrev at52 : Typed.TF T43 O0
+      at52 = λ Ψ. at51 Ψ
 
-      abbrev at53 : Typed.TF T43 O0
-      at53 = λ Ψ. Typed.give s43 (at52 Ψ)
+      abbrev at53 : Typed.TF T42 O0
+      at53 = λ Ψ. Typed.ask s41 (at52 Ψ)
 
-      abbrev at54 : Typed.TF T43 O0
-      at54 = λ Ψ. at53 Ψ
+      abbrev at54 : Typed.TF T40 O0
+      at54 = λ Ψ. Typed.give s40 (at53 Ψ)
 
-      abbrev at55 : Typed.TF T42 O0
-      at55 = λ Ψ. Typed.ask s41 (at54 Ψ)
+      abbrev at55 : Typed.TF T40 O0
+      at55 = λ Ψ. at54 Ψ
 
-      abbrev at56 : Typed.TF T40 O0
-      at56 = λ Ψ. Typed.give s40 (at55 Ψ)
+      abbrev at56 : Typed.TF T39 O0
+      at56 = λ Ψ. Typed.ask s38 (at55 Ψ)
 
-      abbrev at57 : Typed.TF T40 O0
-      at57 = λ Ψ. at56 Ψ
+      abbrev at57 : Typed.TF T37 O0
+      at57 = λ Ψ. Typed.both s37 (at56 Ψ)
 
-      abbrev at58 : Typed.TF T39 O0
-      at58 = λ Ψ. Typed.ask s38 (at57 Ψ)
+      abbrev at58 : Typed.TF T37 O0
+      at58 = λ Ψ. at57 Ψ
 
-      abbrev at59 : Typed.TF T37 O0
-      at59 = λ Ψ. Typed.both s37 (at58 Ψ)
+      abbrev at59 : Typed.TF T36 O0
+      at59 = λ Ψ. Typed.ask s35 (at58 Ψ)
 
-      abbrev at60 : Typed.TF T37 O0
-      at60 = λ Ψ. at59 Ψ
+      abbrev at60 : Typed.TF T34 O0
+      at60 = λ Ψ. Typed.give s34 (at59 Ψ)
 
-      abbrev at61 : Typed.TF T36 O0
-      at61 = λ Ψ. Typed.ask s35 (at60 Ψ)
+      abbrev at61 : Typed.TF T34 O0
+      at61 = λ Ψ. at60 Ψ
 
-      abbrev at62 : Typed.TF T34 O0
-      at62 = λ Ψ. Typed.give s34 (at61 Ψ)
+      abbrev at62 : Typed.TF T33 O0
+      at62 = λ Ψ. Typed.pass T33 T34 s32 (at61 Ψ)
 
-      abbrev at63 : Typed.TF T34 O0
-      at63 = λ Ψ. at62 Ψ
+      abbrev at63 : Typed.TF T32 O0
+      at63 = λ Ψ. Typed.pass T32 T33 s31 (at62 Ψ)
 
-      abbrev at64 : Typed.TF T33 O0
-      at64 = λ Ψ. Typed.pass T33 T34 s32 (at63 Ψ)
+      abbrev at64 : Typed.TF T31 O0
+      at64 = λ Ψ. Typed.both s30 (at63 Ψ)
 
-      abbrev at65 : Typed.TF T32 O0
-      at65 = λ Ψ. Typed.pass T32 T33 s31 (at64 Ψ)
+      abbrev at65 : Typed.TF T29 O0
+      at65 = λ Ψ. Typed.both s29 (at64 Ψ)
 
-      abbrev at66 : Typed.TF T31 O0
-      at66 = λ Ψ. Typed.both s30 (at65 Ψ)
+      abbrev at66 : Typed.TF T29 O0
+      at66 = λ Ψ. at65 Ψ
 
-      abbrev at67 : Typed.TF T29 O0
-      at67 = λ Ψ. Typed.both s29 (at66 Ψ)
+      abbrev at67 : Typed.TF T27 O0
+      at67 = λ Ψ. Typed.pass T27 T29 s27 (at66 Ψ)
 
-      abbrev at68 : Typed.TF T29 O0
+      abbrev at68 : Typed.TF T27 O0
       at68 = λ Ψ. at67 Ψ
 
-      abbrev at69 : Typed.TF T27 O0
-      at69 = λ Ψ. Typed.pass T27 T29 s27 (at68 Ψ)
+      abbrev at69 : Typed.TF T26 O0
+      at69 = λ Ψ. Typed.pass T26 T27 s25 (at68 Ψ)
 
-      abbrev at70 : Typed.TF T27 O0
-      at70 = λ Ψ. at69 Ψ
+      abbrev at70 : Typed.TF T25 O0
+      at70 = λ Ψ. Typed.both s24 (at69 Ψ)
 
-      abbrev at71 : Typed.TF T26 O0
-      at71 = λ Ψ. Typed.pass T26 T27 s25 (at70 Ψ)
+      abbrev at71 : Typed.TF T24 O0
+      at71 = λ Ψ. Typed.ask s23 (at70 Ψ)
 
-      abbrev at72 : Typed.TF T25 O0
-      at72 = λ Ψ. Typed.both s24 (at71 Ψ)
+      abbrev at72 : Typed.TF T22 O0
+      at72 = λ Ψ. Typed.give s22 (at71 Ψ)
 
-      abbrev at73 : Typed.TF T24 O0
-      at73 = λ Ψ. Typed.ask s23 (at72 Ψ)
+      abbrev at73 : Typed.TF T22 O0
+      at73 = λ Ψ. at72 Ψ
 
-      abbrev at74 : Typed.TF T22 O0
-      at74 = λ Ψ. Typed.give s22 (at73 Ψ)
+      abbrev at74 : Typed.TF T21 O0
+      at74 = λ Ψ. Typed.both s20 (at73 Ψ)
 
-      abbrev at75 : Typed.TF T22 O0
-      at75 = λ Ψ. at74 Ψ
+      abbrev at75 : Typed.TF T20 O0
+      at75 = λ Ψ. Typed.pass T20 T21 s19 (at74 Ψ)
 
-      abbrev at76 : Typed.TF T21 O0
-      at76 = λ Ψ. Typed.both s20 (at75 Ψ)
+      abbrev at76 : Typed.TF T19 O0
+      at76 = λ Ψ. Typed.pass T19 T20 s18 (at75 Ψ)
 
-      abbrev at77 : Typed.TF T20 O0
-      at77 = λ Ψ. Typed.pass T20 T21 s19 (at76 Ψ)
+      abbrev at77 : Typed.TF T18 O0
+      at77 = λ Ψ. Typed.pass T18 T19 s17 (at76 Ψ)
 
-      abbrev at78 : Typed.TF T19 O0
-      at78 = λ Ψ. Typed.pass T19 T20 s18 (at77 Ψ)
+      abbrev at78 : Typed.TF T16 O0
+      at78 = λ Ψ. Typed.both s16 (at77 Ψ)
 
-      abbrev at79 : Typed.TF T18 O0
-      at79 = λ Ψ. Typed.pass T18 T19 s17 (at78 Ψ)
+      abbrev at79 : Typed.TF T16 O0
+      at79 = λ Ψ. at78 Ψ
 
-      abbrev at80 : Typed.TF T16 O0
-      at80 = λ Ψ. Typed.both s16 (at79 Ψ)
+      abbrev at80 : Typed.TF T14 O0
+      at80 = λ Ψ. Typed.pass T14 T16 s14 (at79 Ψ)
 
-      abbrev at81 : Typed.TF T16 O0
+      abbrev at81 : Typed.TF T14 O0
       at81 = λ Ψ. at80 Ψ
 
-      abbrev at82 : Typed.TF T14 O0
-      at82 = λ Ψ. Typed.pass T14 T16 s14 (at81 Ψ)
+      abbrev at82 : Typed.TF T13 O0
+      at82 = λ Ψ. Typed.pass T13 T14 s12 (at81 Ψ)
 
-      abbrev at83 : Typed.TF T14 O0
-      at83 = λ Ψ. at82 Ψ
+      abbrev at83 : Typed.TF T12 O0
+      at83 = λ Ψ. Typed.both s11 (at82 Ψ)
 
-      abbrev at84 : Typed.TF T13 O0
-      at84 = λ Ψ. Typed.pass T13 T14 s12 (at83 Ψ)
+      abbrev at84 : Typed.TF T11 O0
+      at84 = λ Ψ. Typed.ask s10 (at83 Ψ)
 
-      abbrev at85 : Typed.TF T12 O0
-      at85 = λ Ψ. Typed.both s11 (at84 Ψ)
+      abbrev at85 : Typed.TF T9 O0
+      at85 = λ Ψ. Typed.give s9 (at84 Ψ)
 
-      abbrev at86 : Typed.TF T11 O0
-      at86 = λ Ψ. Typed.ask s10 (at85 Ψ)
+      abbrev at86 : Typed.TF T9 O0
+      at86 = λ Ψ. at85 Ψ
 
-      abbrev at87 : Typed.TF T9 O0
-      at87 = λ Ψ. Typed.give s9 (at86 Ψ)
+      abbrev at87 : Typed.TF T8 O0
+      at87 = λ Ψ. Typed.pass T8 T9 s7 (at86 Ψ)
 
-      abbrev at88 : Typed.TF T9 O0
-      at88 = λ Ψ. at87 Ψ
+      abbrev at88 : Typed.TF T7 O0
+      at88 = λ Ψ. Typed.give s6 (at87 Ψ)
 
-      abbrev at89 : Typed.TF T8 O0
-      at89 = λ Ψ. Typed.pass T8 T9 s7 (at88 Ψ)
+      abbrev at89 : Typed.TF T6 O0
+      at89 = λ Ψ. Typed.give s5 (at88 Ψ)
 
-      abbrev at90 : Typed.TF T7 O0
-      at90 = λ Ψ. Typed.give s6 (at89 Ψ)
+      abbrev at90 : Typed.TF T5 O0
+      at90 = λ Ψ. Typed.give s4 (at89 Ψ)
 
-      abbrev at91 : Typed.TF T6 O0
-      at91 = λ Ψ. Typed.give s5 (at90 Ψ)
+      abbrev at91 : Typed.TF T4 O0
+      at91 = λ Ψ. Typed.give s3 (at90 Ψ)
 
-      abbrev at92 : Typed.TF T5 O0
-      at92 = λ Ψ. Typed.give s4 (at91 Ψ)
+      abbrev at92 : Typed.TF T3 O0
+      at92 = λ Ψ. Typed.give s2 (at91 Ψ)
 
-      abbrev at93 : Typed.TF T4 O0
-      at93 = λ Ψ. Typed.give s3 (at92 Ψ)
+      abbrev at93 : Typed.TF T2 O0
+      at93 = λ Ψ. Typed.give s1 (at92 Ψ)
 
-      abbrev at94 : Typed.TF T3 O0
-      at94 = λ Ψ. Typed.give s2 (at93 Ψ)
-
-      abbrev at95 : Typed.TF T2 O0
-      at95 = λ Ψ. Typed.give s1 (at94 Ψ)
-
-      abbrev at96 : Typed.TF T0 O0
-      at96 = λ Ψ. Typed.give s0 (at95 Ψ)
+      abbrev at94 : Typed.TF T0 O0
+      at94 = λ Ψ. Typed.give s0 (at93 Ψ)
 
       abbrev pub Φ : Typed.TF T0 O0
-      Φ = at96
+      Φ = at94
 
       module _ {M : Type 1} (𝓤 : URA.URA M) (H : Wp.Heap 𝓤) (A : Atoms.Atoms 𝓤) (W : Kit.Given 𝓤 H A) (𝓣 : Wp.Tables 𝓤 H) where
         abbrev Knowns : Type 1
-        Knowns = Plain.Known 𝓤 H A W 𝓣 2 ps·0 r·0 (claims· .0) (claims· .1) "imbalance::parts_load" × Plain.Known 𝓤 H A W 𝓣 1 ps·1 r·1 (claims· .2) (claims· .3) "imbalance::total_weight" × Plain.Known 𝓤 H A W 𝓣 0 ps·2 r·2 (claims· .4) (claims· .5) "imbalance::ceilings_of" × Plain.Known 𝓤 H A W 𝓣 4 ps·3 r·3 (claims· .6) (claims· .7) "topology::cut::cut_of" × Plain.Known 𝓤 H A W 𝓣 0 ps·4 r·4 (claims· .8) (claims· .9) "lists::wide" × Plain.Known 𝓤 H A W 𝓣 0 ps·5 r·5 (claims· .10) (claims· .11) "lists::index" × Plain.Known 𝓤 H A W 𝓣 9 ps·6 r·6 (claims· .12) (claims· .13) "fiduccia_mattheyses::make_passes" × Plain.Known 𝓤 H A W 𝓣 1 ps·7 r·7 (claims· .14) (claims· .15) "lists::clear_gains" × Plain.Known 𝓤 H A W 𝓣 1 ps·8 r·8 (claims· .16) (claims· .17) "fiduccia_mattheyses::clear" × Plain.Known 𝓤 H A W 𝓣 0 ps·9 r·9 (claims· .18) (claims· .19) "fiduccia_mattheyses::run_report"
+        Knowns = Plain.Known 𝓤 H A W 𝓣 2 ps·0 r·0 (claims· .0) (claims· .1) "imbalance::parts_load" × Plain.Known 𝓤 H A W 𝓣 1 ps·1 r·1 (claims· .2) (claims· .3) "imbalance::total_weight" × Plain.Known 𝓤 H A W 𝓣 0 ps·2 r·2 (claims· .4) (claims· .5) "imbalance::ceilings_of" × Plain.Known 𝓤 H A W 𝓣 4 ps·3 r·3 (claims· .6) (claims· .7) "topology::cut::cut_of" × Plain.Known 𝓤 H A W 𝓣 0 ps·4 r·4 (claims· .8) (claims· .9) "lists::wide" × Plain.Known 𝓤 H A W 𝓣 0 ps·5 r·5 (claims· .10) (claims· .11) "lists::index" × Plain.Known 𝓤 H A W 𝓣 9 ps·6 r·6 (claims· .12) (claims· .13) "fiduccia_mattheyses::make_passes" × Plain.Known 𝓤 H A W 𝓣 1 ps·7 r·7 (claims· .14) (claims· .15) "fiduccia_mattheyses::clear" × Plain.Known 𝓤 H A W 𝓣 1 ps·8 r·8 (claims· .16) (claims· .17) "fiduccia_mattheyses::finish"
 
       module _ (κs : Lifetimes.Lfts 9) (qs : Lifetimes.Shares 9) where
         abbrev g5 : List.List Row.Entry
@@ -3465,10 +3450,10 @@ module _ (claims· : Claims) where
           Mut.mslice (Referent.rtF (Referent.fInt Syntax.w32)) (Syntax.tyRef (Syntax.named 4) Syntax.mut (Syntax.tyInt Syntax.w32)) 4,
         ) (List._∷_ (
           6,
-          Relend.mslice-owed (Signed.SInt Syntax.w64) (Syntax.tyRef (Syntax.named 5) Syntax.mut (Syntax.tyInt Syntax.w64)) 5 16 (Row.lease (κs .1 .1 .1 .1 .1 .0) (qs .1 .1 .1 .1 .1 .0)),
+          Mut.mslice (Signed.SInt Syntax.w64) (Syntax.tyRef (Syntax.named 5) Syntax.mut (Syntax.tyInt Syntax.w64)) 5,
         ) (List._∷_ (
           7,
-          Mut.mslice MoveTy.R (Syntax.tyRef (Syntax.named 6) Syntax.mut MoveTy.behind) 6,
+          Relend.mslice-owed MoveTy.R (Syntax.tyRef (Syntax.named 6) Syntax.mut MoveTy.behind) 6 16 (Row.lease (κs .1 .1 .1 .1 .1 .1 .0) (qs .1 .1 .1 .1 .1 .1 .0)),
         ) (List._∷_ (
           8,
           Mut.mslice (Referent.rtF (Referent.fInt Syntax.w32)) (Syntax.tyRef (Syntax.named 7) Syntax.mut (Syntax.tyInt Syntax.w32)) 7,
@@ -3507,10 +3492,10 @@ module _ (claims· : Claims) where
           Mut.mslice (Referent.rtF (Referent.fInt Syntax.w32)) (Syntax.tyRef (Syntax.named 4) Syntax.mut (Syntax.tyInt Syntax.w32)) 4,
         ) (List._∷_ (
           6,
-          Mut.mslice (Signed.SInt Syntax.w64) (Syntax.tyRef (Syntax.named 5) Syntax.mut (Syntax.tyInt Syntax.w64)) 5,
+          Relend.mslice-owed (Signed.SInt Syntax.w64) (Syntax.tyRef (Syntax.named 5) Syntax.mut (Syntax.tyInt Syntax.w64)) 5 17 (Row.lease (κs .1 .1 .1 .1 .1 .0) (qs .1 .1 .1 .1 .1 .0)),
         ) (List._∷_ (
           7,
-          Relend.mslice-owed MoveTy.R (Syntax.tyRef (Syntax.named 6) Syntax.mut MoveTy.behind) 6 17 (Row.lease (κs .1 .1 .1 .1 .1 .1 .0) (qs .1 .1 .1 .1 .1 .1 .0)),
+          Mut.mslice MoveTy.R (Syntax.tyRef (Syntax.named 6) Syntax.mut MoveTy.behind) 6,
         ) (List._∷_ (
           8,
           Mut.mslice (Referent.rtF (Referent.fInt Syntax.w32)) (Syntax.tyRef (Syntax.named 7) Syntax.mut (Syntax.tyInt Syntax.w32)) 7,
@@ -3527,6 +3512,201 @@ module _ (claims· : Claims) where
           14,
           Rows.sc-here (Row.sInt Syntax.w32),
         ) (List._∷_ (15, Rows.sc-here (Row.sInt Syntax.w32)) List.[])))))))))))))))
+
+        abbrev g60 : List.List Row.Entry
+        g60 = List._∷_ (0, Rows.whole (Declared.row Report.the-type)) (List._∷_ (
+          1,
+          Rows.sslice (Referent.rtF (Referent.fInt Syntax.w32)) (Syntax.tyRef (Syntax.named 0) Syntax.imm (Syntax.tyInt Syntax.w32)) 0,
+        ) (List._∷_ (
+          2,
+          Rows.sslice (Referent.rtF (Referent.fInt Syntax.w32)) (Syntax.tyRef (Syntax.named 1) Syntax.imm (Syntax.tyInt Syntax.w32)) 1,
+        ) (List._∷_ (
+          3,
+          Rows.sslice (Referent.rtF (Referent.fInt Syntax.w32)) (Syntax.tyRef (Syntax.named 2) Syntax.imm (Syntax.tyInt Syntax.w32)) 2,
+        ) (List._∷_ (
+          4,
+          Rows.sslice (Referent.rtF (Referent.fInt Syntax.w32)) (Syntax.tyRef (Syntax.named 3) Syntax.imm (Syntax.tyInt Syntax.w32)) 3,
+        ) (List._∷_ (
+          5,
+          Mut.mslice (Referent.rtF (Referent.fInt Syntax.w32)) (Syntax.tyRef (Syntax.named 4) Syntax.mut (Syntax.tyInt Syntax.w32)) 4,
+        ) (List._∷_ (
+          6,
+          Relend.mslice-owed (Signed.SInt Syntax.w64) (Syntax.tyRef (Syntax.named 5) Syntax.mut (Syntax.tyInt Syntax.w64)) 5 17 (Row.lease (κs .1 .1 .1 .1 .1 .0) (qs .1 .1 .1 .1 .1 .0)),
+        ) (List._∷_ (
+          7,
+          Mut.mslice MoveTy.R (Syntax.tyRef (Syntax.named 6) Syntax.mut MoveTy.behind) 6,
+        ) (List._∷_ (
+          8,
+          Mut.mslice (Referent.rtF (Referent.fInt Syntax.w32)) (Syntax.tyRef (Syntax.named 7) Syntax.mut (Syntax.tyInt Syntax.w32)) 7,
+        ) (List._∷_ (
+          9,
+          Mut.mslice (Referent.rtF (Referent.fInt Syntax.w32)) (Syntax.tyRef (Syntax.named 8) Syntax.mut (Syntax.tyInt Syntax.w32)) 8,
+        ) (List._∷_ (
+          10,
+          Rows.any-gone (Syntax.tyStruct (List._∷_ 102 (List._∷_ 105 (List._∷_ 100 (List._∷_ 117 (List._∷_ 99 (List._∷_ 99 (List._∷_ 105 (List._∷_ 97 (List._∷_ 95 (List._∷_ 109 (List._∷_ 97 (List._∷_ 116 (List._∷_ 116 (List._∷_ 104 (List._∷_ 101 (List._∷_ 121 (List._∷_ 115 (List._∷_ 101 (List._∷_ 115 (List._∷_ 58 (List._∷_ 58 (List._∷_ 83 (List._∷_ 101 (List._∷_ 116 (List._∷_ 116 (List._∷_ 105 (List._∷_ 110 (List._∷_ 103 (List._∷_ 115 List.[]))))))))))))))))))))))))))))) (Syntax.tcons (Syntax.tyInt Syntax.w32) (Syntax.tcons (Syntax.tyInt Syntax.w32) (Syntax.tcons (Syntax.tyInt Syntax.w32) (Syntax.tcons (Syntax.tyInt Syntax.w32) (Syntax.tcons (Syntax.tyInt Syntax.w32) (Syntax.tcons (Syntax.tyFloat Ieee.binary64) Syntax.tnil))))))),
+        ) (List._∷_ (11, Rows.sc-here (Row.sInt Syntax.w64)) (List._∷_ (
+          12,
+          Rows.any-gone (Syntax.tyStruct (List._∷_ 105 (List._∷_ 109 (List._∷_ 98 (List._∷_ 97 (List._∷_ 108 (List._∷_ 97 (List._∷_ 110 (List._∷_ 99 (List._∷_ 101 (List._∷_ 58 (List._∷_ 58 (List._∷_ 76 (List._∷_ 111 (List._∷_ 97 (List._∷_ 100 (List._∷_ 115 List.[])))))))))))))))) (Syntax.tcons (Syntax.tyArray (Syntax.tyInt Syntax.w64) 16) Syntax.tnil)),
+        ) (List._∷_ (13, Rows.sc-here (Row.sInt Syntax.w64)) (List._∷_ (
+          14,
+          Rows.sc-here (Row.sInt Syntax.w32),
+        ) (List._∷_ (15, Rows.sc-here (Row.sInt Syntax.w32)) List.[])))))))))))))))
+
+        abbrev g62 : List.List Row.Entry
+        g62 = List._∷_ (0, Rows.whole (Declared.row Report.the-type)) (List._∷_ (
+          1,
+          Rows.sslice (Referent.rtF (Referent.fInt Syntax.w32)) (Syntax.tyRef (Syntax.named 0) Syntax.imm (Syntax.tyInt Syntax.w32)) 0,
+        ) (List._∷_ (
+          2,
+          Rows.sslice (Referent.rtF (Referent.fInt Syntax.w32)) (Syntax.tyRef (Syntax.named 1) Syntax.imm (Syntax.tyInt Syntax.w32)) 1,
+        ) (List._∷_ (
+          3,
+          Rows.sslice (Referent.rtF (Referent.fInt Syntax.w32)) (Syntax.tyRef (Syntax.named 2) Syntax.imm (Syntax.tyInt Syntax.w32)) 2,
+        ) (List._∷_ (
+          4,
+          Rows.sslice (Referent.rtF (Referent.fInt Syntax.w32)) (Syntax.tyRef (Syntax.named 3) Syntax.imm (Syntax.tyInt Syntax.w32)) 3,
+        ) (List._∷_ (
+          5,
+          Mut.mslice (Referent.rtF (Referent.fInt Syntax.w32)) (Syntax.tyRef (Syntax.named 4) Syntax.mut (Syntax.tyInt Syntax.w32)) 4,
+        ) (List._∷_ (
+          6,
+          Relend.mslice-owed (Signed.SInt Syntax.w64) (Syntax.tyRef (Syntax.named 5) Syntax.mut (Syntax.tyInt Syntax.w64)) 5 17 (Row.lease (κs .1 .1 .1 .1 .1 .0) (qs .1 .1 .1 .1 .1 .0)),
+        ) (List._∷_ (
+          7,
+          Mut.mslice MoveTy.R (Syntax.tyRef (Syntax.named 6) Syntax.mut MoveTy.behind) 6,
+        ) (List._∷_ (
+          8,
+          Mut.mslice (Referent.rtF (Referent.fInt Syntax.w32)) (Syntax.tyRef (Syntax.named 7) Syntax.mut (Syntax.tyInt Syntax.w32)) 7,
+        ) (List._∷_ (
+          9,
+          Mut.mslice (Referent.rtF (Referent.fInt Syntax.w32)) (Syntax.tyRef (Syntax.named 8) Syntax.mut (Syntax.tyInt Syntax.w32)) 8,
+        ) (List._∷_ (
+          10,
+          Rows.any-gone (Syntax.tyStruct (List._∷_ 102 (List._∷_ 105 (List._∷_ 100 (List._∷_ 117 (List._∷_ 99 (List._∷_ 99 (List._∷_ 105 (List._∷_ 97 (List._∷_ 95 (List._∷_ 109 (List._∷_ 97 (List._∷_ 116 (List._∷_ 116 (List._∷_ 104 (List._∷_ 101 (List._∷_ 121 (List._∷_ 115 (List._∷_ 101 (List._∷_ 115 (List._∷_ 58 (List._∷_ 58 (List._∷_ 83 (List._∷_ 101 (List._∷_ 116 (List._∷_ 116 (List._∷_ 105 (List._∷_ 110 (List._∷_ 103 (List._∷_ 115 List.[]))))))))))))))))))))))))))))) (Syntax.tcons (Syntax.tyInt Syntax.w32) (Syntax.tcons (Syntax.tyInt Syntax.w32) (Syntax.tcons (Syntax.tyInt Syntax.w32) (Syntax.tcons (Syntax.tyInt Syntax.w32) (Syntax.tcons (Syntax.tyInt Syntax.w32) (Syntax.tcons (Syntax.tyFloat Ieee.binary64) Syntax.tnil))))))),
+        ) (List._∷_ (11, Rows.any-gone (Syntax.tyInt Syntax.w64)) (List._∷_ (
+          12,
+          Rows.any-gone (Syntax.tyStruct (List._∷_ 105 (List._∷_ 109 (List._∷_ 98 (List._∷_ 97 (List._∷_ 108 (List._∷_ 97 (List._∷_ 110 (List._∷_ 99 (List._∷_ 101 (List._∷_ 58 (List._∷_ 58 (List._∷_ 76 (List._∷_ 111 (List._∷_ 97 (List._∷_ 100 (List._∷_ 115 List.[])))))))))))))))) (Syntax.tcons (Syntax.tyArray (Syntax.tyInt Syntax.w64) 16) Syntax.tnil)),
+        ) (List._∷_ (13, Rows.sc-here (Row.sInt Syntax.w64)) (List._∷_ (
+          14,
+          Rows.sc-here (Row.sInt Syntax.w32),
+        ) (List._∷_ (15, Rows.sc-here (Row.sInt Syntax.w32)) List.[])))))))))))))))
+
+        abbrev g63 : List.List Row.Entry
+        g63 = List._∷_ (0, Rows.whole (Declared.row Report.the-type)) (List._∷_ (
+          1,
+          Rows.sslice (Referent.rtF (Referent.fInt Syntax.w32)) (Syntax.tyRef (Syntax.named 0) Syntax.imm (Syntax.tyInt Syntax.w32)) 0,
+        ) (List._∷_ (
+          2,
+          Rows.sslice (Referent.rtF (Referent.fInt Syntax.w32)) (Syntax.tyRef (Syntax.named 1) Syntax.imm (Syntax.tyInt Syntax.w32)) 1,
+        ) (List._∷_ (
+          3,
+          Rows.sslice (Referent.rtF (Referent.fInt Syntax.w32)) (Syntax.tyRef (Syntax.named 2) Syntax.imm (Syntax.tyInt Syntax.w32)) 2,
+        ) (List._∷_ (
+          4,
+          Rows.sslice (Referent.rtF (Referent.fInt Syntax.w32)) (Syntax.tyRef (Syntax.named 3) Syntax.imm (Syntax.tyInt Syntax.w32)) 3,
+        ) (List._∷_ (
+          5,
+          Mut.mslice (Referent.rtF (Referent.fInt Syntax.w32)) (Syntax.tyRef (Syntax.named 4) Syntax.mut (Syntax.tyInt Syntax.w32)) 4,
+        ) (List._∷_ (
+          6,
+          Relend.mslice-owed (Signed.SInt Syntax.w64) (Syntax.tyRef (Syntax.named 5) Syntax.mut (Syntax.tyInt Syntax.w64)) 5 17 (Row.lease (κs .1 .1 .1 .1 .1 .0) (qs .1 .1 .1 .1 .1 .0)),
+        ) (List._∷_ (
+          7,
+          Mut.mslice MoveTy.R (Syntax.tyRef (Syntax.named 6) Syntax.mut MoveTy.behind) 6,
+        ) (List._∷_ (
+          8,
+          Mut.mslice (Referent.rtF (Referent.fInt Syntax.w32)) (Syntax.tyRef (Syntax.named 7) Syntax.mut (Syntax.tyInt Syntax.w32)) 7,
+        ) (List._∷_ (
+          9,
+          Mut.mslice (Referent.rtF (Referent.fInt Syntax.w32)) (Syntax.tyRef (Syntax.named 8) Syntax.mut (Syntax.tyInt Syntax.w32)) 8,
+        ) (List._∷_ (
+          10,
+          Rows.any-gone (Syntax.tyStruct (List._∷_ 102 (List._∷_ 105 (List._∷_ 100 (List._∷_ 117 (List._∷_ 99 (List._∷_ 99 (List._∷_ 105 (List._∷_ 97 (List._∷_ 95 (List._∷_ 109 (List._∷_ 97 (List._∷_ 116 (List._∷_ 116 (List._∷_ 104 (List._∷_ 101 (List._∷_ 121 (List._∷_ 115 (List._∷_ 101 (List._∷_ 115 (List._∷_ 58 (List._∷_ 58 (List._∷_ 83 (List._∷_ 101 (List._∷_ 116 (List._∷_ 116 (List._∷_ 105 (List._∷_ 110 (List._∷_ 103 (List._∷_ 115 List.[]))))))))))))))))))))))))))))) (Syntax.tcons (Syntax.tyInt Syntax.w32) (Syntax.tcons (Syntax.tyInt Syntax.w32) (Syntax.tcons (Syntax.tyInt Syntax.w32) (Syntax.tcons (Syntax.tyInt Syntax.w32) (Syntax.tcons (Syntax.tyInt Syntax.w32) (Syntax.tcons (Syntax.tyFloat Ieee.binary64) Syntax.tnil))))))),
+        ) (List._∷_ (11, Rows.any-gone (Syntax.tyInt Syntax.w64)) (List._∷_ (
+          12,
+          Rows.any-gone (Syntax.tyStruct (List._∷_ 105 (List._∷_ 109 (List._∷_ 98 (List._∷_ 97 (List._∷_ 108 (List._∷_ 97 (List._∷_ 110 (List._∷_ 99 (List._∷_ 101 (List._∷_ 58 (List._∷_ 58 (List._∷_ 76 (List._∷_ 111 (List._∷_ 97 (List._∷_ 100 (List._∷_ 115 List.[])))))))))))))))) (Syntax.tcons (Syntax.tyArray (Syntax.tyInt Syntax.w64) 16) Syntax.tnil)),
+        ) (List._∷_ (13, Rows.any-gone (Syntax.tyInt Syntax.w64)) (List._∷_ (
+          14,
+          Rows.sc-here (Row.sInt Syntax.w32),
+        ) (List._∷_ (15, Rows.sc-here (Row.sInt Syntax.w32)) List.[])))))))))))))))
+
+        abbrev g64 : List.List Row.Entry
+        g64 = List._∷_ (0, Rows.whole (Declared.row Report.the-type)) (List._∷_ (
+          1,
+          Rows.sslice (Referent.rtF (Referent.fInt Syntax.w32)) (Syntax.tyRef (Syntax.named 0) Syntax.imm (Syntax.tyInt Syntax.w32)) 0,
+        ) (List._∷_ (
+          2,
+          Rows.sslice (Referent.rtF (Referent.fInt Syntax.w32)) (Syntax.tyRef (Syntax.named 1) Syntax.imm (Syntax.tyInt Syntax.w32)) 1,
+        ) (List._∷_ (
+          3,
+          Rows.sslice (Referent.rtF (Referent.fInt Syntax.w32)) (Syntax.tyRef (Syntax.named 2) Syntax.imm (Syntax.tyInt Syntax.w32)) 2,
+        ) (List._∷_ (
+          4,
+          Rows.sslice (Referent.rtF (Referent.fInt Syntax.w32)) (Syntax.tyRef (Syntax.named 3) Syntax.imm (Syntax.tyInt Syntax.w32)) 3,
+        ) (List._∷_ (
+          5,
+          Mut.mslice (Referent.rtF (Referent.fInt Syntax.w32)) (Syntax.tyRef (Syntax.named 4) Syntax.mut (Syntax.tyInt Syntax.w32)) 4,
+        ) (List._∷_ (
+          6,
+          Relend.mslice-owed (Signed.SInt Syntax.w64) (Syntax.tyRef (Syntax.named 5) Syntax.mut (Syntax.tyInt Syntax.w64)) 5 17 (Row.lease (κs .1 .1 .1 .1 .1 .0) (qs .1 .1 .1 .1 .1 .0)),
+        ) (List._∷_ (
+          7,
+          Mut.mslice MoveTy.R (Syntax.tyRef (Syntax.named 6) Syntax.mut MoveTy.behind) 6,
+        ) (List._∷_ (
+          8,
+          Mut.mslice (Referent.rtF (Referent.fInt Syntax.w32)) (Syntax.tyRef (Syntax.named 7) Syntax.mut (Syntax.tyInt Syntax.w32)) 7,
+        ) (List._∷_ (
+          9,
+          Mut.mslice (Referent.rtF (Referent.fInt Syntax.w32)) (Syntax.tyRef (Syntax.named 8) Syntax.mut (Syntax.tyInt Syntax.w32)) 8,
+        ) (List._∷_ (
+          10,
+          Rows.any-gone (Syntax.tyStruct (List._∷_ 102 (List._∷_ 105 (List._∷_ 100 (List._∷_ 117 (List._∷_ 99 (List._∷_ 99 (List._∷_ 105 (List._∷_ 97 (List._∷_ 95 (List._∷_ 109 (List._∷_ 97 (List._∷_ 116 (List._∷_ 116 (List._∷_ 104 (List._∷_ 101 (List._∷_ 121 (List._∷_ 115 (List._∷_ 101 (List._∷_ 115 (List._∷_ 58 (List._∷_ 58 (List._∷_ 83 (List._∷_ 101 (List._∷_ 116 (List._∷_ 116 (List._∷_ 105 (List._∷_ 110 (List._∷_ 103 (List._∷_ 115 List.[]))))))))))))))))))))))))))))) (Syntax.tcons (Syntax.tyInt Syntax.w32) (Syntax.tcons (Syntax.tyInt Syntax.w32) (Syntax.tcons (Syntax.tyInt Syntax.w32) (Syntax.tcons (Syntax.tyInt Syntax.w32) (Syntax.tcons (Syntax.tyInt Syntax.w32) (Syntax.tcons (Syntax.tyFloat Ieee.binary64) Syntax.tnil))))))),
+        ) (List._∷_ (11, Rows.any-gone (Syntax.tyInt Syntax.w64)) (List._∷_ (
+          12,
+          Rows.any-gone (Syntax.tyStruct (List._∷_ 105 (List._∷_ 109 (List._∷_ 98 (List._∷_ 97 (List._∷_ 108 (List._∷_ 97 (List._∷_ 110 (List._∷_ 99 (List._∷_ 101 (List._∷_ 58 (List._∷_ 58 (List._∷_ 76 (List._∷_ 111 (List._∷_ 97 (List._∷_ 100 (List._∷_ 115 List.[])))))))))))))))) (Syntax.tcons (Syntax.tyArray (Syntax.tyInt Syntax.w64) 16) Syntax.tnil)),
+        ) (List._∷_ (13, Rows.any-gone (Syntax.tyInt Syntax.w64)) (List._∷_ (
+          14,
+          Rows.any-gone (Syntax.tyInt Syntax.w32),
+        ) (List._∷_ (15, Rows.sc-here (Row.sInt Syntax.w32)) List.[])))))))))))))))
+
+        abbrev g65 : List.List Row.Entry
+        g65 = List._∷_ (0, Rows.whole (Declared.row Report.the-type)) (List._∷_ (
+          1,
+          Rows.sslice (Referent.rtF (Referent.fInt Syntax.w32)) (Syntax.tyRef (Syntax.named 0) Syntax.imm (Syntax.tyInt Syntax.w32)) 0,
+        ) (List._∷_ (
+          2,
+          Rows.sslice (Referent.rtF (Referent.fInt Syntax.w32)) (Syntax.tyRef (Syntax.named 1) Syntax.imm (Syntax.tyInt Syntax.w32)) 1,
+        ) (List._∷_ (
+          3,
+          Rows.sslice (Referent.rtF (Referent.fInt Syntax.w32)) (Syntax.tyRef (Syntax.named 2) Syntax.imm (Syntax.tyInt Syntax.w32)) 2,
+        ) (List._∷_ (
+          4,
+          Rows.sslice (Referent.rtF (Referent.fInt Syntax.w32)) (Syntax.tyRef (Syntax.named 3) Syntax.imm (Syntax.tyInt Syntax.w32)) 3,
+        ) (List._∷_ (
+          5,
+          Mut.mslice (Referent.rtF (Referent.fInt Syntax.w32)) (Syntax.tyRef (Syntax.named 4) Syntax.mut (Syntax.tyInt Syntax.w32)) 4,
+        ) (List._∷_ (
+          6,
+          Relend.mslice-owed (Signed.SInt Syntax.w64) (Syntax.tyRef (Syntax.named 5) Syntax.mut (Syntax.tyInt Syntax.w64)) 5 17 (Row.lease (κs .1 .1 .1 .1 .1 .0) (qs .1 .1 .1 .1 .1 .0)),
+        ) (List._∷_ (
+          7,
+          Mut.mslice MoveTy.R (Syntax.tyRef (Syntax.named 6) Syntax.mut MoveTy.behind) 6,
+        ) (List._∷_ (
+          8,
+          Mut.mslice (Referent.rtF (Referent.fInt Syntax.w32)) (Syntax.tyRef (Syntax.named 7) Syntax.mut (Syntax.tyInt Syntax.w32)) 7,
+        ) (List._∷_ (
+          9,
+          Mut.mslice (Referent.rtF (Referent.fInt Syntax.w32)) (Syntax.tyRef (Syntax.named 8) Syntax.mut (Syntax.tyInt Syntax.w32)) 8,
+        ) (List._∷_ (
+          10,
+          Rows.any-gone (Syntax.tyStruct (List._∷_ 102 (List._∷_ 105 (List._∷_ 100 (List._∷_ 117 (List._∷_ 99 (List._∷_ 99 (List._∷_ 105 (List._∷_ 97 (List._∷_ 95 (List._∷_ 109 (List._∷_ 97 (List._∷_ 116 (List._∷_ 116 (List._∷_ 104 (List._∷_ 101 (List._∷_ 121 (List._∷_ 115 (List._∷_ 101 (List._∷_ 115 (List._∷_ 58 (List._∷_ 58 (List._∷_ 83 (List._∷_ 101 (List._∷_ 116 (List._∷_ 116 (List._∷_ 105 (List._∷_ 110 (List._∷_ 103 (List._∷_ 115 List.[]))))))))))))))))))))))))))))) (Syntax.tcons (Syntax.tyInt Syntax.w32) (Syntax.tcons (Syntax.tyInt Syntax.w32) (Syntax.tcons (Syntax.tyInt Syntax.w32) (Syntax.tcons (Syntax.tyInt Syntax.w32) (Syntax.tcons (Syntax.tyInt Syntax.w32) (Syntax.tcons (Syntax.tyFloat Ieee.binary64) Syntax.tnil))))))),
+        ) (List._∷_ (11, Rows.any-gone (Syntax.tyInt Syntax.w64)) (List._∷_ (
+          12,
+          Rows.any-gone (Syntax.tyStruct (List._∷_ 105 (List._∷_ 109 (List._∷_ 98 (List._∷_ 97 (List._∷_ 108 (List._∷_ 97 (List._∷_ 110 (List._∷_ 99 (List._∷_ 101 (List._∷_ 58 (List._∷_ 58 (List._∷_ 76 (List._∷_ 111 (List._∷_ 97 (List._∷_ 100 (List._∷_ 115 List.[])))))))))))))))) (Syntax.tcons (Syntax.tyArray (Syntax.tyInt Syntax.w64) 16) Syntax.tnil)),
+        ) (List._∷_ (13, Rows.any-gone (Syntax.tyInt Syntax.w64)) (List._∷_ (
+          14,
+          Rows.any-gone (Syntax.tyInt Syntax.w32),
+        ) (List._∷_ (15, Rows.any-gone (Syntax.tyInt Syntax.w32)) List.[])))))))))))))))
 
         abbrev G0 : Row.Cx
         G0 = record {
@@ -3963,31 +4143,31 @@ module _ (claims· : Claims) where
         abbrev G72 : Row.Cx
         G72 = record {
           locals = List._++_ g52 (List._++_ t46 t53);
-          slots = List._∷_ (Row.lease (κs .0) (qs .0)) (List._∷_ (Row.lease (κs .1 .0) (qs .1 .0)) (List._∷_ (Row.lease (κs .1 .1 .0) (qs .1 .1 .0)) (List._∷_ (Row.lease (κs .1 .1 .1 .0) (qs .1 .1 .1 .0)) (List._∷_ (Row.lease (κs .1 .1 .1 .1 .0) (qs .1 .1 .1 .1 .0)) (List._∷_ Row.off (List._∷_ (Row.lease (κs .1 .1 .1 .1 .1 .1 .0) (qs .1 .1 .1 .1 .1 .1 .0)) (List._∷_ (Row.lease (κs .1 .1 .1 .1 .1 .1 .1 .0) (qs .1 .1 .1 .1 .1 .1 .1 .0)) (List._∷_ (Row.lease (κs .1 .1 .1 .1 .1 .1 .1 .1 .0) (qs .1 .1 .1 .1 .1 .1 .1 .1 .0)) (List._∷_ Row.off (List._∷_ Row.off (List._∷_ Row.off (List._∷_ Row.off (List._∷_ Row.off (List._∷_ Row.off (List._∷_ Row.off (List._∷_ Row.alive (List._∷_ Row.off List.[])))))))))))))))));
+          slots = List._∷_ (Row.lease (κs .0) (qs .0)) (List._∷_ (Row.lease (κs .1 .0) (qs .1 .0)) (List._∷_ (Row.lease (κs .1 .1 .0) (qs .1 .1 .0)) (List._∷_ (Row.lease (κs .1 .1 .1 .0) (qs .1 .1 .1 .0)) (List._∷_ (Row.lease (κs .1 .1 .1 .1 .0) (qs .1 .1 .1 .1 .0)) (List._∷_ (Row.lease (κs .1 .1 .1 .1 .1 .0) (qs .1 .1 .1 .1 .1 .0)) (List._∷_ Row.off (List._∷_ (Row.lease (κs .1 .1 .1 .1 .1 .1 .1 .0) (qs .1 .1 .1 .1 .1 .1 .1 .0)) (List._∷_ (Row.lease (κs .1 .1 .1 .1 .1 .1 .1 .1 .0) (qs .1 .1 .1 .1 .1 .1 .1 .1 .0)) (List._∷_ Row.off (List._∷_ Row.off (List._∷_ Row.off (List._∷_ Row.off (List._∷_ Row.off (List._∷_ Row.off (List._∷_ Row.off (List._∷_ Row.alive (List._∷_ Row.off List.[])))))))))))))))));
         }
 
         abbrev G73 : Row.Cx
         G73 = record {
           locals = List._++_ g52 (List._++_ t46 t54);
-          slots = List._∷_ (Row.lease (κs .0) (qs .0)) (List._∷_ (Row.lease (κs .1 .0) (qs .1 .0)) (List._∷_ (Row.lease (κs .1 .1 .0) (qs .1 .1 .0)) (List._∷_ (Row.lease (κs .1 .1 .1 .0) (qs .1 .1 .1 .0)) (List._∷_ (Row.lease (κs .1 .1 .1 .1 .0) (qs .1 .1 .1 .1 .0)) (List._∷_ Row.off (List._∷_ (Row.lease (κs .1 .1 .1 .1 .1 .1 .0) (qs .1 .1 .1 .1 .1 .1 .0)) (List._∷_ (Row.lease (κs .1 .1 .1 .1 .1 .1 .1 .0) (qs .1 .1 .1 .1 .1 .1 .1 .0)) (List._∷_ (Row.lease (κs .1 .1 .1 .1 .1 .1 .1 .1 .0) (qs .1 .1 .1 .1 .1 .1 .1 .1 .0)) (List._∷_ Row.off (List._∷_ Row.off (List._∷_ Row.off (List._∷_ Row.off (List._∷_ Row.off (List._∷_ Row.off (List._∷_ Row.off (List._∷_ Row.alive (List._∷_ Row.off List.[])))))))))))))))));
+          slots = List._∷_ (Row.lease (κs .0) (qs .0)) (List._∷_ (Row.lease (κs .1 .0) (qs .1 .0)) (List._∷_ (Row.lease (κs .1 .1 .0) (qs .1 .1 .0)) (List._∷_ (Row.lease (κs .1 .1 .1 .0) (qs .1 .1 .1 .0)) (List._∷_ (Row.lease (κs .1 .1 .1 .1 .0) (qs .1 .1 .1 .1 .0)) (List._∷_ (Row.lease (κs .1 .1 .1 .1 .1 .0) (qs .1 .1 .1 .1 .1 .0)) (List._∷_ Row.off (List._∷_ (Row.lease (κs .1 .1 .1 .1 .1 .1 .1 .0) (qs .1 .1 .1 .1 .1 .1 .1 .0)) (List._∷_ (Row.lease (κs .1 .1 .1 .1 .1 .1 .1 .1 .0) (qs .1 .1 .1 .1 .1 .1 .1 .1 .0)) (List._∷_ Row.off (List._∷_ Row.off (List._∷_ Row.off (List._∷_ Row.off (List._∷_ Row.off (List._∷_ Row.off (List._∷_ Row.off (List._∷_ Row.alive (List._∷_ Row.off List.[])))))))))))))))));
         }
 
         abbrev G74 : Row.Cx
         G74 = record {
           locals = List._++_ g52 (List._++_ t46 t55);
-          slots = List._∷_ (Row.lease (κs .0) (qs .0)) (List._∷_ (Row.lease (κs .1 .0) (qs .1 .0)) (List._∷_ (Row.lease (κs .1 .1 .0) (qs .1 .1 .0)) (List._∷_ (Row.lease (κs .1 .1 .1 .0) (qs .1 .1 .1 .0)) (List._∷_ (Row.lease (κs .1 .1 .1 .1 .0) (qs .1 .1 .1 .1 .0)) (List._∷_ Row.off (List._∷_ (Row.lease (κs .1 .1 .1 .1 .1 .1 .0) (qs .1 .1 .1 .1 .1 .1 .0)) (List._∷_ (Row.lease (κs .1 .1 .1 .1 .1 .1 .1 .0) (qs .1 .1 .1 .1 .1 .1 .1 .0)) (List._∷_ (Row.lease (κs .1 .1 .1 .1 .1 .1 .1 .1 .0) (qs .1 .1 .1 .1 .1 .1 .1 .1 .0)) (List._∷_ Row.off (List._∷_ Row.off (List._∷_ Row.off (List._∷_ Row.off (List._∷_ Row.off (List._∷_ Row.off (List._∷_ Row.off (List._∷_ Row.alive (List._∷_ Row.off List.[])))))))))))))))));
+          slots = List._∷_ (Row.lease (κs .0) (qs .0)) (List._∷_ (Row.lease (κs .1 .0) (qs .1 .0)) (List._∷_ (Row.lease (κs .1 .1 .0) (qs .1 .1 .0)) (List._∷_ (Row.lease (κs .1 .1 .1 .0) (qs .1 .1 .1 .0)) (List._∷_ (Row.lease (κs .1 .1 .1 .1 .0) (qs .1 .1 .1 .1 .0)) (List._∷_ (Row.lease (κs .1 .1 .1 .1 .1 .0) (qs .1 .1 .1 .1 .1 .0)) (List._∷_ Row.off (List._∷_ (Row.lease (κs .1 .1 .1 .1 .1 .1 .1 .0) (qs .1 .1 .1 .1 .1 .1 .1 .0)) (List._∷_ (Row.lease (κs .1 .1 .1 .1 .1 .1 .1 .1 .0) (qs .1 .1 .1 .1 .1 .1 .1 .1 .0)) (List._∷_ Row.off (List._∷_ Row.off (List._∷_ Row.off (List._∷_ Row.off (List._∷_ Row.off (List._∷_ Row.off (List._∷_ Row.off (List._∷_ Row.alive (List._∷_ Row.off List.[])))))))))))))))));
         }
 
         abbrev G75 : Row.Cx
         G75 = record {
           locals = List._++_ g52 (List._++_ t46 t56);
-          slots = List._∷_ (Row.lease (κs .0) (qs .0)) (List._∷_ (Row.lease (κs .1 .0) (qs .1 .0)) (List._∷_ (Row.lease (κs .1 .1 .0) (qs .1 .1 .0)) (List._∷_ (Row.lease (κs .1 .1 .1 .0) (qs .1 .1 .1 .0)) (List._∷_ (Row.lease (κs .1 .1 .1 .1 .0) (qs .1 .1 .1 .1 .0)) (List._∷_ Row.off (List._∷_ (Row.lease (κs .1 .1 .1 .1 .1 .1 .0) (qs .1 .1 .1 .1 .1 .1 .0)) (List._∷_ (Row.lease (κs .1 .1 .1 .1 .1 .1 .1 .0) (qs .1 .1 .1 .1 .1 .1 .1 .0)) (List._∷_ (Row.lease (κs .1 .1 .1 .1 .1 .1 .1 .1 .0) (qs .1 .1 .1 .1 .1 .1 .1 .1 .0)) (List._∷_ Row.off (List._∷_ Row.off (List._∷_ Row.off (List._∷_ Row.off (List._∷_ Row.off (List._∷_ Row.off (List._∷_ Row.off (List._∷_ Row.alive (List._∷_ Row.off List.[])))))))))))))))));
+          slots = List._∷_ (Row.lease (κs .0) (qs .0)) (List._∷_ (Row.lease (κs .1 .0) (qs .1 .0)) (List._∷_ (Row.lease (κs .1 .1 .0) (qs .1 .1 .0)) (List._∷_ (Row.lease (κs .1 .1 .1 .0) (qs .1 .1 .1 .0)) (List._∷_ (Row.lease (κs .1 .1 .1 .1 .0) (qs .1 .1 .1 .1 .0)) (List._∷_ (Row.lease (κs .1 .1 .1 .1 .1 .0) (qs .1 .1 .1 .1 .1 .0)) (List._∷_ Row.off (List._∷_ (Row.lease (κs .1 .1 .1 .1 .1 .1 .1 .0) (qs .1 .1 .1 .1 .1 .1 .1 .0)) (List._∷_ (Row.lease (κs .1 .1 .1 .1 .1 .1 .1 .1 .0) (qs .1 .1 .1 .1 .1 .1 .1 .1 .0)) (List._∷_ Row.off (List._∷_ Row.off (List._∷_ Row.off (List._∷_ Row.off (List._∷_ Row.off (List._∷_ Row.off (List._∷_ Row.off (List._∷_ Row.alive (List._∷_ Row.off List.[])))))))))))))))));
         }
 
         abbrev G76 : Row.Cx
         G76 = record {
           locals = List._++_ g52 (List._++_ t46 t56);
-          slots = List._∷_ (Row.lease (κs .0) (qs .0)) (List._∷_ (Row.lease (κs .1 .0) (qs .1 .0)) (List._∷_ (Row.lease (κs .1 .1 .0) (qs .1 .1 .0)) (List._∷_ (Row.lease (κs .1 .1 .1 .0) (qs .1 .1 .1 .0)) (List._∷_ (Row.lease (κs .1 .1 .1 .1 .0) (qs .1 .1 .1 .1 .0)) (List._∷_ Row.off (List._∷_ (Row.lease (κs .1 .1 .1 .1 .1 .1 .0) (qs .1 .1 .1 .1 .1 .1 .0)) (List._∷_ (Row.lease (κs .1 .1 .1 .1 .1 .1 .1 .0) (qs .1 .1 .1 .1 .1 .1 .1 .0)) (List._∷_ (Row.lease (κs .1 .1 .1 .1 .1 .1 .1 .1 .0) (qs .1 .1 .1 .1 .1 .1 .1 .1 .0)) (List._∷_ Row.off (List._∷_ Row.off (List._∷_ Row.off (List._∷_ Row.off (List._∷_ Row.off (List._∷_ Row.off (List._∷_ Row.off (List._∷_ Row.dead (List._∷_ Row.off List.[])))))))))))))))));
+          slots = List._∷_ (Row.lease (κs .0) (qs .0)) (List._∷_ (Row.lease (κs .1 .0) (qs .1 .0)) (List._∷_ (Row.lease (κs .1 .1 .0) (qs .1 .1 .0)) (List._∷_ (Row.lease (κs .1 .1 .1 .0) (qs .1 .1 .1 .0)) (List._∷_ (Row.lease (κs .1 .1 .1 .1 .0) (qs .1 .1 .1 .1 .0)) (List._∷_ (Row.lease (κs .1 .1 .1 .1 .1 .0) (qs .1 .1 .1 .1 .1 .0)) (List._∷_ Row.off (List._∷_ (Row.lease (κs .1 .1 .1 .1 .1 .1 .1 .0) (qs .1 .1 .1 .1 .1 .1 .1 .0)) (List._∷_ (Row.lease (κs .1 .1 .1 .1 .1 .1 .1 .1 .0) (qs .1 .1 .1 .1 .1 .1 .1 .1 .0)) (List._∷_ Row.off (List._∷_ Row.off (List._∷_ Row.off (List._∷_ Row.off (List._∷_ Row.off (List._∷_ Row.off (List._∷_ Row.off (List._∷_ Row.dead (List._∷_ Row.off List.[])))))))))))))))));
         }
 
         abbrev G77 : Row.Cx
@@ -4011,107 +4191,95 @@ module _ (claims· : Claims) where
         abbrev G80 : Row.Cx
         G80 = record {
           locals = List._++_ g57 (List._++_ t46 t58);
-          slots = List._∷_ (Row.lease (κs .0) (qs .0)) (List._∷_ (Row.lease (κs .1 .0) (qs .1 .0)) (List._∷_ (Row.lease (κs .1 .1 .0) (qs .1 .1 .0)) (List._∷_ (Row.lease (κs .1 .1 .1 .0) (qs .1 .1 .1 .0)) (List._∷_ (Row.lease (κs .1 .1 .1 .1 .0) (qs .1 .1 .1 .1 .0)) (List._∷_ (Row.lease (κs .1 .1 .1 .1 .1 .0) (qs .1 .1 .1 .1 .1 .0)) (List._∷_ Row.off (List._∷_ (Row.lease (κs .1 .1 .1 .1 .1 .1 .1 .0) (qs .1 .1 .1 .1 .1 .1 .1 .0)) (List._∷_ (Row.lease (κs .1 .1 .1 .1 .1 .1 .1 .1 .0) (qs .1 .1 .1 .1 .1 .1 .1 .1 .0)) (List._∷_ Row.off (List._∷_ Row.off (List._∷_ Row.off (List._∷_ Row.off (List._∷_ Row.off (List._∷_ Row.off (List._∷_ Row.off (List._∷_ Row.off (List._∷_ Row.alive List.[])))))))))))))))));
+          slots = List._∷_ (Row.lease (κs .0) (qs .0)) (List._∷_ (Row.lease (κs .1 .0) (qs .1 .0)) (List._∷_ (Row.lease (κs .1 .1 .0) (qs .1 .1 .0)) (List._∷_ (Row.lease (κs .1 .1 .1 .0) (qs .1 .1 .1 .0)) (List._∷_ (Row.lease (κs .1 .1 .1 .1 .0) (qs .1 .1 .1 .1 .0)) (List._∷_ Row.off (List._∷_ (Row.lease (κs .1 .1 .1 .1 .1 .1 .0) (qs .1 .1 .1 .1 .1 .1 .0)) (List._∷_ (Row.lease (κs .1 .1 .1 .1 .1 .1 .1 .0) (qs .1 .1 .1 .1 .1 .1 .1 .0)) (List._∷_ (Row.lease (κs .1 .1 .1 .1 .1 .1 .1 .1 .0) (qs .1 .1 .1 .1 .1 .1 .1 .1 .0)) (List._∷_ Row.off (List._∷_ Row.off (List._∷_ Row.off (List._∷_ Row.off (List._∷_ Row.off (List._∷_ Row.off (List._∷_ Row.off (List._∷_ Row.off (List._∷_ Row.alive List.[])))))))))))))))));
         }
 
         abbrev G81 : Row.Cx
         G81 = record {
           locals = List._++_ g57 (List._++_ t46 t59);
-          slots = List._∷_ (Row.lease (κs .0) (qs .0)) (List._∷_ (Row.lease (κs .1 .0) (qs .1 .0)) (List._∷_ (Row.lease (κs .1 .1 .0) (qs .1 .1 .0)) (List._∷_ (Row.lease (κs .1 .1 .1 .0) (qs .1 .1 .1 .0)) (List._∷_ (Row.lease (κs .1 .1 .1 .1 .0) (qs .1 .1 .1 .1 .0)) (List._∷_ (Row.lease (κs .1 .1 .1 .1 .1 .0) (qs .1 .1 .1 .1 .1 .0)) (List._∷_ Row.off (List._∷_ (Row.lease (κs .1 .1 .1 .1 .1 .1 .1 .0) (qs .1 .1 .1 .1 .1 .1 .1 .0)) (List._∷_ (Row.lease (κs .1 .1 .1 .1 .1 .1 .1 .1 .0) (qs .1 .1 .1 .1 .1 .1 .1 .1 .0)) (List._∷_ Row.off (List._∷_ Row.off (List._∷_ Row.off (List._∷_ Row.off (List._∷_ Row.off (List._∷_ Row.off (List._∷_ Row.off (List._∷_ Row.off (List._∷_ Row.alive List.[])))))))))))))))));
+          slots = List._∷_ (Row.lease (κs .0) (qs .0)) (List._∷_ (Row.lease (κs .1 .0) (qs .1 .0)) (List._∷_ (Row.lease (κs .1 .1 .0) (qs .1 .1 .0)) (List._∷_ (Row.lease (κs .1 .1 .1 .0) (qs .1 .1 .1 .0)) (List._∷_ (Row.lease (κs .1 .1 .1 .1 .0) (qs .1 .1 .1 .1 .0)) (List._∷_ Row.off (List._∷_ (Row.lease (κs .1 .1 .1 .1 .1 .1 .0) (qs .1 .1 .1 .1 .1 .1 .0)) (List._∷_ (Row.lease (κs .1 .1 .1 .1 .1 .1 .1 .0) (qs .1 .1 .1 .1 .1 .1 .1 .0)) (List._∷_ (Row.lease (κs .1 .1 .1 .1 .1 .1 .1 .1 .0) (qs .1 .1 .1 .1 .1 .1 .1 .1 .0)) (List._∷_ Row.off (List._∷_ Row.off (List._∷_ Row.off (List._∷_ Row.off (List._∷_ Row.off (List._∷_ Row.off (List._∷_ Row.off (List._∷_ Row.off (List._∷_ Row.alive List.[])))))))))))))))));
         }
 
         abbrev G82 : Row.Cx
         G82 = record {
-          locals = List._++_ g57 (List._++_ t46 t60);
-          slots = List._∷_ (Row.lease (κs .0) (qs .0)) (List._∷_ (Row.lease (κs .1 .0) (qs .1 .0)) (List._∷_ (Row.lease (κs .1 .1 .0) (qs .1 .1 .0)) (List._∷_ (Row.lease (κs .1 .1 .1 .0) (qs .1 .1 .1 .0)) (List._∷_ (Row.lease (κs .1 .1 .1 .1 .0) (qs .1 .1 .1 .1 .0)) (List._∷_ (Row.lease (κs .1 .1 .1 .1 .1 .0) (qs .1 .1 .1 .1 .1 .0)) (List._∷_ Row.off (List._∷_ (Row.lease (κs .1 .1 .1 .1 .1 .1 .1 .0) (qs .1 .1 .1 .1 .1 .1 .1 .0)) (List._∷_ (Row.lease (κs .1 .1 .1 .1 .1 .1 .1 .1 .0) (qs .1 .1 .1 .1 .1 .1 .1 .1 .0)) (List._∷_ Row.off (List._∷_ Row.off (List._∷_ Row.off (List._∷_ Row.off (List._∷_ Row.off (List._∷_ Row.off (List._∷_ Row.off (List._∷_ Row.off (List._∷_ Row.alive List.[])))))))))))))))));
+          locals = List._++_ g60 (List._++_ t46 t61);
+          slots = List._∷_ (Row.lease (κs .0) (qs .0)) (List._∷_ (Row.lease (κs .1 .0) (qs .1 .0)) (List._∷_ (Row.lease (κs .1 .1 .0) (qs .1 .1 .0)) (List._∷_ (Row.lease (κs .1 .1 .1 .0) (qs .1 .1 .1 .0)) (List._∷_ (Row.lease (κs .1 .1 .1 .1 .0) (qs .1 .1 .1 .1 .0)) (List._∷_ Row.off (List._∷_ (Row.lease (κs .1 .1 .1 .1 .1 .1 .0) (qs .1 .1 .1 .1 .1 .1 .0)) (List._∷_ (Row.lease (κs .1 .1 .1 .1 .1 .1 .1 .0) (qs .1 .1 .1 .1 .1 .1 .1 .0)) (List._∷_ (Row.lease (κs .1 .1 .1 .1 .1 .1 .1 .1 .0) (qs .1 .1 .1 .1 .1 .1 .1 .1 .0)) (List._∷_ Row.off (List._∷_ Row.off (List._∷_ Row.off (List._∷_ Row.off (List._∷_ Row.off (List._∷_ Row.off (List._∷_ Row.off (List._∷_ Row.off (List._∷_ Row.alive List.[])))))))))))))))));
         }
 
         abbrev G83 : Row.Cx
         G83 = record {
-          locals = List._++_ g57 (List._++_ t46 t61);
-          slots = List._∷_ (Row.lease (κs .0) (qs .0)) (List._∷_ (Row.lease (κs .1 .0) (qs .1 .0)) (List._∷_ (Row.lease (κs .1 .1 .0) (qs .1 .1 .0)) (List._∷_ (Row.lease (κs .1 .1 .1 .0) (qs .1 .1 .1 .0)) (List._∷_ (Row.lease (κs .1 .1 .1 .1 .0) (qs .1 .1 .1 .1 .0)) (List._∷_ (Row.lease (κs .1 .1 .1 .1 .1 .0) (qs .1 .1 .1 .1 .1 .0)) (List._∷_ Row.off (List._∷_ (Row.lease (κs .1 .1 .1 .1 .1 .1 .1 .0) (qs .1 .1 .1 .1 .1 .1 .1 .0)) (List._∷_ (Row.lease (κs .1 .1 .1 .1 .1 .1 .1 .1 .0) (qs .1 .1 .1 .1 .1 .1 .1 .1 .0)) (List._∷_ Row.off (List._∷_ Row.off (List._∷_ Row.off (List._∷_ Row.off (List._∷_ Row.off (List._∷_ Row.off (List._∷_ Row.off (List._∷_ Row.off (List._∷_ Row.alive List.[])))))))))))))))));
+          locals = List._++_ g62 (List._++_ t46 t61);
+          slots = List._∷_ (Row.lease (κs .0) (qs .0)) (List._∷_ (Row.lease (κs .1 .0) (qs .1 .0)) (List._∷_ (Row.lease (κs .1 .1 .0) (qs .1 .1 .0)) (List._∷_ (Row.lease (κs .1 .1 .1 .0) (qs .1 .1 .1 .0)) (List._∷_ (Row.lease (κs .1 .1 .1 .1 .0) (qs .1 .1 .1 .1 .0)) (List._∷_ Row.off (List._∷_ (Row.lease (κs .1 .1 .1 .1 .1 .1 .0) (qs .1 .1 .1 .1 .1 .1 .0)) (List._∷_ (Row.lease (κs .1 .1 .1 .1 .1 .1 .1 .0) (qs .1 .1 .1 .1 .1 .1 .1 .0)) (List._∷_ (Row.lease (κs .1 .1 .1 .1 .1 .1 .1 .1 .0) (qs .1 .1 .1 .1 .1 .1 .1 .1 .0)) (List._∷_ Row.off (List._∷_ Row.off (List._∷_ Row.off (List._∷_ Row.off (List._∷_ Row.off (List._∷_ Row.off (List._∷_ Row.off (List._∷_ Row.off (List._∷_ Row.alive List.[])))))))))))))))));
         }
 
         abbrev G84 : Row.Cx
         G84 = record {
-          locals = List._++_ g57 (List._++_ t46 t61);
-          slots = List._∷_ (Row.lease (κs .0) (qs .0)) (List._∷_ (Row.lease (κs .1 .0) (qs .1 .0)) (List._∷_ (Row.lease (κs .1 .1 .0) (qs .1 .1 .0)) (List._∷_ (Row.lease (κs .1 .1 .1 .0) (qs .1 .1 .1 .0)) (List._∷_ (Row.lease (κs .1 .1 .1 .1 .0) (qs .1 .1 .1 .1 .0)) (List._∷_ (Row.lease (κs .1 .1 .1 .1 .1 .0) (qs .1 .1 .1 .1 .1 .0)) (List._∷_ Row.off (List._∷_ (Row.lease (κs .1 .1 .1 .1 .1 .1 .1 .0) (qs .1 .1 .1 .1 .1 .1 .1 .0)) (List._∷_ (Row.lease (κs .1 .1 .1 .1 .1 .1 .1 .1 .0) (qs .1 .1 .1 .1 .1 .1 .1 .1 .0)) (List._∷_ Row.off (List._∷_ Row.off (List._∷_ Row.off (List._∷_ Row.off (List._∷_ Row.off (List._∷_ Row.off (List._∷_ Row.off (List._∷_ Row.off (List._∷_ Row.dead List.[])))))))))))))))));
+          locals = List._++_ g63 (List._++_ t46 t61);
+          slots = List._∷_ (Row.lease (κs .0) (qs .0)) (List._∷_ (Row.lease (κs .1 .0) (qs .1 .0)) (List._∷_ (Row.lease (κs .1 .1 .0) (qs .1 .1 .0)) (List._∷_ (Row.lease (κs .1 .1 .1 .0) (qs .1 .1 .1 .0)) (List._∷_ (Row.lease (κs .1 .1 .1 .1 .0) (qs .1 .1 .1 .1 .0)) (List._∷_ Row.off (List._∷_ (Row.lease (κs .1 .1 .1 .1 .1 .1 .0) (qs .1 .1 .1 .1 .1 .1 .0)) (List._∷_ (Row.lease (κs .1 .1 .1 .1 .1 .1 .1 .0) (qs .1 .1 .1 .1 .1 .1 .1 .0)) (List._∷_ (Row.lease (κs .1 .1 .1 .1 .1 .1 .1 .1 .0) (qs .1 .1 .1 .1 .1 .1 .1 .1 .0)) (List._∷_ Row.off (List._∷_ Row.off (List._∷_ Row.off (List._∷_ Row.off (List._∷_ Row.off (List._∷_ Row.off (List._∷_ Row.off (List._∷_ Row.off (List._∷_ Row.alive List.[])))))))))))))))));
         }
 
         abbrev G85 : Row.Cx
         G85 = record {
-          locals = List._++_ t51 (List._++_ t46 t2);
-          slots = List._∷_ (Row.lease (κs .0) (qs .0)) (List._∷_ (Row.lease (κs .1 .0) (qs .1 .0)) (List._∷_ (Row.lease (κs .1 .1 .0) (qs .1 .1 .0)) (List._∷_ (Row.lease (κs .1 .1 .1 .0) (qs .1 .1 .1 .0)) (List._∷_ (Row.lease (κs .1 .1 .1 .1 .0) (qs .1 .1 .1 .1 .0)) (List._∷_ (Row.lease (κs .1 .1 .1 .1 .1 .0) (qs .1 .1 .1 .1 .1 .0)) (List._∷_ (Row.lease (κs .1 .1 .1 .1 .1 .1 .0) (qs .1 .1 .1 .1 .1 .1 .0)) (List._∷_ (Row.lease (κs .1 .1 .1 .1 .1 .1 .1 .0) (qs .1 .1 .1 .1 .1 .1 .1 .0)) (List._∷_ (Row.lease (κs .1 .1 .1 .1 .1 .1 .1 .1 .0) (qs .1 .1 .1 .1 .1 .1 .1 .1 .0)) (List._∷_ Row.off (List._∷_ Row.off (List._∷_ Row.off (List._∷_ Row.off (List._∷_ Row.off (List._∷_ Row.off (List._∷_ Row.off (List._∷_ Row.off (List._∷_ Row.dead List.[])))))))))))))))));
+          locals = List._++_ g64 (List._++_ t46 t61);
+          slots = List._∷_ (Row.lease (κs .0) (qs .0)) (List._∷_ (Row.lease (κs .1 .0) (qs .1 .0)) (List._∷_ (Row.lease (κs .1 .1 .0) (qs .1 .1 .0)) (List._∷_ (Row.lease (κs .1 .1 .1 .0) (qs .1 .1 .1 .0)) (List._∷_ (Row.lease (κs .1 .1 .1 .1 .0) (qs .1 .1 .1 .1 .0)) (List._∷_ Row.off (List._∷_ (Row.lease (κs .1 .1 .1 .1 .1 .1 .0) (qs .1 .1 .1 .1 .1 .1 .0)) (List._∷_ (Row.lease (κs .1 .1 .1 .1 .1 .1 .1 .0) (qs .1 .1 .1 .1 .1 .1 .1 .0)) (List._∷_ (Row.lease (κs .1 .1 .1 .1 .1 .1 .1 .1 .0) (qs .1 .1 .1 .1 .1 .1 .1 .1 .0)) (List._∷_ Row.off (List._∷_ Row.off (List._∷_ Row.off (List._∷_ Row.off (List._∷_ Row.off (List._∷_ Row.off (List._∷_ Row.off (List._∷_ Row.off (List._∷_ Row.alive List.[])))))))))))))))));
         }
 
         abbrev G86 : Row.Cx
         G86 = record {
-          locals = List._++_ t51 (List._++_ t46 t2);
-          slots = List._∷_ (Row.lease (κs .0) (qs .0)) (List._∷_ (Row.lease (κs .1 .0) (qs .1 .0)) (List._∷_ (Row.lease (κs .1 .1 .0) (qs .1 .1 .0)) (List._∷_ (Row.lease (κs .1 .1 .1 .0) (qs .1 .1 .1 .0)) (List._∷_ (Row.lease (κs .1 .1 .1 .1 .0) (qs .1 .1 .1 .1 .0)) (List._∷_ (Row.lease (κs .1 .1 .1 .1 .1 .0) (qs .1 .1 .1 .1 .1 .0)) (List._∷_ (Row.lease (κs .1 .1 .1 .1 .1 .1 .0) (qs .1 .1 .1 .1 .1 .1 .0)) (List._∷_ (Row.lease (κs .1 .1 .1 .1 .1 .1 .1 .0) (qs .1 .1 .1 .1 .1 .1 .1 .0)) (List._∷_ (Row.lease (κs .1 .1 .1 .1 .1 .1 .1 .1 .0) (qs .1 .1 .1 .1 .1 .1 .1 .1 .0)) (List._∷_ Row.off (List._∷_ Row.off (List._∷_ Row.off (List._∷_ Row.off (List._∷_ Row.off (List._∷_ Row.off (List._∷_ Row.off (List._∷_ Row.off (List._∷_ Row.off List.[])))))))))))))))));
+          locals = List._++_ g65 (List._++_ t46 t61);
+          slots = List._∷_ (Row.lease (κs .0) (qs .0)) (List._∷_ (Row.lease (κs .1 .0) (qs .1 .0)) (List._∷_ (Row.lease (κs .1 .1 .0) (qs .1 .1 .0)) (List._∷_ (Row.lease (κs .1 .1 .1 .0) (qs .1 .1 .1 .0)) (List._∷_ (Row.lease (κs .1 .1 .1 .1 .0) (qs .1 .1 .1 .1 .0)) (List._∷_ Row.off (List._∷_ (Row.lease (κs .1 .1 .1 .1 .1 .1 .0) (qs .1 .1 .1 .1 .1 .1 .0)) (List._∷_ (Row.lease (κs .1 .1 .1 .1 .1 .1 .1 .0) (qs .1 .1 .1 .1 .1 .1 .1 .0)) (List._∷_ (Row.lease (κs .1 .1 .1 .1 .1 .1 .1 .1 .0) (qs .1 .1 .1 .1 .1 .1 .1 .1 .0)) (List._∷_ Row.off (List._∷_ Row.off (List._∷_ Row.off (List._∷_ Row.off (List._∷_ Row.off (List._∷_ Row.off (List._∷_ Row.off (List._∷_ Row.off (List._∷_ Row.alive List.[])))))))))))))))));
         }
 
         abbrev G87 : Row.Cx
         G87 = record {
-          locals = List._++_ t62 (List._++_ t46 t2);
-          slots = List._∷_ (Row.lease (κs .0) (qs .0)) (List._∷_ (Row.lease (κs .1 .0) (qs .1 .0)) (List._∷_ (Row.lease (κs .1 .1 .0) (qs .1 .1 .0)) (List._∷_ (Row.lease (κs .1 .1 .1 .0) (qs .1 .1 .1 .0)) (List._∷_ (Row.lease (κs .1 .1 .1 .1 .0) (qs .1 .1 .1 .1 .0)) (List._∷_ (Row.lease (κs .1 .1 .1 .1 .1 .0) (qs .1 .1 .1 .1 .1 .0)) (List._∷_ (Row.lease (κs .1 .1 .1 .1 .1 .1 .0) (qs .1 .1 .1 .1 .1 .1 .0)) (List._∷_ (Row.lease (κs .1 .1 .1 .1 .1 .1 .1 .0) (qs .1 .1 .1 .1 .1 .1 .1 .0)) (List._∷_ (Row.lease (κs .1 .1 .1 .1 .1 .1 .1 .1 .0) (qs .1 .1 .1 .1 .1 .1 .1 .1 .0)) (List._∷_ Row.off (List._∷_ Row.off (List._∷_ Row.off (List._∷_ Row.off (List._∷_ Row.off (List._∷_ Row.off (List._∷_ Row.off (List._∷_ Row.off (List._∷_ Row.off List.[])))))))))))))))));
+          locals = List._++_ g65 (List._++_ t66 t61);
+          slots = List._∷_ (Row.lease (κs .0) (qs .0)) (List._∷_ (Row.lease (κs .1 .0) (qs .1 .0)) (List._∷_ (Row.lease (κs .1 .1 .0) (qs .1 .1 .0)) (List._∷_ (Row.lease (κs .1 .1 .1 .0) (qs .1 .1 .1 .0)) (List._∷_ (Row.lease (κs .1 .1 .1 .1 .0) (qs .1 .1 .1 .1 .0)) (List._∷_ Row.off (List._∷_ (Row.lease (κs .1 .1 .1 .1 .1 .1 .0) (qs .1 .1 .1 .1 .1 .1 .0)) (List._∷_ (Row.lease (κs .1 .1 .1 .1 .1 .1 .1 .0) (qs .1 .1 .1 .1 .1 .1 .1 .0)) (List._∷_ (Row.lease (κs .1 .1 .1 .1 .1 .1 .1 .1 .0) (qs .1 .1 .1 .1 .1 .1 .1 .1 .0)) (List._∷_ Row.off (List._∷_ Row.off (List._∷_ Row.off (List._∷_ Row.off (List._∷_ Row.off (List._∷_ Row.off (List._∷_ Row.off (List._∷_ Row.off (List._∷_ Row.alive List.[])))))))))))))))));
         }
 
         abbrev G88 : Row.Cx
         G88 = record {
-          locals = List._++_ t63 (List._++_ t46 t2);
-          slots = List._∷_ (Row.lease (κs .0) (qs .0)) (List._∷_ (Row.lease (κs .1 .0) (qs .1 .0)) (List._∷_ (Row.lease (κs .1 .1 .0) (qs .1 .1 .0)) (List._∷_ (Row.lease (κs .1 .1 .1 .0) (qs .1 .1 .1 .0)) (List._∷_ (Row.lease (κs .1 .1 .1 .1 .0) (qs .1 .1 .1 .1 .0)) (List._∷_ (Row.lease (κs .1 .1 .1 .1 .1 .0) (qs .1 .1 .1 .1 .1 .0)) (List._∷_ (Row.lease (κs .1 .1 .1 .1 .1 .1 .0) (qs .1 .1 .1 .1 .1 .1 .0)) (List._∷_ (Row.lease (κs .1 .1 .1 .1 .1 .1 .1 .0) (qs .1 .1 .1 .1 .1 .1 .1 .0)) (List._∷_ (Row.lease (κs .1 .1 .1 .1 .1 .1 .1 .1 .0) (qs .1 .1 .1 .1 .1 .1 .1 .1 .0)) (List._∷_ Row.off (List._∷_ Row.off (List._∷_ Row.off (List._∷_ Row.off (List._∷_ Row.off (List._∷_ Row.off (List._∷_ Row.off (List._∷_ Row.off (List._∷_ Row.off List.[])))))))))))))))));
+          locals = List._++_ g65 (List._++_ t67 t61);
+          slots = List._∷_ (Row.lease (κs .0) (qs .0)) (List._∷_ (Row.lease (κs .1 .0) (qs .1 .0)) (List._∷_ (Row.lease (κs .1 .1 .0) (qs .1 .1 .0)) (List._∷_ (Row.lease (κs .1 .1 .1 .0) (qs .1 .1 .1 .0)) (List._∷_ (Row.lease (κs .1 .1 .1 .1 .0) (qs .1 .1 .1 .1 .0)) (List._∷_ Row.off (List._∷_ (Row.lease (κs .1 .1 .1 .1 .1 .1 .0) (qs .1 .1 .1 .1 .1 .1 .0)) (List._∷_ (Row.lease (κs .1 .1 .1 .1 .1 .1 .1 .0) (qs .1 .1 .1 .1 .1 .1 .1 .0)) (List._∷_ (Row.lease (κs .1 .1 .1 .1 .1 .1 .1 .1 .0) (qs .1 .1 .1 .1 .1 .1 .1 .1 .0)) (List._∷_ Row.off (List._∷_ Row.off (List._∷_ Row.off (List._∷_ Row.off (List._∷_ Row.off (List._∷_ Row.off (List._∷_ Row.off (List._∷_ Row.off (List._∷_ Row.alive List.[])))))))))))))))));
         }
 
         abbrev G89 : Row.Cx
         G89 = record {
-          locals = List._++_ t64 (List._++_ t46 t2);
-          slots = List._∷_ (Row.lease (κs .0) (qs .0)) (List._∷_ (Row.lease (κs .1 .0) (qs .1 .0)) (List._∷_ (Row.lease (κs .1 .1 .0) (qs .1 .1 .0)) (List._∷_ (Row.lease (κs .1 .1 .1 .0) (qs .1 .1 .1 .0)) (List._∷_ (Row.lease (κs .1 .1 .1 .1 .0) (qs .1 .1 .1 .1 .0)) (List._∷_ (Row.lease (κs .1 .1 .1 .1 .1 .0) (qs .1 .1 .1 .1 .1 .0)) (List._∷_ (Row.lease (κs .1 .1 .1 .1 .1 .1 .0) (qs .1 .1 .1 .1 .1 .1 .0)) (List._∷_ (Row.lease (κs .1 .1 .1 .1 .1 .1 .1 .0) (qs .1 .1 .1 .1 .1 .1 .1 .0)) (List._∷_ (Row.lease (κs .1 .1 .1 .1 .1 .1 .1 .1 .0) (qs .1 .1 .1 .1 .1 .1 .1 .1 .0)) (List._∷_ Row.off (List._∷_ Row.off (List._∷_ Row.off (List._∷_ Row.off (List._∷_ Row.off (List._∷_ Row.off (List._∷_ Row.off (List._∷_ Row.off (List._∷_ Row.off List.[])))))))))))))))));
+          locals = List._++_ g65 (List._++_ t68 t61);
+          slots = List._∷_ (Row.lease (κs .0) (qs .0)) (List._∷_ (Row.lease (κs .1 .0) (qs .1 .0)) (List._∷_ (Row.lease (κs .1 .1 .0) (qs .1 .1 .0)) (List._∷_ (Row.lease (κs .1 .1 .1 .0) (qs .1 .1 .1 .0)) (List._∷_ (Row.lease (κs .1 .1 .1 .1 .0) (qs .1 .1 .1 .1 .0)) (List._∷_ Row.off (List._∷_ (Row.lease (κs .1 .1 .1 .1 .1 .1 .0) (qs .1 .1 .1 .1 .1 .1 .0)) (List._∷_ (Row.lease (κs .1 .1 .1 .1 .1 .1 .1 .0) (qs .1 .1 .1 .1 .1 .1 .1 .0)) (List._∷_ (Row.lease (κs .1 .1 .1 .1 .1 .1 .1 .1 .0) (qs .1 .1 .1 .1 .1 .1 .1 .1 .0)) (List._∷_ Row.off (List._∷_ Row.off (List._∷_ Row.off (List._∷_ Row.off (List._∷_ Row.off (List._∷_ Row.off (List._∷_ Row.off (List._∷_ Row.off (List._∷_ Row.alive List.[])))))))))))))))));
         }
 
         abbrev G90 : Row.Cx
         G90 = record {
-          locals = List._++_ t65 (List._++_ t46 t2);
-          slots = List._∷_ (Row.lease (κs .0) (qs .0)) (List._∷_ (Row.lease (κs .1 .0) (qs .1 .0)) (List._∷_ (Row.lease (κs .1 .1 .0) (qs .1 .1 .0)) (List._∷_ (Row.lease (κs .1 .1 .1 .0) (qs .1 .1 .1 .0)) (List._∷_ (Row.lease (κs .1 .1 .1 .1 .0) (qs .1 .1 .1 .1 .0)) (List._∷_ (Row.lease (κs .1 .1 .1 .1 .1 .0) (qs .1 .1 .1 .1 .1 .0)) (List._∷_ (Row.lease (κs .1 .1 .1 .1 .1 .1 .0) (qs .1 .1 .1 .1 .1 .1 .0)) (List._∷_ (Row.lease (κs .1 .1 .1 .1 .1 .1 .1 .0) (qs .1 .1 .1 .1 .1 .1 .1 .0)) (List._∷_ (Row.lease (κs .1 .1 .1 .1 .1 .1 .1 .1 .0) (qs .1 .1 .1 .1 .1 .1 .1 .1 .0)) (List._∷_ Row.off (List._∷_ Row.off (List._∷_ Row.off (List._∷_ Row.off (List._∷_ Row.off (List._∷_ Row.off (List._∷_ Row.off (List._∷_ Row.off (List._∷_ Row.off List.[])))))))))))))))));
+          locals = List._++_ g65 (List._++_ t69 t61);
+          slots = List._∷_ (Row.lease (κs .0) (qs .0)) (List._∷_ (Row.lease (κs .1 .0) (qs .1 .0)) (List._∷_ (Row.lease (κs .1 .1 .0) (qs .1 .1 .0)) (List._∷_ (Row.lease (κs .1 .1 .1 .0) (qs .1 .1 .1 .0)) (List._∷_ (Row.lease (κs .1 .1 .1 .1 .0) (qs .1 .1 .1 .1 .0)) (List._∷_ Row.off (List._∷_ (Row.lease (κs .1 .1 .1 .1 .1 .1 .0) (qs .1 .1 .1 .1 .1 .1 .0)) (List._∷_ (Row.lease (κs .1 .1 .1 .1 .1 .1 .1 .0) (qs .1 .1 .1 .1 .1 .1 .1 .0)) (List._∷_ (Row.lease (κs .1 .1 .1 .1 .1 .1 .1 .1 .0) (qs .1 .1 .1 .1 .1 .1 .1 .1 .0)) (List._∷_ Row.off (List._∷_ Row.off (List._∷_ Row.off (List._∷_ Row.off (List._∷_ Row.off (List._∷_ Row.off (List._∷_ Row.off (List._∷_ Row.off (List._∷_ Row.alive List.[])))))))))))))))));
         }
 
         abbrev G91 : Row.Cx
         G91 = record {
-          locals = List._++_ t3 (List._++_ t46 t2);
-          slots = List._∷_ (Row.lease (κs .0) (qs .0)) (List._∷_ (Row.lease (κs .1 .0) (qs .1 .0)) (List._∷_ (Row.lease (κs .1 .1 .0) (qs .1 .1 .0)) (List._∷_ (Row.lease (κs .1 .1 .1 .0) (qs .1 .1 .1 .0)) (List._∷_ (Row.lease (κs .1 .1 .1 .1 .0) (qs .1 .1 .1 .1 .0)) (List._∷_ (Row.lease (κs .1 .1 .1 .1 .1 .0) (qs .1 .1 .1 .1 .1 .0)) (List._∷_ (Row.lease (κs .1 .1 .1 .1 .1 .1 .0) (qs .1 .1 .1 .1 .1 .1 .0)) (List._∷_ (Row.lease (κs .1 .1 .1 .1 .1 .1 .1 .0) (qs .1 .1 .1 .1 .1 .1 .1 .0)) (List._∷_ (Row.lease (κs .1 .1 .1 .1 .1 .1 .1 .1 .0) (qs .1 .1 .1 .1 .1 .1 .1 .1 .0)) (List._∷_ Row.off (List._∷_ Row.off (List._∷_ Row.off (List._∷_ Row.off (List._∷_ Row.off (List._∷_ Row.off (List._∷_ Row.off (List._∷_ Row.off (List._∷_ Row.off List.[])))))))))))))))));
+          locals = List._++_ g65 (List._++_ t70 t61);
+          slots = List._∷_ (Row.lease (κs .0) (qs .0)) (List._∷_ (Row.lease (κs .1 .0) (qs .1 .0)) (List._∷_ (Row.lease (κs .1 .1 .0) (qs .1 .1 .0)) (List._∷_ (Row.lease (κs .1 .1 .1 .0) (qs .1 .1 .1 .0)) (List._∷_ (Row.lease (κs .1 .1 .1 .1 .0) (qs .1 .1 .1 .1 .0)) (List._∷_ Row.off (List._∷_ (Row.lease (κs .1 .1 .1 .1 .1 .1 .0) (qs .1 .1 .1 .1 .1 .1 .0)) (List._∷_ (Row.lease (κs .1 .1 .1 .1 .1 .1 .1 .0) (qs .1 .1 .1 .1 .1 .1 .1 .0)) (List._∷_ (Row.lease (κs .1 .1 .1 .1 .1 .1 .1 .1 .0) (qs .1 .1 .1 .1 .1 .1 .1 .1 .0)) (List._∷_ Row.off (List._∷_ Row.off (List._∷_ Row.off (List._∷_ Row.off (List._∷_ Row.off (List._∷_ Row.off (List._∷_ Row.off (List._∷_ Row.off (List._∷_ Row.alive List.[])))))))))))))))));
         }
 
         abbrev G92 : Row.Cx
         G92 = record {
-          locals = List._++_ t3 (List._++_ t66 t2);
-          slots = List._∷_ (Row.lease (κs .0) (qs .0)) (List._∷_ (Row.lease (κs .1 .0) (qs .1 .0)) (List._∷_ (Row.lease (κs .1 .1 .0) (qs .1 .1 .0)) (List._∷_ (Row.lease (κs .1 .1 .1 .0) (qs .1 .1 .1 .0)) (List._∷_ (Row.lease (κs .1 .1 .1 .1 .0) (qs .1 .1 .1 .1 .0)) (List._∷_ (Row.lease (κs .1 .1 .1 .1 .1 .0) (qs .1 .1 .1 .1 .1 .0)) (List._∷_ (Row.lease (κs .1 .1 .1 .1 .1 .1 .0) (qs .1 .1 .1 .1 .1 .1 .0)) (List._∷_ (Row.lease (κs .1 .1 .1 .1 .1 .1 .1 .0) (qs .1 .1 .1 .1 .1 .1 .1 .0)) (List._∷_ (Row.lease (κs .1 .1 .1 .1 .1 .1 .1 .1 .0) (qs .1 .1 .1 .1 .1 .1 .1 .1 .0)) (List._∷_ Row.off (List._∷_ Row.off (List._∷_ Row.off (List._∷_ Row.off (List._∷_ Row.off (List._∷_ Row.off (List._∷_ Row.off (List._∷_ Row.off (List._∷_ Row.off List.[])))))))))))))))));
+          locals = List._++_ g65 (List._++_ t1 t61);
+          slots = List._∷_ (Row.lease (κs .0) (qs .0)) (List._∷_ (Row.lease (κs .1 .0) (qs .1 .0)) (List._∷_ (Row.lease (κs .1 .1 .0) (qs .1 .1 .0)) (List._∷_ (Row.lease (κs .1 .1 .1 .0) (qs .1 .1 .1 .0)) (List._∷_ (Row.lease (κs .1 .1 .1 .1 .0) (qs .1 .1 .1 .1 .0)) (List._∷_ Row.off (List._∷_ (Row.lease (κs .1 .1 .1 .1 .1 .1 .0) (qs .1 .1 .1 .1 .1 .1 .0)) (List._∷_ (Row.lease (κs .1 .1 .1 .1 .1 .1 .1 .0) (qs .1 .1 .1 .1 .1 .1 .1 .0)) (List._∷_ (Row.lease (κs .1 .1 .1 .1 .1 .1 .1 .1 .0) (qs .1 .1 .1 .1 .1 .1 .1 .1 .0)) (List._∷_ Row.off (List._∷_ Row.off (List._∷_ Row.off (List._∷_ Row.off (List._∷_ Row.off (List._∷_ Row.off (List._∷_ Row.off (List._∷_ Row.off (List._∷_ Row.alive List.[])))))))))))))))));
         }
 
         abbrev G93 : Row.Cx
         G93 = record {
-          locals = List._++_ t3 (List._++_ t67 t2);
-          slots = List._∷_ (Row.lease (κs .0) (qs .0)) (List._∷_ (Row.lease (κs .1 .0) (qs .1 .0)) (List._∷_ (Row.lease (κs .1 .1 .0) (qs .1 .1 .0)) (List._∷_ (Row.lease (κs .1 .1 .1 .0) (qs .1 .1 .1 .0)) (List._∷_ (Row.lease (κs .1 .1 .1 .1 .0) (qs .1 .1 .1 .1 .0)) (List._∷_ (Row.lease (κs .1 .1 .1 .1 .1 .0) (qs .1 .1 .1 .1 .1 .0)) (List._∷_ (Row.lease (κs .1 .1 .1 .1 .1 .1 .0) (qs .1 .1 .1 .1 .1 .1 .0)) (List._∷_ (Row.lease (κs .1 .1 .1 .1 .1 .1 .1 .0) (qs .1 .1 .1 .1 .1 .1 .1 .0)) (List._∷_ (Row.lease (κs .1 .1 .1 .1 .1 .1 .1 .1 .0) (qs .1 .1 .1 .1 .1 .1 .1 .1 .0)) (List._∷_ Row.off (List._∷_ Row.off (List._∷_ Row.off (List._∷_ Row.off (List._∷_ Row.off (List._∷_ Row.off (List._∷_ Row.off (List._∷_ Row.off (List._∷_ Row.off List.[])))))))))))))))));
+          locals = List._++_ g65 (List._++_ t1 t61);
+          slots = List._∷_ (Row.lease (κs .0) (qs .0)) (List._∷_ (Row.lease (κs .1 .0) (qs .1 .0)) (List._∷_ (Row.lease (κs .1 .1 .0) (qs .1 .1 .0)) (List._∷_ (Row.lease (κs .1 .1 .1 .0) (qs .1 .1 .1 .0)) (List._∷_ (Row.lease (κs .1 .1 .1 .1 .0) (qs .1 .1 .1 .1 .0)) (List._∷_ Row.off (List._∷_ (Row.lease (κs .1 .1 .1 .1 .1 .1 .0) (qs .1 .1 .1 .1 .1 .1 .0)) (List._∷_ (Row.lease (κs .1 .1 .1 .1 .1 .1 .1 .0) (qs .1 .1 .1 .1 .1 .1 .1 .0)) (List._∷_ (Row.lease (κs .1 .1 .1 .1 .1 .1 .1 .1 .0) (qs .1 .1 .1 .1 .1 .1 .1 .1 .0)) (List._∷_ Row.off (List._∷_ Row.off (List._∷_ Row.off (List._∷_ Row.off (List._∷_ Row.off (List._∷_ Row.off (List._∷_ Row.off (List._∷_ Row.off (List._∷_ Row.dead List.[])))))))))))))))));
         }
 
         abbrev G94 : Row.Cx
         G94 = record {
-          locals = List._++_ t3 (List._++_ t68 t2);
-          slots = List._∷_ (Row.lease (κs .0) (qs .0)) (List._∷_ (Row.lease (κs .1 .0) (qs .1 .0)) (List._∷_ (Row.lease (κs .1 .1 .0) (qs .1 .1 .0)) (List._∷_ (Row.lease (κs .1 .1 .1 .0) (qs .1 .1 .1 .0)) (List._∷_ (Row.lease (κs .1 .1 .1 .1 .0) (qs .1 .1 .1 .1 .0)) (List._∷_ (Row.lease (κs .1 .1 .1 .1 .1 .0) (qs .1 .1 .1 .1 .1 .0)) (List._∷_ (Row.lease (κs .1 .1 .1 .1 .1 .1 .0) (qs .1 .1 .1 .1 .1 .1 .0)) (List._∷_ (Row.lease (κs .1 .1 .1 .1 .1 .1 .1 .0) (qs .1 .1 .1 .1 .1 .1 .1 .0)) (List._∷_ (Row.lease (κs .1 .1 .1 .1 .1 .1 .1 .1 .0) (qs .1 .1 .1 .1 .1 .1 .1 .1 .0)) (List._∷_ Row.off (List._∷_ Row.off (List._∷_ Row.off (List._∷_ Row.off (List._∷_ Row.off (List._∷_ Row.off (List._∷_ Row.off (List._∷_ Row.off (List._∷_ Row.off List.[])))))))))))))))));
+          locals = List._++_ t3 (List._++_ t1 t2);
+          slots = List._∷_ (Row.lease (κs .0) (qs .0)) (List._∷_ (Row.lease (κs .1 .0) (qs .1 .0)) (List._∷_ (Row.lease (κs .1 .1 .0) (qs .1 .1 .0)) (List._∷_ (Row.lease (κs .1 .1 .1 .0) (qs .1 .1 .1 .0)) (List._∷_ (Row.lease (κs .1 .1 .1 .1 .0) (qs .1 .1 .1 .1 .0)) (List._∷_ (Row.lease (κs .1 .1 .1 .1 .1 .0) (qs .1 .1 .1 .1 .1 .0)) (List._∷_ (Row.lease (κs .1 .1 .1 .1 .1 .1 .0) (qs .1 .1 .1 .1 .1 .1 .0)) (List._∷_ (Row.lease (κs .1 .1 .1 .1 .1 .1 .1 .0) (qs .1 .1 .1 .1 .1 .1 .1 .0)) (List._∷_ (Row.lease (κs .1 .1 .1 .1 .1 .1 .1 .1 .0) (qs .1 .1 .1 .1 .1 .1 .1 .1 .0)) (List._∷_ Row.off (List._∷_ Row.off (List._∷_ Row.off (List._∷_ Row.off (List._∷_ Row.off (List._∷_ Row.off (List._∷_ Row.off (List._∷_ Row.off (List._∷_ Row.dead List.[])))))))))))))))));
         }
 
         abbrev G95 : Row.Cx
         G95 = record {
-          locals = List._++_ t3 (List._++_ t69 t2);
-          slots = List._∷_ (Row.lease (κs .0) (qs .0)) (List._∷_ (Row.lease (κs .1 .0) (qs .1 .0)) (List._∷_ (Row.lease (κs .1 .1 .0) (qs .1 .1 .0)) (List._∷_ (Row.lease (κs .1 .1 .1 .0) (qs .1 .1 .1 .0)) (List._∷_ (Row.lease (κs .1 .1 .1 .1 .0) (qs .1 .1 .1 .1 .0)) (List._∷_ (Row.lease (κs .1 .1 .1 .1 .1 .0) (qs .1 .1 .1 .1 .1 .0)) (List._∷_ (Row.lease (κs .1 .1 .1 .1 .1 .1 .0) (qs .1 .1 .1 .1 .1 .1 .0)) (List._∷_ (Row.lease (κs .1 .1 .1 .1 .1 .1 .1 .0) (qs .1 .1 .1 .1 .1 .1 .1 .0)) (List._∷_ (Row.lease (κs .1 .1 .1 .1 .1 .1 .1 .1 .0) (qs .1 .1 .1 .1 .1 .1 .1 .1 .0)) (List._∷_ Row.off (List._∷_ Row.off (List._∷_ Row.off (List._∷_ Row.off (List._∷_ Row.off (List._∷_ Row.off (List._∷_ Row.off (List._∷_ Row.off (List._∷_ Row.off List.[])))))))))))))))));
-        }
-
-        abbrev G96 : Row.Cx
-        G96 = record {
-          locals = List._++_ t3 (List._++_ t70 t2);
-          slots = List._∷_ (Row.lease (κs .0) (qs .0)) (List._∷_ (Row.lease (κs .1 .0) (qs .1 .0)) (List._∷_ (Row.lease (κs .1 .1 .0) (qs .1 .1 .0)) (List._∷_ (Row.lease (κs .1 .1 .1 .0) (qs .1 .1 .1 .0)) (List._∷_ (Row.lease (κs .1 .1 .1 .1 .0) (qs .1 .1 .1 .1 .0)) (List._∷_ (Row.lease (κs .1 .1 .1 .1 .1 .0) (qs .1 .1 .1 .1 .1 .0)) (List._∷_ (Row.lease (κs .1 .1 .1 .1 .1 .1 .0) (qs .1 .1 .1 .1 .1 .1 .0)) (List._∷_ (Row.lease (κs .1 .1 .1 .1 .1 .1 .1 .0) (qs .1 .1 .1 .1 .1 .1 .1 .0)) (List._∷_ (Row.lease (κs .1 .1 .1 .1 .1 .1 .1 .1 .0) (qs .1 .1 .1 .1 .1 .1 .1 .1 .0)) (List._∷_ Row.off (List._∷_ Row.off (List._∷_ Row.off (List._∷_ Row.off (List._∷_ Row.off (List._∷_ Row.off (List._∷_ Row.off (List._∷_ Row.off (List._∷_ Row.off List.[])))))))))))))))));
-        }
-
-        abbrev G97 : Row.Cx
-        G97 = record {
           locals = List._++_ t3 (List._++_ t1 t2);
           slots = List._∷_ (Row.lease (κs .0) (qs .0)) (List._∷_ (Row.lease (κs .1 .0) (qs .1 .0)) (List._∷_ (Row.lease (κs .1 .1 .0) (qs .1 .1 .0)) (List._∷_ (Row.lease (κs .1 .1 .1 .0) (qs .1 .1 .1 .0)) (List._∷_ (Row.lease (κs .1 .1 .1 .1 .0) (qs .1 .1 .1 .1 .0)) (List._∷_ (Row.lease (κs .1 .1 .1 .1 .1 .0) (qs .1 .1 .1 .1 .1 .0)) (List._∷_ (Row.lease (κs .1 .1 .1 .1 .1 .1 .0) (qs .1 .1 .1 .1 .1 .1 .0)) (List._∷_ (Row.lease (κs .1 .1 .1 .1 .1 .1 .1 .0) (qs .1 .1 .1 .1 .1 .1 .1 .0)) (List._∷_ (Row.lease (κs .1 .1 .1 .1 .1 .1 .1 .1 .0) (qs .1 .1 .1 .1 .1 .1 .1 .1 .0)) (List._∷_ Row.off (List._∷_ Row.off (List._∷_ Row.off (List._∷_ Row.off (List._∷_ Row.off (List._∷_ Row.off (List._∷_ Row.off (List._∷_ Row.off (List._∷_ Row.off List.[])))))))))))))))));
         }
@@ -4123,299 +4291,293 @@ module _ (claims· : Claims) where
           abbrev E : Wp.Env 𝓤 H
           E = Frame.EnvOf 𝓤 H (List._∷_ (Kinds.tyR r) (Enter.tysP ps xs)) bs
 
-          d0 : Typed.Typed 𝓤 H A 𝓣 E G97 b33 Δ0 at0
+          d0 : Typed.Typed 𝓤 H A 𝓣 E G95 b32 Δ0 at0
           d0 = Typed.t-return 𝓤 H A W 𝓣 E Δ0 tt
 
-          d1 : Typed.Typed 𝓤 H A 𝓣 E G96 b33 Δ0 at1
-          d1 = Typed.g-pre 𝓤 H A W 𝓣 E G96 G97 b33 Δ0 (Typed.pass T96 T97 s95) at0 (Scalar.g-room 𝓤 H A W E G96 22 (Syntax.tyStruct (List._∷_ 102 (List._∷_ 105 (List._∷_ 100 (List._∷_ 117 (List._∷_ 99 (List._∷_ 99 (List._∷_ 105 (List._∷_ 97 (List._∷_ 95 (List._∷_ 109 (List._∷_ 97 (List._∷_ 116 (List._∷_ 116 (List._∷_ 104 (List._∷_ 101 (List._∷_ 121 (List._∷_ 115 (List._∷_ 101 (List._∷_ 115 (List._∷_ 58 (List._∷_ 58 (List._∷_ 69 (List._∷_ 110 (List._∷_ 100 (List._∷_ 101 (List._∷_ 100 List.[])))))))))))))))))))))))))) (Syntax.tcons (Syntax.tyInt Syntax.w32) (Syntax.tcons (Syntax.tyInt Syntax.w32) (Syntax.tcons (Syntax.tyInt Syntax.w64) (Syntax.tcons (Syntax.tyStruct (List._∷_ 105 (List._∷_ 109 (List._∷_ 98 (List._∷_ 97 (List._∷_ 108 (List._∷_ 97 (List._∷_ 110 (List._∷_ 99 (List._∷_ 101 (List._∷_ 58 (List._∷_ 58 (List._∷_ 76 (List._∷_ 111 (List._∷_ 97 (List._∷_ 100 (List._∷_ 115 List.[])))))))))))))))) (Syntax.tcons (Syntax.tyArray (Syntax.tyInt Syntax.w64) 16) Syntax.tnil)) Syntax.tnil))))) (Local.room-whole 𝓤 H A W (Declared.row Ended.the-type) (Syntax.tyStruct (List._∷_ 102 (List._∷_ 105 (List._∷_ 100 (List._∷_ 117 (List._∷_ 99 (List._∷_ 99 (List._∷_ 105 (List._∷_ 97 (List._∷_ 95 (List._∷_ 109 (List._∷_ 97 (List._∷_ 116 (List._∷_ 116 (List._∷_ 104 (List._∷_ 101 (List._∷_ 121 (List._∷_ 115 (List._∷_ 101 (List._∷_ 115 (List._∷_ 58 (List._∷_ 58 (List._∷_ 69 (List._∷_ 110 (List._∷_ 100 (List._∷_ 101 (List._∷_ 100 List.[])))))))))))))))))))))))))) (Syntax.tcons (Syntax.tyInt Syntax.w32) (Syntax.tcons (Syntax.tyInt Syntax.w32) (Syntax.tcons (Syntax.tyInt Syntax.w64) (Syntax.tcons (Syntax.tyStruct (List._∷_ 105 (List._∷_ 109 (List._∷_ 98 (List._∷_ 97 (List._∷_ 108 (List._∷_ 97 (List._∷_ 110 (List._∷_ 99 (List._∷_ 101 (List._∷_ 58 (List._∷_ 58 (List._∷_ 76 (List._∷_ 111 (List._∷_ 97 (List._∷_ 100 (List._∷_ 115 List.[])))))))))))))))) (Syntax.tcons (Syntax.tyArray (Syntax.tyInt Syntax.w64) 16) Syntax.tnil)) Syntax.tnil))))) Path'.refl)) d0
+          d1 : Typed.Typed 𝓤 H A 𝓣 E G94 b32 Δ0 at1
+          d1 = Typed.g-pre 𝓤 H A W 𝓣 E G94 G95 b32 Δ0 (λ Ψ. Ψ) at0 (Lifetime.g-forget 𝓤 H A W E G94 17 Row.dead Path'.refl) d0
 
-          d2 : Typed.Typed 𝓤 H A 𝓣 E G95 b33 Δ0 at2
-          d2 = Typed.g-pre 𝓤 H A W 𝓣 E G95 G96 b33 Δ0 (Typed.pass T95 T96 s94) at1 (Scalar.g-room 𝓤 H A W E G95 21 (Syntax.tyInt Syntax.w32) (Scalar.room-sc 𝓤 H A W (Row.sInt Syntax.w32))) d1
+          d2 : Typed.Typed 𝓤 H A 𝓣 E G93 b32 Δ0 at2
+          d2 = Typed.g-pre 𝓤 H A W 𝓣 E G93 G94 b32 Δ0 (Typed.both s92) at1 (Relend.g-back-sl 𝓤 H A W E (Signed.SInt Syntax.w64) G93 41 6 5 17 (Syntax.tyRef (Syntax.named 5) Syntax.mut (Syntax.tyInt Syntax.w64)) (Syntax.tyRef Syntax.erased Syntax.mut (Syntax.tyInt Syntax.w64)) (Row.lease (κs .1 .1 .1 .1 .1 .0) (qs .1 .1 .1 .1 .1 .0)) (λ x. x) (λ x. x) (Reads'.as-is 𝓤 H A (Mut.msleft (Signed.SInt Syntax.w64) (Syntax.tyRef Syntax.erased Syntax.mut (Syntax.tyInt Syntax.w64)))) (Reads'.as-is 𝓤 H A (Relend.mslice-owed (Signed.SInt Syntax.w64) (Syntax.tyRef (Syntax.named 5) Syntax.mut (Syntax.tyInt Syntax.w64)) 5 17 (Row.lease (κs .1 .1 .1 .1 .1 .0) (qs .1 .1 .1 .1 .1 .0)))) Path'.refl Path'.refl) d1
 
-          d3 : Typed.Typed 𝓤 H A 𝓣 E G94 b33 Δ0 at3
-          d3 = Typed.g-pre 𝓤 H A W 𝓣 E G94 G95 b33 Δ0 (Typed.pass T94 T95 s93) at2 (Scalar.g-room 𝓤 H A W E G94 20 (Syntax.tyInt Syntax.w64) (Scalar.room-sc 𝓤 H A W (Row.sInt Syntax.w64))) d2
+          d3 : Typed.Typed 𝓤 H A 𝓣 E G92 b32 Δ0 at3
+          d3 = Typed.g-pre 𝓤 H A W 𝓣 E G92 G93 b32 Δ0 (λ Ψ. Ψ) at2 (Lifetime.g-end 𝓤 H A W E G92 17 Path'.refl) d2
 
-          d4 : Typed.Typed 𝓤 H A 𝓣 E G93 b33 Δ0 at4
-          d4 = Typed.g-pre 𝓤 H A W 𝓣 E G93 G94 b33 Δ0 (Typed.pass T93 T94 s92) at3 (Scalar.g-room 𝓤 H A W E G93 19 (Syntax.tyInt Syntax.w64) (Scalar.room-sc 𝓤 H A W (Row.sInt Syntax.w64))) d3
+          d4 : Typed.Typed 𝓤 H A 𝓣 E G91 b32 Δ0 at4
+          d4 = Typed.g-pre 𝓤 H A W 𝓣 E G91 G92 b32 Δ0 (Typed.pass T91 T92 s90) at3 (Scalar.g-room 𝓤 H A W E G91 22 (Syntax.tyStruct (List._∷_ 102 (List._∷_ 105 (List._∷_ 100 (List._∷_ 117 (List._∷_ 99 (List._∷_ 99 (List._∷_ 105 (List._∷_ 97 (List._∷_ 95 (List._∷_ 109 (List._∷_ 97 (List._∷_ 116 (List._∷_ 116 (List._∷_ 104 (List._∷_ 101 (List._∷_ 121 (List._∷_ 115 (List._∷_ 101 (List._∷_ 115 (List._∷_ 58 (List._∷_ 58 (List._∷_ 69 (List._∷_ 110 (List._∷_ 100 (List._∷_ 101 (List._∷_ 100 List.[])))))))))))))))))))))))))) (Syntax.tcons (Syntax.tyInt Syntax.w32) (Syntax.tcons (Syntax.tyInt Syntax.w32) (Syntax.tcons (Syntax.tyInt Syntax.w64) (Syntax.tcons (Syntax.tyStruct (List._∷_ 105 (List._∷_ 109 (List._∷_ 98 (List._∷_ 97 (List._∷_ 108 (List._∷_ 97 (List._∷_ 110 (List._∷_ 99 (List._∷_ 101 (List._∷_ 58 (List._∷_ 58 (List._∷_ 76 (List._∷_ 111 (List._∷_ 97 (List._∷_ 100 (List._∷_ 115 List.[])))))))))))))))) (Syntax.tcons (Syntax.tyArray (Syntax.tyInt Syntax.w64) 16) Syntax.tnil)) Syntax.tnil))))) (Local.room-whole 𝓤 H A W (Declared.row Ended.the-type) (Syntax.tyStruct (List._∷_ 102 (List._∷_ 105 (List._∷_ 100 (List._∷_ 117 (List._∷_ 99 (List._∷_ 99 (List._∷_ 105 (List._∷_ 97 (List._∷_ 95 (List._∷_ 109 (List._∷_ 97 (List._∷_ 116 (List._∷_ 116 (List._∷_ 104 (List._∷_ 101 (List._∷_ 121 (List._∷_ 115 (List._∷_ 101 (List._∷_ 115 (List._∷_ 58 (List._∷_ 58 (List._∷_ 69 (List._∷_ 110 (List._∷_ 100 (List._∷_ 101 (List._∷_ 100 List.[])))))))))))))))))))))))))) (Syntax.tcons (Syntax.tyInt Syntax.w32) (Syntax.tcons (Syntax.tyInt Syntax.w32) (Syntax.tcons (Syntax.tyInt Syntax.w64) (Syntax.tcons (Syntax.tyStruct (List._∷_ 105 (List._∷_ 109 (List._∷_ 98 (List._∷_ 97 (List._∷_ 108 (List._∷_ 97 (List._∷_ 110 (List._∷_ 99 (List._∷_ 101 (List._∷_ 58 (List._∷_ 58 (List._∷_ 76 (List._∷_ 111 (List._∷_ 97 (List._∷_ 100 (List._∷_ 115 List.[])))))))))))))))) (Syntax.tcons (Syntax.tyArray (Syntax.tyInt Syntax.w64) 16) Syntax.tnil)) Syntax.tnil))))) Path'.refl)) d3
 
-          d5 : Typed.Typed 𝓤 H A 𝓣 E G92 b33 Δ0 at5
-          d5 = Typed.g-pre 𝓤 H A W 𝓣 E G92 G93 b33 Δ0 (Typed.pass T92 T93 s91) at4 (Scalar.g-room 𝓤 H A W E G92 18 (Syntax.tyInt Syntax.w64) (Scalar.room-sc 𝓤 H A W (Row.sInt Syntax.w64))) d4
+          d5 : Typed.Typed 𝓤 H A 𝓣 E G90 b32 Δ0 at5
+          d5 = Typed.g-pre 𝓤 H A W 𝓣 E G90 G91 b32 Δ0 (Typed.pass T90 T91 s89) at4 (Scalar.g-room 𝓤 H A W E G90 21 (Syntax.tyInt Syntax.w32) (Scalar.room-sc 𝓤 H A W (Row.sInt Syntax.w32))) d4
 
-          d6 : Typed.Typed 𝓤 H A 𝓣 E G91 b33 Δ0 at6
-          d6 = Typed.g-pre 𝓤 H A W 𝓣 E G91 G92 b33 Δ0 (Typed.pass T91 T92 s90) at5 (Scalar.g-room 𝓤 H A W E G91 16 (Syntax.tyFloat Ieee.binary64) (Scalar.room-sc 𝓤 H A W (Row.sFloat Ieee.binary64))) d5
+          d6 : Typed.Typed 𝓤 H A 𝓣 E G89 b32 Δ0 at6
+          d6 = Typed.g-pre 𝓤 H A W 𝓣 E G89 G90 b32 Δ0 (Typed.pass T89 T90 s88) at5 (Scalar.g-room 𝓤 H A W E G89 20 (Syntax.tyInt Syntax.w64) (Scalar.room-sc 𝓤 H A W (Row.sInt Syntax.w64))) d5
 
-          d7 : Typed.Typed 𝓤 H A 𝓣 E G90 b33 Δ0 at7
-          d7 = Typed.g-pre 𝓤 H A W 𝓣 E G90 G91 b33 Δ0 (Typed.pass T90 T91 s89) at6 (Scalar.g-room 𝓤 H A W E G90 15 (Syntax.tyInt Syntax.w32) (Scalar.room-sc 𝓤 H A W (Row.sInt Syntax.w32))) d6
+          d7 : Typed.Typed 𝓤 H A 𝓣 E G88 b32 Δ0 at7
+          d7 = Typed.g-pre 𝓤 H A W 𝓣 E G88 G89 b32 Δ0 (Typed.pass T88 T89 s87) at6 (Scalar.g-room 𝓤 H A W E G88 19 (Syntax.tyInt Syntax.w64) (Scalar.room-sc 𝓤 H A W (Row.sInt Syntax.w64))) d6
 
-          d8 : Typed.Typed 𝓤 H A 𝓣 E G89 b33 Δ0 at8
-          d8 = Typed.g-pre 𝓤 H A W 𝓣 E G89 G90 b33 Δ0 (Typed.pass T89 T90 s88) at7 (Scalar.g-room 𝓤 H A W E G89 14 (Syntax.tyInt Syntax.w32) (Scalar.room-sc 𝓤 H A W (Row.sInt Syntax.w32))) d7
+          d8 : Typed.Typed 𝓤 H A 𝓣 E G87 b32 Δ0 at8
+          d8 = Typed.g-pre 𝓤 H A W 𝓣 E G87 G88 b32 Δ0 (Typed.pass T87 T88 s86) at7 (Scalar.g-room 𝓤 H A W E G87 18 (Syntax.tyInt Syntax.w64) (Scalar.room-sc 𝓤 H A W (Row.sInt Syntax.w64))) d7
 
-          d9 : Typed.Typed 𝓤 H A 𝓣 E G88 b33 Δ0 at9
-          d9 = Typed.g-pre 𝓤 H A W 𝓣 E G88 G89 b33 Δ0 (Typed.pass T88 T89 s87) at8 (Scalar.g-room 𝓤 H A W E G88 13 (Syntax.tyInt Syntax.w64) (Scalar.room-sc 𝓤 H A W (Row.sInt Syntax.w64))) d8
+          d9 : Typed.Typed 𝓤 H A 𝓣 E G86 b32 Δ0 at9
+          d9 = Typed.g-pre 𝓤 H A W 𝓣 E G86 G87 b32 Δ0 (Typed.pass T86 T87 s85) at8 (Scalar.g-room 𝓤 H A W E G86 16 (Syntax.tyFloat Ieee.binary64) (Scalar.room-sc 𝓤 H A W (Row.sFloat Ieee.binary64))) d8
 
-          d10 : Typed.Typed 𝓤 H A 𝓣 E G87 b33 Δ0 at10
-          d10 = Typed.g-pre 𝓤 H A W 𝓣 E G87 G88 b33 Δ0 (Typed.pass T87 T88 s86) at9 (Scalar.g-room 𝓤 H A W E G87 11 (Syntax.tyInt Syntax.w64) (Scalar.room-sc 𝓤 H A W (Row.sInt Syntax.w64))) d9
+          d10 : Typed.Typed 𝓤 H A 𝓣 E G85 b32 Δ0 at10
+          d10 = Typed.g-pre 𝓤 H A W 𝓣 E G85 G86 b32 Δ0 (Typed.pass T85 T86 s84) at9 (Scalar.g-room 𝓤 H A W E G85 15 (Syntax.tyInt Syntax.w32) (Scalar.room-sc 𝓤 H A W (Row.sInt Syntax.w32))) d9
 
-          d11 : Typed.Typed 𝓤 H A 𝓣 E G86 b34 Δ0 at11
-          d11 = Typed.s-seq 𝓤 H A W 𝓣 E G86 G87 b32 b33 Δ0 (Typed.both s85) at10 (Plain.t-call-plain 𝓤 H A W 𝓣 0 ps·9 r·9 (claims· .18) (claims· .19) "fiduccia_mattheyses::run_report" (known .9) E (λ pos β. β) G86 (record { pos = 22; st = List.[]; d = 0; at = λ x. x }, (Num.vAt 18 λ x. x, tt)) 0 List.[] (Call.sub-id 𝓤 H A W (G86 .slots)) ((Yields.yields-copy 𝓤 H A W (λ ρ. Unit) (Declared.row Ended.the-type) Path'.refl (Copies.cStruct Ended.the-type Laws.the-laws Laws.the-copy .copy 𝓤 H A W) (Rows.whole (Declared.row Ended.the-type)) (λ x. x) (λ x. x) (λ ρ told. Local.mem-whole 𝓤 H A W (Declared.row Ended.the-type) ρ) λ ρ told. Local.whole-mem 𝓤 H A W (Declared.row Ended.the-type) ρ, Path'.refl), ((Scalar.reads-sc 𝓤 H A W (Row.sInt Syntax.w64), Path'.refl), tt)) (Reads'.room-gone 𝓤 H A (Syntax.tyStruct (List._∷_ 102 (List._∷_ 105 (List._∷_ 100 (List._∷_ 117 (List._∷_ 99 (List._∷_ 99 (List._∷_ 105 (List._∷_ 97 (List._∷_ 95 (List._∷_ 109 (List._∷_ 97 (List._∷_ 116 (List._∷_ 116 (List._∷_ 104 (List._∷_ 101 (List._∷_ 121 (List._∷_ 115 (List._∷_ 101 (List._∷_ 115 (List._∷_ 58 (List._∷_ 58 (List._∷_ 82 (List._∷_ 101 (List._∷_ 112 (List._∷_ 111 (List._∷_ 114 (List._∷_ 116 List.[]))))))))))))))))))))))))))) (Syntax.tcons (Syntax.tyInt Syntax.w32) (Syntax.tcons (Syntax.tyInt Syntax.w32) (Syntax.tcons (Syntax.tyInt Syntax.w32) (Syntax.tcons (Syntax.tyInt Syntax.w64) (Syntax.tcons (Syntax.tyInt Syntax.w64) (Syntax.tcons (Syntax.tyStruct (List._∷_ 105 (List._∷_ 109 (List._∷_ 98 (List._∷_ 97 (List._∷_ 108 (List._∷_ 97 (List._∷_ 110 (List._∷_ 99 (List._∷_ 101 (List._∷_ 58 (List._∷_ 58 (List._∷_ 76 (List._∷_ 111 (List._∷_ 97 (List._∷_ 100 (List._∷_ 115 List.[])))))))))))))))) (Syntax.tcons (Syntax.tyArray (Syntax.tyInt Syntax.w64) 16) Syntax.tnil)) Syntax.tnil)))))))) tt Path'.refl) d10
+          d11 : Typed.Typed 𝓤 H A 𝓣 E G84 b32 Δ0 at11
+          d11 = Typed.g-pre 𝓤 H A W 𝓣 E G84 G85 b32 Δ0 (Typed.pass T84 T85 s83) at10 (Scalar.g-room 𝓤 H A W E G84 14 (Syntax.tyInt Syntax.w32) (Scalar.room-sc 𝓤 H A W (Row.sInt Syntax.w32))) d10
 
-          d12 : Typed.Typed 𝓤 H A 𝓣 E G85 b34 Δ0 at12
-          d12 = Typed.g-pre 𝓤 H A W 𝓣 E G85 G86 b34 Δ0 (λ Ψ. Ψ) at11 (Lifetime.g-forget 𝓤 H A W E G85 17 Row.dead Path'.refl) d11
+          d12 : Typed.Typed 𝓤 H A 𝓣 E G83 b32 Δ0 at12
+          d12 = Typed.g-pre 𝓤 H A W 𝓣 E G83 G84 b32 Δ0 (Typed.pass T83 T84 s82) at11 (Scalar.g-room 𝓤 H A W E G83 13 (Syntax.tyInt Syntax.w64) (Scalar.room-sc 𝓤 H A W (Row.sInt Syntax.w64))) d11
 
-          d13 : Typed.Typed 𝓤 H A 𝓣 E G84 b34 Δ0 at13
-          d13 = Typed.g-pre 𝓤 H A W 𝓣 E G84 G85 b34 Δ0 (Typed.both s83) at12 (Relend.g-back-sl 𝓤 H A W E MoveTy.R G84 41 7 6 17 (Syntax.tyRef (Syntax.named 6) Syntax.mut MoveTy.behind) (Syntax.tyRef Syntax.erased Syntax.mut MoveTy.behind) (Row.lease (κs .1 .1 .1 .1 .1 .1 .0) (qs .1 .1 .1 .1 .1 .1 .0)) (λ x. x) (λ x. x) (Reads'.as-is 𝓤 H A (Mut.msleft MoveTy.R (Syntax.tyRef Syntax.erased Syntax.mut MoveTy.behind))) (Reads'.as-is 𝓤 H A (Relend.mslice-owed MoveTy.R (Syntax.tyRef (Syntax.named 6) Syntax.mut MoveTy.behind) 6 17 (Row.lease (κs .1 .1 .1 .1 .1 .1 .0) (qs .1 .1 .1 .1 .1 .1 .0)))) Path'.refl Path'.refl) d12
+          d13 : Typed.Typed 𝓤 H A 𝓣 E G82 b32 Δ0 at13
+          d13 = Typed.g-pre 𝓤 H A W 𝓣 E G82 G83 b32 Δ0 (Typed.pass T82 T83 s81) at12 (Scalar.g-room 𝓤 H A W E G82 11 (Syntax.tyInt Syntax.w64) (Scalar.room-sc 𝓤 H A W (Row.sInt Syntax.w64))) d12
 
-          d14 : Typed.Typed 𝓤 H A 𝓣 E G83 b34 Δ0 at14
-          d14 = Typed.g-pre 𝓤 H A W 𝓣 E G83 G84 b34 Δ0 (λ Ψ. Ψ) at13 (Lifetime.g-end 𝓤 H A W E G83 17 Path'.refl) d13
+          d14 : Typed.Typed 𝓤 H A 𝓣 E G81 b33 Δ0 at14
+          d14 = Typed.s-seq 𝓤 H A W 𝓣 E G81 G82 b31 b32 Δ0 (Typed.both s80) at13 (Plain.t-call-plain 𝓤 H A W 𝓣 1 ps·8 r·8 (claims· .16) (claims· .17) "fiduccia_mattheyses::finish" (known .8) E (λ pos β. β) G81 (record { pos = 41; ty = Syntax.tyRef Syntax.erased Syntax.mut (Syntax.tyInt Syntax.w64); ref = λ x. x }, (Num.vAt 11 λ x. x, (record { pos = 22; st = List.[]; d = 0; at = λ x. x }, (Num.vAt 18 λ x. x, tt)))) 0 (List._∷_ 17 List.[]) (Call.sub-id 𝓤 H A W (G81 .slots)) (Reads'.as-is 𝓤 H A (Mut.mslice (Signed.SInt Syntax.w64) (Syntax.tyRef Syntax.erased Syntax.mut (Syntax.tyInt Syntax.w64)) 17), Mut.reads-mslice 𝓤 H A W (Signed.SInt Syntax.w64) (Syntax.tyRef Syntax.erased Syntax.mut (Syntax.tyInt Syntax.w64)) 17, Path'.refl, ((Scalar.reads-sc 𝓤 H A W (Row.sInt Syntax.w64), Path'.refl), ((Yields.yields-copy 𝓤 H A W (λ ρ. Unit) (Declared.row Ended.the-type) Path'.refl (Copies.cStruct Ended.the-type Laws.the-laws Laws.the-copy .copy 𝓤 H A W) (Rows.whole (Declared.row Ended.the-type)) (λ x. x) (λ x. x) (λ ρ told. Local.mem-whole 𝓤 H A W (Declared.row Ended.the-type) ρ) λ ρ told. Local.whole-mem 𝓤 H A W (Declared.row Ended.the-type) ρ, Path'.refl), ((Scalar.reads-sc 𝓤 H A W (Row.sInt Syntax.w64), Path'.refl), tt)))) (Reads'.room-gone 𝓤 H A (Syntax.tyStruct (List._∷_ 102 (List._∷_ 105 (List._∷_ 100 (List._∷_ 117 (List._∷_ 99 (List._∷_ 99 (List._∷_ 105 (List._∷_ 97 (List._∷_ 95 (List._∷_ 109 (List._∷_ 97 (List._∷_ 116 (List._∷_ 116 (List._∷_ 104 (List._∷_ 101 (List._∷_ 121 (List._∷_ 115 (List._∷_ 101 (List._∷_ 115 (List._∷_ 58 (List._∷_ 58 (List._∷_ 82 (List._∷_ 101 (List._∷_ 112 (List._∷_ 111 (List._∷_ 114 (List._∷_ 116 List.[]))))))))))))))))))))))))))) (Syntax.tcons (Syntax.tyInt Syntax.w32) (Syntax.tcons (Syntax.tyInt Syntax.w32) (Syntax.tcons (Syntax.tyInt Syntax.w32) (Syntax.tcons (Syntax.tyInt Syntax.w64) (Syntax.tcons (Syntax.tyInt Syntax.w64) (Syntax.tcons (Syntax.tyStruct (List._∷_ 105 (List._∷_ 109 (List._∷_ 98 (List._∷_ 97 (List._∷_ 108 (List._∷_ 97 (List._∷_ 110 (List._∷_ 99 (List._∷_ 101 (List._∷_ 58 (List._∷_ 58 (List._∷_ 76 (List._∷_ 111 (List._∷_ 97 (List._∷_ 100 (List._∷_ 115 List.[])))))))))))))))) (Syntax.tcons (Syntax.tyArray (Syntax.tyInt Syntax.w64) 16) Syntax.tnil)) Syntax.tnil)))))))) (tt, tt) Path'.refl) d13
 
-          d15 : Typed.Typed 𝓤 H A 𝓣 E G82 b34 Δ0 at15
-          d15 = Typed.g-pre 𝓤 H A W 𝓣 E G82 G83 b34 Δ0 (Typed.pass T82 T83 s81) at14 (Scalar.g-room 𝓤 H A W E G82 37 Syntax.tyUnit (Scalar.room-sc 𝓤 H A W Row.sUnit)) d14
+          d15 : Typed.Typed 𝓤 H A 𝓣 E G80 b34 Δ0 at15
+          d15 = Typed.s-seq 𝓤 H A W 𝓣 E G80 G81 b30 b33 Δ0 (Typed.ask s79) at14 (Relend.t-sl-aggregate 𝓤 H A W E (Signed.SInt Syntax.w64) 𝓣 (Relend.asMut (Signed.SInt Syntax.w64)) G80 40 41 17 (Syntax.tyRef Syntax.erased Syntax.mut (Syntax.tyInt Syntax.w64)) (Syntax.tyRef Syntax.erased Syntax.mut (Syntax.tyInt Syntax.w64)) (λ x. x) (Scalar.oFld 6 (List._∷_ (Syntax.field 1) List.[]) (Syntax.tyInt Syntax.w64) 8 λ v. Shared.lenV (v .0)) (Reads'.as-is 𝓤 H A (Relend.msptr (Signed.SInt Syntax.w64) (Syntax.tyRef Syntax.erased Syntax.mut (Syntax.tyInt Syntax.w64)) 17)) (Reads'.room-gone 𝓤 H A (Syntax.tyStruct (List._∷_ 38 (List._∷_ 91 (List._∷_ 93 List.[]))) (Syntax.tcons (Syntax.tyRef Syntax.erased Syntax.mut (Syntax.tyInt Syntax.w64)) (Syntax.tcons (Syntax.tyInt Syntax.w64) Syntax.tnil)))) (Relend.reads-owed-len 𝓤 H A W (Signed.SInt Syntax.w64) (Syntax.tyRef (Syntax.named 5) Syntax.mut (Syntax.tyInt Syntax.w64)) 5 17 (Row.lease (κs .1 .1 .1 .1 .1 .0) (qs .1 .1 .1 .1 .1 .0)) 8 Path'.refl, Path'.refl) Path'.refl Path'.refl λ b o k. tt) d14
 
-          d16 : Typed.Typed 𝓤 H A 𝓣 E G81 b35 Δ0 at16
-          d16 = Typed.s-seq 𝓤 H A W 𝓣 E G81 G82 b31 b34 Δ0 (Typed.both s80) at15 (Plain.t-call-plain 𝓤 H A W 𝓣 1 ps·8 r·8 (claims· .16) (claims· .17) "fiduccia_mattheyses::clear" (known .8) E (λ pos β. β) G81 (record { pos = 41; ty = Syntax.tyRef Syntax.erased Syntax.mut MoveTy.behind; ref = λ x. x }, (Num.vAt 11 λ x. x, tt)) 37 (List._∷_ 17 List.[]) (Call.sub-id 𝓤 H A W (G81 .slots)) (Reads'.as-is 𝓤 H A (Mut.mslice MoveTy.R (Syntax.tyRef Syntax.erased Syntax.mut MoveTy.behind) 17), Mut.reads-mslice 𝓤 H A W MoveTy.R (Syntax.tyRef Syntax.erased Syntax.mut MoveTy.behind) 17, Path'.refl, ((Scalar.reads-sc 𝓤 H A W (Row.sInt Syntax.w64), Path'.refl), tt)) (Reads'.room-gone 𝓤 H A Syntax.tyUnit) (tt, tt) Path'.refl) d15
+          d16 : Typed.Typed 𝓤 H A 𝓣 E G79 b35 Δ0 at16
+          d16 = Typed.s-seq 𝓤 H A W 𝓣 E G79 G80 b29 b34 Δ0 (Typed.give s78) at15 (Relend.t-sl-relend 𝓤 H A W E (Signed.SInt Syntax.w64) 𝓣 G79 6 40 5 17 (Syntax.tyRef (Syntax.named 5) Syntax.mut (Syntax.tyInt Syntax.w64)) (Syntax.tyRef Syntax.erased Syntax.mut (Syntax.tyInt Syntax.w64)) (Row.lease (κs .1 .1 .1 .1 .1 .0) (qs .1 .1 .1 .1 .1 .0)) 0 (λ x. x) (Reads'.as-is 𝓤 H A (Mut.mslice (Signed.SInt Syntax.w64) (Syntax.tyRef (Syntax.named 5) Syntax.mut (Syntax.tyInt Syntax.w64)) 5)) (Reads'.room-gone 𝓤 H A (Syntax.tyRef Syntax.erased Syntax.mut (Syntax.tyInt Syntax.w64))) Path'.refl tt Path'.refl Path'.refl Path'.refl λ b o. tt) d15
 
-          d17 : Typed.Typed 𝓤 H A 𝓣 E G80 b36 Δ0 at17
-          d17 = Typed.s-seq 𝓤 H A W 𝓣 E G80 G81 b30 b35 Δ0 (Typed.ask s79) at16 (Relend.t-sl-aggregate 𝓤 H A W E MoveTy.R 𝓣 (Relend.asMut MoveTy.R) G80 40 41 17 (Syntax.tyRef Syntax.erased Syntax.mut MoveTy.behind) (Syntax.tyRef Syntax.erased Syntax.mut MoveTy.behind) (λ x. x) (Scalar.oFld 7 (List._∷_ (Syntax.field 1) List.[]) (Syntax.tyInt Syntax.w64) 8 λ v. Shared.lenV (v .0)) (Reads'.as-is 𝓤 H A (Relend.msptr MoveTy.R (Syntax.tyRef Syntax.erased Syntax.mut MoveTy.behind) 17)) (Reads'.room-gone 𝓤 H A (Syntax.tyStruct (List._∷_ 38 (List._∷_ 91 (List._∷_ 93 List.[]))) (Syntax.tcons (Syntax.tyRef Syntax.erased Syntax.mut MoveTy.behind) (Syntax.tcons (Syntax.tyInt Syntax.w64) Syntax.tnil)))) (Relend.reads-owed-len 𝓤 H A W MoveTy.R (Syntax.tyRef (Syntax.named 6) Syntax.mut MoveTy.behind) 6 17 (Row.lease (κs .1 .1 .1 .1 .1 .1 .0) (qs .1 .1 .1 .1 .1 .1 .0)) 8 Path'.refl, Path'.refl) Path'.refl Path'.refl λ b o k. tt) d16
+          d17 : Typed.Typed 𝓤 H A 𝓣 E G78 b35 Δ0 at17
+          d17 = Typed.g-pre 𝓤 H A W 𝓣 E G78 G79 b35 Δ0 (λ Ψ. Ψ) at16 (Lifetime.g-begin 𝓤 H A W E G78 17 (tt, (tt, (tt, (tt, (tt, (tt, (tt, (tt, (tt, (tt, (tt, (tt, (tt, (tt, (tt, (tt, (tt, (tt, (tt, (tt, (tt, (tt, (tt, (tt, (tt, (tt, (tt, (tt, (tt, (tt, (tt, (tt, (tt, (tt, (tt, (tt, (tt, (tt, (tt, (tt, (tt, (tt, tt))))))))))))))))))))))))))))))))))))))))))) d16
 
-          d18 : Typed.Typed 𝓤 H A 𝓣 E G79 b37 Δ0 at18
-          d18 = Typed.s-seq 𝓤 H A W 𝓣 E G79 G80 b29 b36 Δ0 (Typed.give s78) at17 (Relend.t-sl-relend 𝓤 H A W E MoveTy.R 𝓣 G79 7 40 6 17 (Syntax.tyRef (Syntax.named 6) Syntax.mut MoveTy.behind) (Syntax.tyRef Syntax.erased Syntax.mut MoveTy.behind) (Row.lease (κs .1 .1 .1 .1 .1 .1 .0) (qs .1 .1 .1 .1 .1 .1 .0)) 0 (λ x. x) (Reads'.as-is 𝓤 H A (Mut.mslice MoveTy.R (Syntax.tyRef (Syntax.named 6) Syntax.mut MoveTy.behind) 6)) (Reads'.room-gone 𝓤 H A (Syntax.tyRef Syntax.erased Syntax.mut MoveTy.behind)) Path'.refl tt Path'.refl Path'.refl Path'.refl λ b o. tt) d17
+          d18 : Typed.Typed 𝓤 H A 𝓣 E G77 b35 Δ0 at18
+          d18 = Typed.g-pre 𝓤 H A W 𝓣 E G77 G78 b35 Δ0 (λ Ψ. Ψ) at17 (Lifetime.g-forget 𝓤 H A W E G77 16 Row.dead Path'.refl) d17
 
-          d19 : Typed.Typed 𝓤 H A 𝓣 E G78 b37 Δ0 at19
-          d19 = Typed.g-pre 𝓤 H A W 𝓣 E G78 G79 b37 Δ0 (λ Ψ. Ψ) at18 (Lifetime.g-begin 𝓤 H A W E G78 17 (tt, (tt, (tt, (tt, (tt, (tt, (tt, (tt, (tt, (tt, (tt, (tt, (tt, (tt, (tt, (tt, (tt, (tt, (tt, (tt, (tt, (tt, (tt, (tt, (tt, (tt, (tt, (tt, (tt, (tt, (tt, (tt, (tt, (tt, (tt, (tt, (tt, (tt, (tt, (tt, (tt, (tt, tt))))))))))))))))))))))))))))))))))))))))))) d18
+          d19 : Typed.Typed 𝓤 H A 𝓣 E G76 b35 Δ0 at19
+          d19 = Typed.g-pre 𝓤 H A W 𝓣 E G76 G77 b35 Δ0 (Typed.both s75) at18 (Relend.g-back-sl 𝓤 H A W E MoveTy.R G76 39 7 6 16 (Syntax.tyRef (Syntax.named 6) Syntax.mut MoveTy.behind) (Syntax.tyRef Syntax.erased Syntax.mut MoveTy.behind) (Row.lease (κs .1 .1 .1 .1 .1 .1 .0) (qs .1 .1 .1 .1 .1 .1 .0)) (λ x. x) (λ x. x) (Reads'.as-is 𝓤 H A (Mut.msleft MoveTy.R (Syntax.tyRef Syntax.erased Syntax.mut MoveTy.behind))) (Reads'.as-is 𝓤 H A (Relend.mslice-owed MoveTy.R (Syntax.tyRef (Syntax.named 6) Syntax.mut MoveTy.behind) 6 16 (Row.lease (κs .1 .1 .1 .1 .1 .1 .0) (qs .1 .1 .1 .1 .1 .1 .0)))) Path'.refl Path'.refl) d18
 
-          d20 : Typed.Typed 𝓤 H A 𝓣 E G77 b37 Δ0 at20
-          d20 = Typed.g-pre 𝓤 H A W 𝓣 E G77 G78 b37 Δ0 (λ Ψ. Ψ) at19 (Lifetime.g-forget 𝓤 H A W E G77 16 Row.dead Path'.refl) d19
+          d20 : Typed.Typed 𝓤 H A 𝓣 E G75 b35 Δ0 at20
+          d20 = Typed.g-pre 𝓤 H A W 𝓣 E G75 G76 b35 Δ0 (λ Ψ. Ψ) at19 (Lifetime.g-end 𝓤 H A W E G75 16 Path'.refl) d19
 
-          d21 : Typed.Typed 𝓤 H A 𝓣 E G76 b37 Δ0 at21
-          d21 = Typed.g-pre 𝓤 H A W 𝓣 E G76 G77 b37 Δ0 (Typed.both s75) at20 (Relend.g-back-sl 𝓤 H A W E (Signed.SInt Syntax.w64) G76 39 6 5 16 (Syntax.tyRef (Syntax.named 5) Syntax.mut (Syntax.tyInt Syntax.w64)) (Syntax.tyRef Syntax.erased Syntax.mut (Syntax.tyInt Syntax.w64)) (Row.lease (κs .1 .1 .1 .1 .1 .0) (qs .1 .1 .1 .1 .1 .0)) (λ x. x) (λ x. x) (Reads'.as-is 𝓤 H A (Mut.msleft (Signed.SInt Syntax.w64) (Syntax.tyRef Syntax.erased Syntax.mut (Syntax.tyInt Syntax.w64)))) (Reads'.as-is 𝓤 H A (Relend.mslice-owed (Signed.SInt Syntax.w64) (Syntax.tyRef (Syntax.named 5) Syntax.mut (Syntax.tyInt Syntax.w64)) 5 16 (Row.lease (κs .1 .1 .1 .1 .1 .0) (qs .1 .1 .1 .1 .1 .0)))) Path'.refl Path'.refl) d20
+          d21 : Typed.Typed 𝓤 H A 𝓣 E G74 b35 Δ0 at21
+          d21 = Typed.g-pre 𝓤 H A W 𝓣 E G74 G75 b35 Δ0 (Typed.pass T74 T75 s73) at20 (Scalar.g-room 𝓤 H A W E G74 37 Syntax.tyUnit (Scalar.room-sc 𝓤 H A W Row.sUnit)) d20
 
-          d22 : Typed.Typed 𝓤 H A 𝓣 E G75 b37 Δ0 at22
-          d22 = Typed.g-pre 𝓤 H A W 𝓣 E G75 G76 b37 Δ0 (λ Ψ. Ψ) at21 (Lifetime.g-end 𝓤 H A W E G75 16 Path'.refl) d21
+          d22 : Typed.Typed 𝓤 H A 𝓣 E G73 b36 Δ0 at22
+          d22 = Typed.s-seq 𝓤 H A W 𝓣 E G73 G74 b28 b35 Δ0 (Typed.both s72) at21 (Plain.t-call-plain 𝓤 H A W 𝓣 1 ps·7 r·7 (claims· .14) (claims· .15) "fiduccia_mattheyses::clear" (known .7) E (λ pos β. β) G73 (record { pos = 39; ty = Syntax.tyRef Syntax.erased Syntax.mut MoveTy.behind; ref = λ x. x }, (Num.vAt 11 λ x. x, tt)) 37 (List._∷_ 16 List.[]) (Call.sub-id 𝓤 H A W (G73 .slots)) (Reads'.as-is 𝓤 H A (Mut.mslice MoveTy.R (Syntax.tyRef Syntax.erased Syntax.mut MoveTy.behind) 16), Mut.reads-mslice 𝓤 H A W MoveTy.R (Syntax.tyRef Syntax.erased Syntax.mut MoveTy.behind) 16, Path'.refl, ((Scalar.reads-sc 𝓤 H A W (Row.sInt Syntax.w64), Path'.refl), tt)) (Reads'.room-gone 𝓤 H A Syntax.tyUnit) (tt, tt) Path'.refl) d21
 
-          d23 : Typed.Typed 𝓤 H A 𝓣 E G74 b37 Δ0 at23
-          d23 = Typed.g-pre 𝓤 H A W 𝓣 E G74 G75 b37 Δ0 (Typed.pass T74 T75 s73) at22 (Scalar.g-room 𝓤 H A W E G74 37 Syntax.tyUnit (Scalar.room-sc 𝓤 H A W Row.sUnit)) d22
+          d23 : Typed.Typed 𝓤 H A 𝓣 E G72 b37 Δ0 at23
+          d23 = Typed.s-seq 𝓤 H A W 𝓣 E G72 G73 b27 b36 Δ0 (Typed.ask s71) at22 (Relend.t-sl-aggregate 𝓤 H A W E MoveTy.R 𝓣 (Relend.asMut MoveTy.R) G72 38 39 16 (Syntax.tyRef Syntax.erased Syntax.mut MoveTy.behind) (Syntax.tyRef Syntax.erased Syntax.mut MoveTy.behind) (λ x. x) (Scalar.oFld 7 (List._∷_ (Syntax.field 1) List.[]) (Syntax.tyInt Syntax.w64) 8 λ v. Shared.lenV (v .0)) (Reads'.as-is 𝓤 H A (Relend.msptr MoveTy.R (Syntax.tyRef Syntax.erased Syntax.mut MoveTy.behind) 16)) (Reads'.room-gone 𝓤 H A (Syntax.tyStruct (List._∷_ 38 (List._∷_ 91 (List._∷_ 93 List.[]))) (Syntax.tcons (Syntax.tyRef Syntax.erased Syntax.mut MoveTy.behind) (Syntax.tcons (Syntax.tyInt Syntax.w64) Syntax.tnil)))) (Relend.reads-owed-len 𝓤 H A W MoveTy.R (Syntax.tyRef (Syntax.named 6) Syntax.mut MoveTy.behind) 6 16 (Row.lease (κs .1 .1 .1 .1 .1 .1 .0) (qs .1 .1 .1 .1 .1 .1 .0)) 8 Path'.refl, Path'.refl) Path'.refl Path'.refl λ b o k. tt) d22
 
-          d24 : Typed.Typed 𝓤 H A 𝓣 E G73 b38 Δ0 at24
-          d24 = Typed.s-seq 𝓤 H A W 𝓣 E G73 G74 b28 b37 Δ0 (Typed.both s72) at23 (Plain.t-call-plain 𝓤 H A W 𝓣 1 ps·7 r·7 (claims· .14) (claims· .15) "lists::clear_gains" (known .7) E (λ pos β. β) G73 (record { pos = 39; ty = Syntax.tyRef Syntax.erased Syntax.mut (Syntax.tyInt Syntax.w64); ref = λ x. x }, (Num.vAt 11 λ x. x, tt)) 37 (List._∷_ 16 List.[]) (Call.sub-id 𝓤 H A W (G73 .slots)) (Reads'.as-is 𝓤 H A (Mut.mslice (Signed.SInt Syntax.w64) (Syntax.tyRef Syntax.erased Syntax.mut (Syntax.tyInt Syntax.w64)) 16), Mut.reads-mslice 𝓤 H A W (Signed.SInt Syntax.w64) (Syntax.tyRef Syntax.erased Syntax.mut (Syntax.tyInt Syntax.w64)) 16, Path'.refl, ((Scalar.reads-sc 𝓤 H A W (Row.sInt Syntax.w64), Path'.refl), tt)) (Reads'.room-gone 𝓤 H A Syntax.tyUnit) (tt, tt) Path'.refl) d23
+          d24 : Typed.Typed 𝓤 H A 𝓣 E G71 b38 Δ0 at24
+          d24 = Typed.s-seq 𝓤 H A W 𝓣 E G71 G72 b26 b37 Δ0 (Typed.give s70) at23 (Relend.t-sl-relend 𝓤 H A W E MoveTy.R 𝓣 G71 7 38 6 16 (Syntax.tyRef (Syntax.named 6) Syntax.mut MoveTy.behind) (Syntax.tyRef Syntax.erased Syntax.mut MoveTy.behind) (Row.lease (κs .1 .1 .1 .1 .1 .1 .0) (qs .1 .1 .1 .1 .1 .1 .0)) 0 (λ x. x) (Reads'.as-is 𝓤 H A (Mut.mslice MoveTy.R (Syntax.tyRef (Syntax.named 6) Syntax.mut MoveTy.behind) 6)) (Reads'.room-gone 𝓤 H A (Syntax.tyRef Syntax.erased Syntax.mut MoveTy.behind)) Path'.refl tt Path'.refl Path'.refl Path'.refl λ b o. tt) d23
 
-          d25 : Typed.Typed 𝓤 H A 𝓣 E G72 b39 Δ0 at25
-          d25 = Typed.s-seq 𝓤 H A W 𝓣 E G72 G73 b27 b38 Δ0 (Typed.ask s71) at24 (Relend.t-sl-aggregate 𝓤 H A W E (Signed.SInt Syntax.w64) 𝓣 (Relend.asMut (Signed.SInt Syntax.w64)) G72 38 39 16 (Syntax.tyRef Syntax.erased Syntax.mut (Syntax.tyInt Syntax.w64)) (Syntax.tyRef Syntax.erased Syntax.mut (Syntax.tyInt Syntax.w64)) (λ x. x) (Scalar.oFld 6 (List._∷_ (Syntax.field 1) List.[]) (Syntax.tyInt Syntax.w64) 8 λ v. Shared.lenV (v .0)) (Reads'.as-is 𝓤 H A (Relend.msptr (Signed.SInt Syntax.w64) (Syntax.tyRef Syntax.erased Syntax.mut (Syntax.tyInt Syntax.w64)) 16)) (Reads'.room-gone 𝓤 H A (Syntax.tyStruct (List._∷_ 38 (List._∷_ 91 (List._∷_ 93 List.[]))) (Syntax.tcons (Syntax.tyRef Syntax.erased Syntax.mut (Syntax.tyInt Syntax.w64)) (Syntax.tcons (Syntax.tyInt Syntax.w64) Syntax.tnil)))) (Relend.reads-owed-len 𝓤 H A W (Signed.SInt Syntax.w64) (Syntax.tyRef (Syntax.named 5) Syntax.mut (Syntax.tyInt Syntax.w64)) 5 16 (Row.lease (κs .1 .1 .1 .1 .1 .0) (qs .1 .1 .1 .1 .1 .0)) 8 Path'.refl, Path'.refl) Path'.refl Path'.refl λ b o k. tt) d24
+          d25 : Typed.Typed 𝓤 H A 𝓣 E G70 b38 Δ0 at25
+          d25 = Typed.g-pre 𝓤 H A W 𝓣 E G70 G71 b38 Δ0 (λ Ψ. Ψ) at24 (Lifetime.g-begin 𝓤 H A W E G70 16 (tt, (tt, (tt, (tt, (tt, (tt, (tt, (tt, (tt, (tt, (tt, (tt, (tt, (tt, (tt, (tt, (tt, (tt, (tt, (tt, (tt, (tt, (tt, (tt, (tt, (tt, (tt, (tt, (tt, (tt, (tt, (tt, (tt, (tt, (tt, (tt, (tt, (tt, (tt, (tt, (tt, (tt, tt))))))))))))))))))))))))))))))))))))))))))) d24
 
-          d26 : Typed.Typed 𝓤 H A 𝓣 E G71 b40 Δ0 at26
-          d26 = Typed.s-seq 𝓤 H A W 𝓣 E G71 G72 b26 b39 Δ0 (Typed.give s70) at25 (Relend.t-sl-relend 𝓤 H A W E (Signed.SInt Syntax.w64) 𝓣 G71 6 38 5 16 (Syntax.tyRef (Syntax.named 5) Syntax.mut (Syntax.tyInt Syntax.w64)) (Syntax.tyRef Syntax.erased Syntax.mut (Syntax.tyInt Syntax.w64)) (Row.lease (κs .1 .1 .1 .1 .1 .0) (qs .1 .1 .1 .1 .1 .0)) 0 (λ x. x) (Reads'.as-is 𝓤 H A (Mut.mslice (Signed.SInt Syntax.w64) (Syntax.tyRef (Syntax.named 5) Syntax.mut (Syntax.tyInt Syntax.w64)) 5)) (Reads'.room-gone 𝓤 H A (Syntax.tyRef Syntax.erased Syntax.mut (Syntax.tyInt Syntax.w64))) Path'.refl tt Path'.refl Path'.refl Path'.refl λ b o. tt) d25
+          d26 : Typed.Typed 𝓤 H A 𝓣 E G69 b38 Δ0 at26
+          d26 = Typed.g-pre 𝓤 H A W 𝓣 E G69 G70 b38 Δ0 (λ Ψ. Ψ) at25 (Lifetime.g-forget 𝓤 H A W E G69 15 Row.dead Path'.refl) d25
 
-          d27 : Typed.Typed 𝓤 H A 𝓣 E G70 b40 Δ0 at27
-          d27 = Typed.g-pre 𝓤 H A W 𝓣 E G70 G71 b40 Δ0 (λ Ψ. Ψ) at26 (Lifetime.g-begin 𝓤 H A W E G70 16 (tt, (tt, (tt, (tt, (tt, (tt, (tt, (tt, (tt, (tt, (tt, (tt, (tt, (tt, (tt, (tt, (tt, (tt, (tt, (tt, (tt, (tt, (tt, (tt, (tt, (tt, (tt, (tt, (tt, (tt, (tt, (tt, (tt, (tt, (tt, (tt, (tt, (tt, (tt, (tt, (tt, (tt, tt))))))))))))))))))))))))))))))))))))))))))) d26
+          d27 : Typed.Typed 𝓤 H A 𝓣 E G68 b38 Δ0 at27
+          d27 = Typed.g-pre 𝓤 H A W 𝓣 E G68 G69 b38 Δ0 (Typed.give s67) at26 (Know.g-sl-known 𝓤 H A W (Referent.fInt Syntax.w32) E G68 9 8 (Syntax.tyRef (Syntax.named 8) Syntax.mut (Syntax.tyInt Syntax.w32)) (Row.lease (κs .1 .1 .1 .1 .1 .1 .1 .1 .0) (qs .1 .1 .1 .1 .1 .1 .1 .1 .0)) 0 (λ x. x) record { fits = Dec'.lit< tt } (Reads'.as-is 𝓤 H A (Mut.mslice (Referent.rtF (Referent.fInt Syntax.w32)) (Syntax.tyRef (Syntax.named 8) Syntax.mut (Syntax.tyInt Syntax.w32)) 8)) Path'.refl tt) d26
 
-          d28 : Typed.Typed 𝓤 H A 𝓣 E G69 b40 Δ0 at28
-          d28 = Typed.g-pre 𝓤 H A W 𝓣 E G69 G70 b40 Δ0 (λ Ψ. Ψ) at27 (Lifetime.g-forget 𝓤 H A W E G69 15 Row.dead Path'.refl) d27
+          d28 : Typed.Typed 𝓤 H A 𝓣 E G67 b38 Δ0 at28
+          d28 = Typed.g-pre 𝓤 H A W 𝓣 E G67 G68 b38 Δ0 (Typed.both s66) at27 (Relend.g-back-sl 𝓤 H A W E (Referent.rtF (Referent.fInt Syntax.w32)) G67 36 9 8 15 (Syntax.tyRef (Syntax.named 8) Syntax.mut (Syntax.tyInt Syntax.w32)) (Syntax.tyRef Syntax.erased Syntax.mut (Syntax.tyInt Syntax.w32)) (Row.lease (κs .1 .1 .1 .1 .1 .1 .1 .1 .0) (qs .1 .1 .1 .1 .1 .1 .1 .1 .0)) (λ x. x) (λ x. x) (Reads'.as-is 𝓤 H A (Mut.msleft (Referent.rtF (Referent.fInt Syntax.w32)) (Syntax.tyRef Syntax.erased Syntax.mut (Syntax.tyInt Syntax.w32)))) (Reads'.as-is 𝓤 H A (Relend.mslice-owed (Referent.rtF (Referent.fInt Syntax.w32)) (Syntax.tyRef (Syntax.named 8) Syntax.mut (Syntax.tyInt Syntax.w32)) 8 15 (Row.lease (κs .1 .1 .1 .1 .1 .1 .1 .1 .0) (qs .1 .1 .1 .1 .1 .1 .1 .1 .0)))) Path'.refl Path'.refl) d27
 
-          d29 : Typed.Typed 𝓤 H A 𝓣 E G68 b40 Δ0 at29
-          d29 = Typed.g-pre 𝓤 H A W 𝓣 E G68 G69 b40 Δ0 (Typed.give s67) at28 (Know.g-sl-known 𝓤 H A W (Referent.fInt Syntax.w32) E G68 9 8 (Syntax.tyRef (Syntax.named 8) Syntax.mut (Syntax.tyInt Syntax.w32)) (Row.lease (κs .1 .1 .1 .1 .1 .1 .1 .1 .0) (qs .1 .1 .1 .1 .1 .1 .1 .1 .0)) 0 (λ x. x) record { fits = Dec'.lit< tt } (Reads'.as-is 𝓤 H A (Mut.mslice (Referent.rtF (Referent.fInt Syntax.w32)) (Syntax.tyRef (Syntax.named 8) Syntax.mut (Syntax.tyInt Syntax.w32)) 8)) Path'.refl tt) d28
+          d29 : Typed.Typed 𝓤 H A 𝓣 E G66 b38 Δ0 at29
+          d29 = Typed.g-pre 𝓤 H A W 𝓣 E G66 G67 b38 Δ0 (λ Ψ. Ψ) at28 (Lifetime.g-end 𝓤 H A W E G66 15 Path'.refl) d28
 
-          d30 : Typed.Typed 𝓤 H A 𝓣 E G67 b40 Δ0 at30
-          d30 = Typed.g-pre 𝓤 H A W 𝓣 E G67 G68 b40 Δ0 (Typed.both s66) at29 (Relend.g-back-sl 𝓤 H A W E (Referent.rtF (Referent.fInt Syntax.w32)) G67 36 9 8 15 (Syntax.tyRef (Syntax.named 8) Syntax.mut (Syntax.tyInt Syntax.w32)) (Syntax.tyRef Syntax.erased Syntax.mut (Syntax.tyInt Syntax.w32)) (Row.lease (κs .1 .1 .1 .1 .1 .1 .1 .1 .0) (qs .1 .1 .1 .1 .1 .1 .1 .1 .0)) (λ x. x) (λ x. x) (Reads'.as-is 𝓤 H A (Mut.msleft (Referent.rtF (Referent.fInt Syntax.w32)) (Syntax.tyRef Syntax.erased Syntax.mut (Syntax.tyInt Syntax.w32)))) (Reads'.as-is 𝓤 H A (Relend.mslice-owed (Referent.rtF (Referent.fInt Syntax.w32)) (Syntax.tyRef (Syntax.named 8) Syntax.mut (Syntax.tyInt Syntax.w32)) 8 15 (Row.lease (κs .1 .1 .1 .1 .1 .1 .1 .1 .0) (qs .1 .1 .1 .1 .1 .1 .1 .1 .0)))) Path'.refl Path'.refl) d29
+          d30 : Typed.Typed 𝓤 H A 𝓣 E G65 b38 Δ0 at30
+          d30 = Typed.g-pre 𝓤 H A W 𝓣 E G65 G66 b38 Δ0 (λ Ψ. Ψ) at29 (Lifetime.g-forget 𝓤 H A W E G65 14 Row.dead Path'.refl) d29
 
-          d31 : Typed.Typed 𝓤 H A 𝓣 E G66 b40 Δ0 at31
-          d31 = Typed.g-pre 𝓤 H A W 𝓣 E G66 G67 b40 Δ0 (λ Ψ. Ψ) at30 (Lifetime.g-end 𝓤 H A W E G66 15 Path'.refl) d30
+          d31 : Typed.Typed 𝓤 H A 𝓣 E G64 b38 Δ0 at31
+          d31 = Typed.g-pre 𝓤 H A W 𝓣 E G64 G65 b38 Δ0 (Typed.give s63) at30 (Know.g-sl-known 𝓤 H A W (Referent.fInt Syntax.w32) E G64 8 7 (Syntax.tyRef (Syntax.named 7) Syntax.mut (Syntax.tyInt Syntax.w32)) (Row.lease (κs .1 .1 .1 .1 .1 .1 .1 .0) (qs .1 .1 .1 .1 .1 .1 .1 .0)) 0 (λ x. x) record { fits = Dec'.lit< tt } (Reads'.as-is 𝓤 H A (Mut.mslice (Referent.rtF (Referent.fInt Syntax.w32)) (Syntax.tyRef (Syntax.named 7) Syntax.mut (Syntax.tyInt Syntax.w32)) 7)) Path'.refl tt) d30
 
-          d32 : Typed.Typed 𝓤 H A 𝓣 E G65 b40 Δ0 at32
-          d32 = Typed.g-pre 𝓤 H A W 𝓣 E G65 G66 b40 Δ0 (λ Ψ. Ψ) at31 (Lifetime.g-forget 𝓤 H A W E G65 14 Row.dead Path'.refl) d31
+          d32 : Typed.Typed 𝓤 H A 𝓣 E G63 b38 Δ0 at32
+          d32 = Typed.g-pre 𝓤 H A W 𝓣 E G63 G64 b38 Δ0 (Typed.both s62) at31 (Relend.g-back-sl 𝓤 H A W E (Referent.rtF (Referent.fInt Syntax.w32)) G63 34 8 7 14 (Syntax.tyRef (Syntax.named 7) Syntax.mut (Syntax.tyInt Syntax.w32)) (Syntax.tyRef Syntax.erased Syntax.mut (Syntax.tyInt Syntax.w32)) (Row.lease (κs .1 .1 .1 .1 .1 .1 .1 .0) (qs .1 .1 .1 .1 .1 .1 .1 .0)) (λ x. x) (λ x. x) (Reads'.as-is 𝓤 H A (Mut.msleft (Referent.rtF (Referent.fInt Syntax.w32)) (Syntax.tyRef Syntax.erased Syntax.mut (Syntax.tyInt Syntax.w32)))) (Reads'.as-is 𝓤 H A (Relend.mslice-owed (Referent.rtF (Referent.fInt Syntax.w32)) (Syntax.tyRef (Syntax.named 7) Syntax.mut (Syntax.tyInt Syntax.w32)) 7 14 (Row.lease (κs .1 .1 .1 .1 .1 .1 .1 .0) (qs .1 .1 .1 .1 .1 .1 .1 .0)))) Path'.refl Path'.refl) d31
 
-          d33 : Typed.Typed 𝓤 H A 𝓣 E G64 b40 Δ0 at33
-          d33 = Typed.g-pre 𝓤 H A W 𝓣 E G64 G65 b40 Δ0 (Typed.give s63) at32 (Know.g-sl-known 𝓤 H A W (Referent.fInt Syntax.w32) E G64 8 7 (Syntax.tyRef (Syntax.named 7) Syntax.mut (Syntax.tyInt Syntax.w32)) (Row.lease (κs .1 .1 .1 .1 .1 .1 .1 .0) (qs .1 .1 .1 .1 .1 .1 .1 .0)) 0 (λ x. x) record { fits = Dec'.lit< tt } (Reads'.as-is 𝓤 H A (Mut.mslice (Referent.rtF (Referent.fInt Syntax.w32)) (Syntax.tyRef (Syntax.named 7) Syntax.mut (Syntax.tyInt Syntax.w32)) 7)) Path'.refl tt) d32
+          d33 : Typed.Typed 𝓤 H A 𝓣 E G62 b38 Δ0 at33
+          d33 = Typed.g-pre 𝓤 H A W 𝓣 E G62 G63 b38 Δ0 (λ Ψ. Ψ) at32 (Lifetime.g-end 𝓤 H A W E G62 14 Path'.refl) d32
 
-          d34 : Typed.Typed 𝓤 H A 𝓣 E G63 b40 Δ0 at34
-          d34 = Typed.g-pre 𝓤 H A W 𝓣 E G63 G64 b40 Δ0 (Typed.both s62) at33 (Relend.g-back-sl 𝓤 H A W E (Referent.rtF (Referent.fInt Syntax.w32)) G63 34 8 7 14 (Syntax.tyRef (Syntax.named 7) Syntax.mut (Syntax.tyInt Syntax.w32)) (Syntax.tyRef Syntax.erased Syntax.mut (Syntax.tyInt Syntax.w32)) (Row.lease (κs .1 .1 .1 .1 .1 .1 .1 .0) (qs .1 .1 .1 .1 .1 .1 .1 .0)) (λ x. x) (λ x. x) (Reads'.as-is 𝓤 H A (Mut.msleft (Referent.rtF (Referent.fInt Syntax.w32)) (Syntax.tyRef Syntax.erased Syntax.mut (Syntax.tyInt Syntax.w32)))) (Reads'.as-is 𝓤 H A (Relend.mslice-owed (Referent.rtF (Referent.fInt Syntax.w32)) (Syntax.tyRef (Syntax.named 7) Syntax.mut (Syntax.tyInt Syntax.w32)) 7 14 (Row.lease (κs .1 .1 .1 .1 .1 .1 .1 .0) (qs .1 .1 .1 .1 .1 .1 .1 .0)))) Path'.refl Path'.refl) d33
+          d34 : Typed.Typed 𝓤 H A 𝓣 E G61 b38 Δ0 at34
+          d34 = Typed.g-pre 𝓤 H A W 𝓣 E G61 G62 b38 Δ0 (λ Ψ. Ψ) at33 (Lifetime.g-forget 𝓤 H A W E G61 13 Row.dead Path'.refl) d33
 
-          d35 : Typed.Typed 𝓤 H A 𝓣 E G62 b40 Δ0 at35
-          d35 = Typed.g-pre 𝓤 H A W 𝓣 E G62 G63 b40 Δ0 (λ Ψ. Ψ) at34 (Lifetime.g-end 𝓤 H A W E G62 14 Path'.refl) d34
+          d35 : Typed.Typed 𝓤 H A 𝓣 E G60 b38 Δ0 at35
+          d35 = Typed.g-pre 𝓤 H A W 𝓣 E G60 G61 b38 Δ0 (Typed.both s59) at34 (Relend.g-back-sl 𝓤 H A W E MoveTy.R G60 32 7 6 13 (Syntax.tyRef (Syntax.named 6) Syntax.mut MoveTy.behind) (Syntax.tyRef Syntax.erased Syntax.mut MoveTy.behind) (Row.lease (κs .1 .1 .1 .1 .1 .1 .0) (qs .1 .1 .1 .1 .1 .1 .0)) (λ x. x) (λ x. x) (Reads'.as-is 𝓤 H A (Mut.msleft MoveTy.R (Syntax.tyRef Syntax.erased Syntax.mut MoveTy.behind))) (Reads'.as-is 𝓤 H A (Relend.mslice-owed MoveTy.R (Syntax.tyRef (Syntax.named 6) Syntax.mut MoveTy.behind) 6 13 (Row.lease (κs .1 .1 .1 .1 .1 .1 .0) (qs .1 .1 .1 .1 .1 .1 .0)))) Path'.refl Path'.refl) d34
 
-          d36 : Typed.Typed 𝓤 H A 𝓣 E G61 b40 Δ0 at36
-          d36 = Typed.g-pre 𝓤 H A W 𝓣 E G61 G62 b40 Δ0 (λ Ψ. Ψ) at35 (Lifetime.g-forget 𝓤 H A W E G61 13 Row.dead Path'.refl) d35
+          d36 : Typed.Typed 𝓤 H A 𝓣 E G59 b38 Δ0 at36
+          d36 = Typed.g-pre 𝓤 H A W 𝓣 E G59 G60 b38 Δ0 (λ Ψ. Ψ) at35 (Lifetime.g-end 𝓤 H A W E G59 13 Path'.refl) d35
 
-          d37 : Typed.Typed 𝓤 H A 𝓣 E G60 b40 Δ0 at37
-          d37 = Typed.g-pre 𝓤 H A W 𝓣 E G60 G61 b40 Δ0 (Typed.both s59) at36 (Relend.g-back-sl 𝓤 H A W E MoveTy.R G60 32 7 6 13 (Syntax.tyRef (Syntax.named 6) Syntax.mut MoveTy.behind) (Syntax.tyRef Syntax.erased Syntax.mut MoveTy.behind) (Row.lease (κs .1 .1 .1 .1 .1 .1 .0) (qs .1 .1 .1 .1 .1 .1 .0)) (λ x. x) (λ x. x) (Reads'.as-is 𝓤 H A (Mut.msleft MoveTy.R (Syntax.tyRef Syntax.erased Syntax.mut MoveTy.behind))) (Reads'.as-is 𝓤 H A (Relend.mslice-owed MoveTy.R (Syntax.tyRef (Syntax.named 6) Syntax.mut MoveTy.behind) 6 13 (Row.lease (κs .1 .1 .1 .1 .1 .1 .0) (qs .1 .1 .1 .1 .1 .1 .0)))) Path'.refl Path'.refl) d36
+          d37 : Typed.Typed 𝓤 H A 𝓣 E G58 b38 Δ0 at37
+          d37 = Typed.g-pre 𝓤 H A W 𝓣 E G58 G59 b38 Δ0 (λ Ψ. Ψ) at36 (Lifetime.g-forget 𝓤 H A W E G58 12 Row.dead Path'.refl) d36
 
-          d38 : Typed.Typed 𝓤 H A 𝓣 E G59 b40 Δ0 at38
-          d38 = Typed.g-pre 𝓤 H A W 𝓣 E G59 G60 b40 Δ0 (λ Ψ. Ψ) at37 (Lifetime.g-end 𝓤 H A W E G59 13 Path'.refl) d37
+          d38 : Typed.Typed 𝓤 H A 𝓣 E G57 b38 Δ0 at38
+          d38 = Typed.g-pre 𝓤 H A W 𝓣 E G57 G58 b38 Δ0 (Typed.both s56) at37 (Part.g-back-slᵖ 𝓤 H A W E (Signed.SInt Syntax.w64) G57 30 6 5 12 (Syntax.tyRef (Syntax.named 5) Syntax.mut (Syntax.tyInt Syntax.w64)) (Syntax.tyRef Syntax.erased Syntax.mut (Syntax.tyInt Syntax.w64)) (Row.lease (κs .1 .1 .1 .1 .1 .0) (qs .1 .1 .1 .1 .1 .0)) (λ x. x) (λ x. x) (Reads'.as-is 𝓤 H A (Mut.msleft (Signed.SInt Syntax.w64) (Syntax.tyRef Syntax.erased Syntax.mut (Syntax.tyInt Syntax.w64)))) (Reads'.as-is 𝓤 H A (Part.mslice-owedP (Signed.SInt Syntax.w64) (Syntax.tyRef (Syntax.named 5) Syntax.mut (Syntax.tyInt Syntax.w64)) 5 12 (Row.lease (κs .1 .1 .1 .1 .1 .0) (qs .1 .1 .1 .1 .1 .0)))) Path'.refl Path'.refl) d37
 
-          d39 : Typed.Typed 𝓤 H A 𝓣 E G58 b40 Δ0 at39
-          d39 = Typed.g-pre 𝓤 H A W 𝓣 E G58 G59 b40 Δ0 (λ Ψ. Ψ) at38 (Lifetime.g-forget 𝓤 H A W E G58 12 Row.dead Path'.refl) d38
+          d39 : Typed.Typed 𝓤 H A 𝓣 E G56 b38 Δ0 at39
+          d39 = Typed.g-pre 𝓤 H A W 𝓣 E G56 G57 b38 Δ0 (λ Ψ. Ψ) at38 (Lifetime.g-end 𝓤 H A W E G56 12 Path'.refl) d38
 
-          d40 : Typed.Typed 𝓤 H A 𝓣 E G57 b40 Δ0 at40
-          d40 = Typed.g-pre 𝓤 H A W 𝓣 E G57 G58 b40 Δ0 (Typed.both s56) at39 (Part.g-back-slᵖ 𝓤 H A W E (Signed.SInt Syntax.w64) G57 30 6 5 12 (Syntax.tyRef (Syntax.named 5) Syntax.mut (Syntax.tyInt Syntax.w64)) (Syntax.tyRef Syntax.erased Syntax.mut (Syntax.tyInt Syntax.w64)) (Row.lease (κs .1 .1 .1 .1 .1 .0) (qs .1 .1 .1 .1 .1 .0)) (λ x. x) (λ x. x) (Reads'.as-is 𝓤 H A (Mut.msleft (Signed.SInt Syntax.w64) (Syntax.tyRef Syntax.erased Syntax.mut (Syntax.tyInt Syntax.w64)))) (Reads'.as-is 𝓤 H A (Part.mslice-owedP (Signed.SInt Syntax.w64) (Syntax.tyRef (Syntax.named 5) Syntax.mut (Syntax.tyInt Syntax.w64)) 5 12 (Row.lease (κs .1 .1 .1 .1 .1 .0) (qs .1 .1 .1 .1 .1 .0)))) Path'.refl Path'.refl) d39
+          d40 : Typed.Typed 𝓤 H A 𝓣 E G55 b38 Δ0 at40
+          d40 = Typed.g-pre 𝓤 H A W 𝓣 E G55 G56 b38 Δ0 (λ Ψ. Ψ) at39 (Lifetime.g-forget 𝓤 H A W E G55 11 Row.dead Path'.refl) d39
 
-          d41 : Typed.Typed 𝓤 H A 𝓣 E G56 b40 Δ0 at41
-          d41 = Typed.g-pre 𝓤 H A W 𝓣 E G56 G57 b40 Δ0 (λ Ψ. Ψ) at40 (Lifetime.g-end 𝓤 H A W E G56 12 Path'.refl) d40
+          d41 : Typed.Typed 𝓤 H A 𝓣 E G54 b38 Δ0 at41
+          d41 = Typed.g-pre 𝓤 H A W 𝓣 E G54 G55 b38 Δ0 (Typed.give s53) at40 (Know.g-sl-known 𝓤 H A W (Referent.fInt Syntax.w32) E G54 5 4 (Syntax.tyRef (Syntax.named 4) Syntax.mut (Syntax.tyInt Syntax.w32)) (Row.lease (κs .1 .1 .1 .1 .0) (qs .1 .1 .1 .1 .0)) 0 (λ x. x) record { fits = Dec'.lit< tt } (Reads'.as-is 𝓤 H A (Mut.mslice (Referent.rtF (Referent.fInt Syntax.w32)) (Syntax.tyRef (Syntax.named 4) Syntax.mut (Syntax.tyInt Syntax.w32)) 4)) Path'.refl tt) d40
 
-          d42 : Typed.Typed 𝓤 H A 𝓣 E G55 b40 Δ0 at42
-          d42 = Typed.g-pre 𝓤 H A W 𝓣 E G55 G56 b40 Δ0 (λ Ψ. Ψ) at41 (Lifetime.g-forget 𝓤 H A W E G55 11 Row.dead Path'.refl) d41
+          d42 : Typed.Typed 𝓤 H A 𝓣 E G53 b38 Δ0 at42
+          d42 = Typed.g-pre 𝓤 H A W 𝓣 E G53 G54 b38 Δ0 (Typed.both s52) at41 (Relend.g-back-sl 𝓤 H A W E (Referent.rtF (Referent.fInt Syntax.w32)) G53 28 5 4 11 (Syntax.tyRef (Syntax.named 4) Syntax.mut (Syntax.tyInt Syntax.w32)) (Syntax.tyRef Syntax.erased Syntax.mut (Syntax.tyInt Syntax.w32)) (Row.lease (κs .1 .1 .1 .1 .0) (qs .1 .1 .1 .1 .0)) (λ x. x) (λ x. x) (Reads'.as-is 𝓤 H A (Mut.msleft (Referent.rtF (Referent.fInt Syntax.w32)) (Syntax.tyRef Syntax.erased Syntax.mut (Syntax.tyInt Syntax.w32)))) (Reads'.as-is 𝓤 H A (Relend.mslice-owed (Referent.rtF (Referent.fInt Syntax.w32)) (Syntax.tyRef (Syntax.named 4) Syntax.mut (Syntax.tyInt Syntax.w32)) 4 11 (Row.lease (κs .1 .1 .1 .1 .0) (qs .1 .1 .1 .1 .0)))) Path'.refl Path'.refl) d41
 
-          d43 : Typed.Typed 𝓤 H A 𝓣 E G54 b40 Δ0 at43
-          d43 = Typed.g-pre 𝓤 H A W 𝓣 E G54 G55 b40 Δ0 (Typed.give s53) at42 (Know.g-sl-known 𝓤 H A W (Referent.fInt Syntax.w32) E G54 5 4 (Syntax.tyRef (Syntax.named 4) Syntax.mut (Syntax.tyInt Syntax.w32)) (Row.lease (κs .1 .1 .1 .1 .0) (qs .1 .1 .1 .1 .0)) 0 (λ x. x) record { fits = Dec'.lit< tt } (Reads'.as-is 𝓤 H A (Mut.mslice (Referent.rtF (Referent.fInt Syntax.w32)) (Syntax.tyRef (Syntax.named 4) Syntax.mut (Syntax.tyInt Syntax.w32)) 4)) Path'.refl tt) d42
+          d43 : Typed.Typed 𝓤 H A 𝓣 E G52 b38 Δ0 at43
+          d43 = Typed.g-pre 𝓤 H A W 𝓣 E G52 G53 b38 Δ0 (λ Ψ. Ψ) at42 (Lifetime.g-end 𝓤 H A W E G52 11 Path'.refl) d42
 
-          d44 : Typed.Typed 𝓤 H A 𝓣 E G53 b40 Δ0 at44
-          d44 = Typed.g-pre 𝓤 H A W 𝓣 E G53 G54 b40 Δ0 (Typed.both s52) at43 (Relend.g-back-sl 𝓤 H A W E (Referent.rtF (Referent.fInt Syntax.w32)) G53 28 5 4 11 (Syntax.tyRef (Syntax.named 4) Syntax.mut (Syntax.tyInt Syntax.w32)) (Syntax.tyRef Syntax.erased Syntax.mut (Syntax.tyInt Syntax.w32)) (Row.lease (κs .1 .1 .1 .1 .0) (qs .1 .1 .1 .1 .0)) (λ x. x) (λ x. x) (Reads'.as-is 𝓤 H A (Mut.msleft (Referent.rtF (Referent.fInt Syntax.w32)) (Syntax.tyRef Syntax.erased Syntax.mut (Syntax.tyInt Syntax.w32)))) (Reads'.as-is 𝓤 H A (Relend.mslice-owed (Referent.rtF (Referent.fInt Syntax.w32)) (Syntax.tyRef (Syntax.named 4) Syntax.mut (Syntax.tyInt Syntax.w32)) 4 11 (Row.lease (κs .1 .1 .1 .1 .0) (qs .1 .1 .1 .1 .0)))) Path'.refl Path'.refl) d43
+          d44 : Typed.Typed 𝓤 H A 𝓣 E G51 b38 Δ0 at44
+          d44 = Typed.g-pre 𝓤 H A W 𝓣 E G51 G52 b38 Δ0 (Typed.pass T51 T52 s50) at43 (Scalar.g-room 𝓤 H A W E G51 17 (Syntax.tyStruct (List._∷_ 105 (List._∷_ 109 (List._∷_ 98 (List._∷_ 97 (List._∷_ 108 (List._∷_ 97 (List._∷_ 110 (List._∷_ 99 (List._∷_ 101 (List._∷_ 58 (List._∷_ 58 (List._∷_ 67 (List._∷_ 101 (List._∷_ 105 (List._∷_ 108 (List._∷_ 105 (List._∷_ 110 (List._∷_ 103 (List._∷_ 115 List.[]))))))))))))))))))) (Syntax.tcons (Syntax.tyArray (Syntax.tyInt Syntax.w64) 16) Syntax.tnil)) (Local.room-whole 𝓤 H A W (Declared.row Ceilings.the-type) (Syntax.tyStruct (List._∷_ 105 (List._∷_ 109 (List._∷_ 98 (List._∷_ 97 (List._∷_ 108 (List._∷_ 97 (List._∷_ 110 (List._∷_ 99 (List._∷_ 101 (List._∷_ 58 (List._∷_ 58 (List._∷_ 67 (List._∷_ 101 (List._∷_ 105 (List._∷_ 108 (List._∷_ 105 (List._∷_ 110 (List._∷_ 103 (List._∷_ 115 List.[]))))))))))))))))))) (Syntax.tcons (Syntax.tyArray (Syntax.tyInt Syntax.w64) 16) Syntax.tnil)) Path'.refl)) d43
 
-          d45 : Typed.Typed 𝓤 H A 𝓣 E G52 b40 Δ0 at45
-          d45 = Typed.g-pre 𝓤 H A W 𝓣 E G52 G53 b40 Δ0 (λ Ψ. Ψ) at44 (Lifetime.g-end 𝓤 H A W E G52 11 Path'.refl) d44
+          d45 : Typed.Typed 𝓤 H A 𝓣 E G50 b38 Δ0 at45
+          d45 = Typed.g-pre 𝓤 H A W 𝓣 E G50 G51 b38 Δ0 (Typed.pass T50 T51 s49) at44 (Scalar.g-room 𝓤 H A W E G50 12 (Syntax.tyStruct (List._∷_ 105 (List._∷_ 109 (List._∷_ 98 (List._∷_ 97 (List._∷_ 108 (List._∷_ 97 (List._∷_ 110 (List._∷_ 99 (List._∷_ 101 (List._∷_ 58 (List._∷_ 58 (List._∷_ 76 (List._∷_ 111 (List._∷_ 97 (List._∷_ 100 (List._∷_ 115 List.[])))))))))))))))) (Syntax.tcons (Syntax.tyArray (Syntax.tyInt Syntax.w64) 16) Syntax.tnil)) (Local.room-whole 𝓤 H A W (Declared.row Loads.the-type) (Syntax.tyStruct (List._∷_ 105 (List._∷_ 109 (List._∷_ 98 (List._∷_ 97 (List._∷_ 108 (List._∷_ 97 (List._∷_ 110 (List._∷_ 99 (List._∷_ 101 (List._∷_ 58 (List._∷_ 58 (List._∷_ 76 (List._∷_ 111 (List._∷_ 97 (List._∷_ 100 (List._∷_ 115 List.[])))))))))))))))) (Syntax.tcons (Syntax.tyArray (Syntax.tyInt Syntax.w64) 16) Syntax.tnil)) Path'.refl)) d44
 
-          d46 : Typed.Typed 𝓤 H A 𝓣 E G51 b40 Δ0 at46
-          d46 = Typed.g-pre 𝓤 H A W 𝓣 E G51 G52 b40 Δ0 (Typed.pass T51 T52 s50) at45 (Scalar.g-room 𝓤 H A W E G51 17 (Syntax.tyStruct (List._∷_ 105 (List._∷_ 109 (List._∷_ 98 (List._∷_ 97 (List._∷_ 108 (List._∷_ 97 (List._∷_ 110 (List._∷_ 99 (List._∷_ 101 (List._∷_ 58 (List._∷_ 58 (List._∷_ 67 (List._∷_ 101 (List._∷_ 105 (List._∷_ 108 (List._∷_ 105 (List._∷_ 110 (List._∷_ 103 (List._∷_ 115 List.[]))))))))))))))))))) (Syntax.tcons (Syntax.tyArray (Syntax.tyInt Syntax.w64) 16) Syntax.tnil)) (Local.room-whole 𝓤 H A W (Declared.row Ceilings.the-type) (Syntax.tyStruct (List._∷_ 105 (List._∷_ 109 (List._∷_ 98 (List._∷_ 97 (List._∷_ 108 (List._∷_ 97 (List._∷_ 110 (List._∷_ 99 (List._∷_ 101 (List._∷_ 58 (List._∷_ 58 (List._∷_ 67 (List._∷_ 101 (List._∷_ 105 (List._∷_ 108 (List._∷_ 105 (List._∷_ 110 (List._∷_ 103 (List._∷_ 115 List.[]))))))))))))))))))) (Syntax.tcons (Syntax.tyArray (Syntax.tyInt Syntax.w64) 16) Syntax.tnil)) Path'.refl)) d45
+          d46 : Typed.Typed 𝓤 H A 𝓣 E G49 b39 Δ0 at46
+          d46 = Typed.s-seq 𝓤 H A W 𝓣 E G49 G50 b25 b38 Δ0 (Typed.both s48) at45 (Plain.t-call-plain 𝓤 H A W 𝓣 9 ps·6 r·6 (claims· .12) (claims· .13) "fiduccia_mattheyses::make_passes" (known .6) E (λ pos β. β) G49 (record { pos = 1; ty = Syntax.tyRef (Syntax.named 0) Syntax.imm (Syntax.tyInt Syntax.w32); ref = λ x. x }, (record { pos = 2; ty = Syntax.tyRef (Syntax.named 1) Syntax.imm (Syntax.tyInt Syntax.w32); ref = λ x. x }, (record { pos = 3; ty = Syntax.tyRef (Syntax.named 2) Syntax.imm (Syntax.tyInt Syntax.w32); ref = λ x. x }, (record { pos = 4; ty = Syntax.tyRef (Syntax.named 3) Syntax.imm (Syntax.tyInt Syntax.w32); ref = λ x. x }, (record { pos = 28; ty = Syntax.tyRef Syntax.erased Syntax.mut (Syntax.tyInt Syntax.w32); ref = λ x. x }, (record { pos = 30; ty = Syntax.tyRef Syntax.erased Syntax.mut (Syntax.tyInt Syntax.w64); ref = λ x. x }, (record { pos = 32; ty = Syntax.tyRef Syntax.erased Syntax.mut MoveTy.behind; ref = λ x. x }, (record { pos = 34; ty = Syntax.tyRef Syntax.erased Syntax.mut (Syntax.tyInt Syntax.w32); ref = λ x. x }, (record { pos = 36; ty = Syntax.tyRef Syntax.erased Syntax.mut (Syntax.tyInt Syntax.w32); ref = λ x. x }, (record { pos = 12; st = List.[]; d = 0; at = λ x. x }, (Num.vAt 18 λ x. x, (record { pos = 17; st = List.[]; d = 0; at = λ x. x }, (Num.vAt 19 λ x. x, (Num.vAt 20 λ x. x, (Num.vAt 21 λ x. x, tt))))))))))))))) 22 (List._∷_ 0 (List._∷_ 1 (List._∷_ 2 (List._∷_ 3 (List._∷_ 11 (List._∷_ 12 (List._∷_ 13 (List._∷_ 14 (List._∷_ 15 List.[]))))))))) (Call.sub-id 𝓤 H A W (G49 .slots)) (ShrSlice.spares-sslice 𝓤 H A W (Referent.rtF (Referent.fInt Syntax.w32)) (Syntax.tyRef (Syntax.named 0) Syntax.imm (Syntax.tyInt Syntax.w32)) 0, Shared.reads-sslice 𝓤 H A W (Referent.rtF (Referent.fInt Syntax.w32)) (Syntax.tyRef (Syntax.named 0) Syntax.imm (Syntax.tyInt Syntax.w32)) 0, Path'.refl, (ShrSlice.spares-sslice 𝓤 H A W (Referent.rtF (Referent.fInt Syntax.w32)) (Syntax.tyRef (Syntax.named 1) Syntax.imm (Syntax.tyInt Syntax.w32)) 1, Shared.reads-sslice 𝓤 H A W (Referent.rtF (Referent.fInt Syntax.w32)) (Syntax.tyRef (Syntax.named 1) Syntax.imm (Syntax.tyInt Syntax.w32)) 1, Path'.refl, (ShrSlice.spares-sslice 𝓤 H A W (Referent.rtF (Referent.fInt Syntax.w32)) (Syntax.tyRef (Syntax.named 2) Syntax.imm (Syntax.tyInt Syntax.w32)) 2, Shared.reads-sslice 𝓤 H A W (Referent.rtF (Referent.fInt Syntax.w32)) (Syntax.tyRef (Syntax.named 2) Syntax.imm (Syntax.tyInt Syntax.w32)) 2, Path'.refl, (ShrSlice.spares-sslice 𝓤 H A W (Referent.rtF (Referent.fInt Syntax.w32)) (Syntax.tyRef (Syntax.named 3) Syntax.imm (Syntax.tyInt Syntax.w32)) 3, Shared.reads-sslice 𝓤 H A W (Referent.rtF (Referent.fInt Syntax.w32)) (Syntax.tyRef (Syntax.named 3) Syntax.imm (Syntax.tyInt Syntax.w32)) 3, Path'.refl, (Reads'.as-is 𝓤 H A (Mut.mslice (Referent.rtF (Referent.fInt Syntax.w32)) (Syntax.tyRef Syntax.erased Syntax.mut (Syntax.tyInt Syntax.w32)) 11), Mut.reads-mslice 𝓤 H A W (Referent.rtF (Referent.fInt Syntax.w32)) (Syntax.tyRef Syntax.erased Syntax.mut (Syntax.tyInt Syntax.w32)) 11, Path'.refl, (Reads'.as-is 𝓤 H A (Mut.mslice (Signed.SInt Syntax.w64) (Syntax.tyRef Syntax.erased Syntax.mut (Syntax.tyInt Syntax.w64)) 12), Mut.reads-mslice 𝓤 H A W (Signed.SInt Syntax.w64) (Syntax.tyRef Syntax.erased Syntax.mut (Syntax.tyInt Syntax.w64)) 12, Path'.refl, (Reads'.as-is 𝓤 H A (Mut.mslice MoveTy.R (Syntax.tyRef Syntax.erased Syntax.mut MoveTy.behind) 13), Mut.reads-mslice 𝓤 H A W MoveTy.R (Syntax.tyRef Syntax.erased Syntax.mut MoveTy.behind) 13, Path'.refl, (Reads'.as-is 𝓤 H A (Mut.mslice (Referent.rtF (Referent.fInt Syntax.w32)) (Syntax.tyRef Syntax.erased Syntax.mut (Syntax.tyInt Syntax.w32)) 14), Mut.reads-mslice 𝓤 H A W (Referent.rtF (Referent.fInt Syntax.w32)) (Syntax.tyRef Syntax.erased Syntax.mut (Syntax.tyInt Syntax.w32)) 14, Path'.refl, (Reads'.as-is 𝓤 H A (Mut.mslice (Referent.rtF (Referent.fInt Syntax.w32)) (Syntax.tyRef Syntax.erased Syntax.mut (Syntax.tyInt Syntax.w32)) 15), Mut.reads-mslice 𝓤 H A W (Referent.rtF (Referent.fInt Syntax.w32)) (Syntax.tyRef Syntax.erased Syntax.mut (Syntax.tyInt Syntax.w32)) 15, Path'.refl, ((Yields.yields-copy 𝓤 H A W (λ ρ. Unit) (Declared.row Loads.the-type) Path'.refl (Copies.cStruct Loads.the-type Laws'4.the-laws Laws'4.the-copy .copy 𝓤 H A W) (Rows.whole (Declared.row Loads.the-type)) (λ x. x) (λ x. x) (λ ρ told. Local.mem-whole 𝓤 H A W (Declared.row Loads.the-type) ρ) λ ρ told. Local.whole-mem 𝓤 H A W (Declared.row Loads.the-type) ρ, Path'.refl), ((Scalar.reads-sc 𝓤 H A W (Row.sInt Syntax.w64), Path'.refl), ((Yields.yields-copy 𝓤 H A W (λ ρ. Unit) (Declared.row Ceilings.the-type) Path'.refl (Copies.cStruct Ceilings.the-type Laws'3.the-laws Laws'3.the-copy .copy 𝓤 H A W) (Rows.whole (Declared.row Ceilings.the-type)) (λ x. x) (λ x. x) (λ ρ told. Local.mem-whole 𝓤 H A W (Declared.row Ceilings.the-type) ρ) λ ρ told. Local.whole-mem 𝓤 H A W (Declared.row Ceilings.the-type) ρ, Path'.refl), ((Scalar.reads-sc 𝓤 H A W (Row.sInt Syntax.w64), Path'.refl), ((Scalar.reads-sc 𝓤 H A W (Row.sInt Syntax.w64), Path'.refl), ((Scalar.reads-sc 𝓤 H A W (Row.sInt Syntax.w32), Path'.refl), tt))))))))))))))) (Reads'.room-gone 𝓤 H A (Syntax.tyStruct (List._∷_ 102 (List._∷_ 105 (List._∷_ 100 (List._∷_ 117 (List._∷_ 99 (List._∷_ 99 (List._∷_ 105 (List._∷_ 97 (List._∷_ 95 (List._∷_ 109 (List._∷_ 97 (List._∷_ 116 (List._∷_ 116 (List._∷_ 104 (List._∷_ 101 (List._∷_ 121 (List._∷_ 115 (List._∷_ 101 (List._∷_ 115 (List._∷_ 58 (List._∷_ 58 (List._∷_ 69 (List._∷_ 110 (List._∷_ 100 (List._∷_ 101 (List._∷_ 100 List.[])))))))))))))))))))))))))) (Syntax.tcons (Syntax.tyInt Syntax.w32) (Syntax.tcons (Syntax.tyInt Syntax.w32) (Syntax.tcons (Syntax.tyInt Syntax.w64) (Syntax.tcons (Syntax.tyStruct (List._∷_ 105 (List._∷_ 109 (List._∷_ 98 (List._∷_ 97 (List._∷_ 108 (List._∷_ 97 (List._∷_ 110 (List._∷_ 99 (List._∷_ 101 (List._∷_ 58 (List._∷_ 58 (List._∷_ 76 (List._∷_ 111 (List._∷_ 97 (List._∷_ 100 (List._∷_ 115 List.[])))))))))))))))) (Syntax.tcons (Syntax.tyArray (Syntax.tyInt Syntax.w64) 16) Syntax.tnil)) Syntax.tnil)))))) (tt, (tt, (tt, (tt, (tt, (tt, (tt, (tt, (tt, tt))))))))) Path'.refl) d45
 
-          d47 : Typed.Typed 𝓤 H A 𝓣 E G50 b40 Δ0 at47
-          d47 = Typed.g-pre 𝓤 H A W 𝓣 E G50 G51 b40 Δ0 (Typed.pass T50 T51 s49) at46 (Scalar.g-room 𝓤 H A W E G50 12 (Syntax.tyStruct (List._∷_ 105 (List._∷_ 109 (List._∷_ 98 (List._∷_ 97 (List._∷_ 108 (List._∷_ 97 (List._∷_ 110 (List._∷_ 99 (List._∷_ 101 (List._∷_ 58 (List._∷_ 58 (List._∷_ 76 (List._∷_ 111 (List._∷_ 97 (List._∷_ 100 (List._∷_ 115 List.[])))))))))))))))) (Syntax.tcons (Syntax.tyArray (Syntax.tyInt Syntax.w64) 16) Syntax.tnil)) (Local.room-whole 𝓤 H A W (Declared.row Loads.the-type) (Syntax.tyStruct (List._∷_ 105 (List._∷_ 109 (List._∷_ 98 (List._∷_ 97 (List._∷_ 108 (List._∷_ 97 (List._∷_ 110 (List._∷_ 99 (List._∷_ 101 (List._∷_ 58 (List._∷_ 58 (List._∷_ 76 (List._∷_ 111 (List._∷_ 97 (List._∷_ 100 (List._∷_ 115 List.[])))))))))))))))) (Syntax.tcons (Syntax.tyArray (Syntax.tyInt Syntax.w64) 16) Syntax.tnil)) Path'.refl)) d46
+          d47 : Typed.Typed 𝓤 H A 𝓣 E G48 b40 Δ0 at47
+          d47 = Typed.s-seq 𝓤 H A W 𝓣 E G48 G49 b24 b39 Δ0 (Typed.ask s47) at46 (Relend.t-sl-aggregate 𝓤 H A W E (Referent.rtF (Referent.fInt Syntax.w32)) 𝓣 (Relend.asMut (Referent.rtF (Referent.fInt Syntax.w32))) G48 35 36 15 (Syntax.tyRef Syntax.erased Syntax.mut (Syntax.tyInt Syntax.w32)) (Syntax.tyRef Syntax.erased Syntax.mut (Syntax.tyInt Syntax.w32)) (λ x. x) (Scalar.oFld 9 (List._∷_ (Syntax.field 1) List.[]) (Syntax.tyInt Syntax.w64) 8 λ v. Shared.lenV (v .0)) (Reads'.as-is 𝓤 H A (Relend.msptr (Referent.rtF (Referent.fInt Syntax.w32)) (Syntax.tyRef Syntax.erased Syntax.mut (Syntax.tyInt Syntax.w32)) 15)) (Reads'.room-gone 𝓤 H A (Syntax.tyStruct (List._∷_ 38 (List._∷_ 91 (List._∷_ 93 List.[]))) (Syntax.tcons (Syntax.tyRef Syntax.erased Syntax.mut (Syntax.tyInt Syntax.w32)) (Syntax.tcons (Syntax.tyInt Syntax.w64) Syntax.tnil)))) (Relend.reads-owed-len 𝓤 H A W (Referent.rtF (Referent.fInt Syntax.w32)) (Syntax.tyRef (Syntax.named 8) Syntax.mut (Syntax.tyInt Syntax.w32)) 8 15 (Row.lease (κs .1 .1 .1 .1 .1 .1 .1 .1 .0) (qs .1 .1 .1 .1 .1 .1 .1 .1 .0)) 8 Path'.refl, Path'.refl) Path'.refl Path'.refl λ b o k. tt) d46
 
-          d48 : Typed.Typed 𝓤 H A 𝓣 E G49 b41 Δ0 at48
-          d48 = Typed.s-seq 𝓤 H A W 𝓣 E G49 G50 b25 b40 Δ0 (Typed.both s48) at47 (Plain.t-call-plain 𝓤 H A W 𝓣 9 ps·6 r·6 (claims· .12) (claims· .13) "fiduccia_mattheyses::make_passes" (known .6) E (λ pos β. β) G49 (record { pos = 1; ty = Syntax.tyRef (Syntax.named 0) Syntax.imm (Syntax.tyInt Syntax.w32); ref = λ x. x }, (record { pos = 2; ty = Syntax.tyRef (Syntax.named 1) Syntax.imm (Syntax.tyInt Syntax.w32); ref = λ x. x }, (record { pos = 3; ty = Syntax.tyRef (Syntax.named 2) Syntax.imm (Syntax.tyInt Syntax.w32); ref = λ x. x }, (record { pos = 4; ty = Syntax.tyRef (Syntax.named 3) Syntax.imm (Syntax.tyInt Syntax.w32); ref = λ x. x }, (record { pos = 28; ty = Syntax.tyRef Syntax.erased Syntax.mut (Syntax.tyInt Syntax.w32); ref = λ x. x }, (record { pos = 30; ty = Syntax.tyRef Syntax.erased Syntax.mut (Syntax.tyInt Syntax.w64); ref = λ x. x }, (record { pos = 32; ty = Syntax.tyRef Syntax.erased Syntax.mut MoveTy.behind; ref = λ x. x }, (record { pos = 34; ty = Syntax.tyRef Syntax.erased Syntax.mut (Syntax.tyInt Syntax.w32); ref = λ x. x }, (record { pos = 36; ty = Syntax.tyRef Syntax.erased Syntax.mut (Syntax.tyInt Syntax.w32); ref = λ x. x }, (record { pos = 12; st = List.[]; d = 0; at = λ x. x }, (Num.vAt 18 λ x. x, (record { pos = 17; st = List.[]; d = 0; at = λ x. x }, (Num.vAt 19 λ x. x, (Num.vAt 20 λ x. x, (Num.vAt 21 λ x. x, tt))))))))))))))) 22 (List._∷_ 0 (List._∷_ 1 (List._∷_ 2 (List._∷_ 3 (List._∷_ 11 (List._∷_ 12 (List._∷_ 13 (List._∷_ 14 (List._∷_ 15 List.[]))))))))) (Call.sub-id 𝓤 H A W (G49 .slots)) (ShrSlice.spares-sslice 𝓤 H A W (Referent.rtF (Referent.fInt Syntax.w32)) (Syntax.tyRef (Syntax.named 0) Syntax.imm (Syntax.tyInt Syntax.w32)) 0, Shared.reads-sslice 𝓤 H A W (Referent.rtF (Referent.fInt Syntax.w32)) (Syntax.tyRef (Syntax.named 0) Syntax.imm (Syntax.tyInt Syntax.w32)) 0, Path'.refl, (ShrSlice.spares-sslice 𝓤 H A W (Referent.rtF (Referent.fInt Syntax.w32)) (Syntax.tyRef (Syntax.named 1) Syntax.imm (Syntax.tyInt Syntax.w32)) 1, Shared.reads-sslice 𝓤 H A W (Referent.rtF (Referent.fInt Syntax.w32)) (Syntax.tyRef (Syntax.named 1) Syntax.imm (Syntax.tyInt Syntax.w32)) 1, Path'.refl, (ShrSlice.spares-sslice 𝓤 H A W (Referent.rtF (Referent.fInt Syntax.w32)) (Syntax.tyRef (Syntax.named 2) Syntax.imm (Syntax.tyInt Syntax.w32)) 2, Shared.reads-sslice 𝓤 H A W (Referent.rtF (Referent.fInt Syntax.w32)) (Syntax.tyRef (Syntax.named 2) Syntax.imm (Syntax.tyInt Syntax.w32)) 2, Path'.refl, (ShrSlice.spares-sslice 𝓤 H A W (Referent.rtF (Referent.fInt Syntax.w32)) (Syntax.tyRef (Syntax.named 3) Syntax.imm (Syntax.tyInt Syntax.w32)) 3, Shared.reads-sslice 𝓤 H A W (Referent.rtF (Referent.fInt Syntax.w32)) (Syntax.tyRef (Syntax.named 3) Syntax.imm (Syntax.tyInt Syntax.w32)) 3, Path'.refl, (Reads'.as-is 𝓤 H A (Mut.mslice (Referent.rtF (Referent.fInt Syntax.w32)) (Syntax.tyRef Syntax.erased Syntax.mut (Syntax.tyInt Syntax.w32)) 11), Mut.reads-mslice 𝓤 H A W (Referent.rtF (Referent.fInt Syntax.w32)) (Syntax.tyRef Syntax.erased Syntax.mut (Syntax.tyInt Syntax.w32)) 11, Path'.refl, (Reads'.as-is 𝓤 H A (Mut.mslice (Signed.SInt Syntax.w64) (Syntax.tyRef Syntax.erased Syntax.mut (Syntax.tyInt Syntax.w64)) 12), Mut.reads-mslice 𝓤 H A W (Signed.SInt Syntax.w64) (Syntax.tyRef Syntax.erased Syntax.mut (Syntax.tyInt Syntax.w64)) 12, Path'.refl, (Reads'.as-is 𝓤 H A (Mut.mslice MoveTy.R (Syntax.tyRef Syntax.erased Syntax.mut MoveTy.behind) 13), Mut.reads-mslice 𝓤 H A W MoveTy.R (Syntax.tyRef Syntax.erased Syntax.mut MoveTy.behind) 13, Path'.refl, (Reads'.as-is 𝓤 H A (Mut.mslice (Referent.rtF (Referent.fInt Syntax.w32)) (Syntax.tyRef Syntax.erased Syntax.mut (Syntax.tyInt Syntax.w32)) 14), Mut.reads-mslice 𝓤 H A W (Referent.rtF (Referent.fInt Syntax.w32)) (Syntax.tyRef Syntax.erased Syntax.mut (Syntax.tyInt Syntax.w32)) 14, Path'.refl, (Reads'.as-is 𝓤 H A (Mut.mslice (Referent.rtF (Referent.fInt Syntax.w32)) (Syntax.tyRef Syntax.erased Syntax.mut (Syntax.tyInt Syntax.w32)) 15), Mut.reads-mslice 𝓤 H A W (Referent.rtF (Referent.fInt Syntax.w32)) (Syntax.tyRef Syntax.erased Syntax.mut (Syntax.tyInt Syntax.w32)) 15, Path'.refl, ((Yields.yields-copy 𝓤 H A W (λ ρ. Unit) (Declared.row Loads.the-type) Path'.refl (Copies.cStruct Loads.the-type Laws'4.the-laws Laws'4.the-copy .copy 𝓤 H A W) (Rows.whole (Declared.row Loads.the-type)) (λ x. x) (λ x. x) (λ ρ told. Local.mem-whole 𝓤 H A W (Declared.row Loads.the-type) ρ) λ ρ told. Local.whole-mem 𝓤 H A W (Declared.row Loads.the-type) ρ, Path'.refl), ((Scalar.reads-sc 𝓤 H A W (Row.sInt Syntax.w64), Path'.refl), ((Yields.yields-copy 𝓤 H A W (λ ρ. Unit) (Declared.row Ceilings.the-type) Path'.refl (Copies.cStruct Ceilings.the-type Laws'3.the-laws Laws'3.the-copy .copy 𝓤 H A W) (Rows.whole (Declared.row Ceilings.the-type)) (λ x. x) (λ x. x) (λ ρ told. Local.mem-whole 𝓤 H A W (Declared.row Ceilings.the-type) ρ) λ ρ told. Local.whole-mem 𝓤 H A W (Declared.row Ceilings.the-type) ρ, Path'.refl), ((Scalar.reads-sc 𝓤 H A W (Row.sInt Syntax.w64), Path'.refl), ((Scalar.reads-sc 𝓤 H A W (Row.sInt Syntax.w64), Path'.refl), ((Scalar.reads-sc 𝓤 H A W (Row.sInt Syntax.w32), Path'.refl), tt))))))))))))))) (Reads'.room-gone 𝓤 H A (Syntax.tyStruct (List._∷_ 102 (List._∷_ 105 (List._∷_ 100 (List._∷_ 117 (List._∷_ 99 (List._∷_ 99 (List._∷_ 105 (List._∷_ 97 (List._∷_ 95 (List._∷_ 109 (List._∷_ 97 (List._∷_ 116 (List._∷_ 116 (List._∷_ 104 (List._∷_ 101 (List._∷_ 121 (List._∷_ 115 (List._∷_ 101 (List._∷_ 115 (List._∷_ 58 (List._∷_ 58 (List._∷_ 69 (List._∷_ 110 (List._∷_ 100 (List._∷_ 101 (List._∷_ 100 List.[])))))))))))))))))))))))))) (Syntax.tcons (Syntax.tyInt Syntax.w32) (Syntax.tcons (Syntax.tyInt Syntax.w32) (Syntax.tcons (Syntax.tyInt Syntax.w64) (Syntax.tcons (Syntax.tyStruct (List._∷_ 105 (List._∷_ 109 (List._∷_ 98 (List._∷_ 97 (List._∷_ 108 (List._∷_ 97 (List._∷_ 110 (List._∷_ 99 (List._∷_ 101 (List._∷_ 58 (List._∷_ 58 (List._∷_ 76 (List._∷_ 111 (List._∷_ 97 (List._∷_ 100 (List._∷_ 115 List.[])))))))))))))))) (Syntax.tcons (Syntax.tyArray (Syntax.tyInt Syntax.w64) 16) Syntax.tnil)) Syntax.tnil)))))) (tt, (tt, (tt, (tt, (tt, (tt, (tt, (tt, (tt, tt))))))))) Path'.refl) d47
+          d48 : Typed.Typed 𝓤 H A 𝓣 E G47 b41 Δ0 at48
+          d48 = Typed.s-seq 𝓤 H A W 𝓣 E G47 G48 b23 b40 Δ0 (Typed.give s46) at47 (Relend.t-sl-relend 𝓤 H A W E (Referent.rtF (Referent.fInt Syntax.w32)) 𝓣 G47 9 35 8 15 (Syntax.tyRef (Syntax.named 8) Syntax.mut (Syntax.tyInt Syntax.w32)) (Syntax.tyRef Syntax.erased Syntax.mut (Syntax.tyInt Syntax.w32)) (Row.lease (κs .1 .1 .1 .1 .1 .1 .1 .1 .0) (qs .1 .1 .1 .1 .1 .1 .1 .1 .0)) 0 (λ x. x) (Reads'.as-is 𝓤 H A (Mut.mslice (Referent.rtF (Referent.fInt Syntax.w32)) (Syntax.tyRef (Syntax.named 8) Syntax.mut (Syntax.tyInt Syntax.w32)) 8)) (Reads'.room-gone 𝓤 H A (Syntax.tyRef Syntax.erased Syntax.mut (Syntax.tyInt Syntax.w32))) Path'.refl tt Path'.refl Path'.refl Path'.refl λ b o. tt) d47
 
-          d49 : Typed.Typed 𝓤 H A 𝓣 E G48 b42 Δ0 at49
-          d49 = Typed.s-seq 𝓤 H A W 𝓣 E G48 G49 b24 b41 Δ0 (Typed.ask s47) at48 (Relend.t-sl-aggregate 𝓤 H A W E (Referent.rtF (Referent.fInt Syntax.w32)) 𝓣 (Relend.asMut (Referent.rtF (Referent.fInt Syntax.w32))) G48 35 36 15 (Syntax.tyRef Syntax.erased Syntax.mut (Syntax.tyInt Syntax.w32)) (Syntax.tyRef Syntax.erased Syntax.mut (Syntax.tyInt Syntax.w32)) (λ x. x) (Scalar.oFld 9 (List._∷_ (Syntax.field 1) List.[]) (Syntax.tyInt Syntax.w64) 8 λ v. Shared.lenV (v .0)) (Reads'.as-is 𝓤 H A (Relend.msptr (Referent.rtF (Referent.fInt Syntax.w32)) (Syntax.tyRef Syntax.erased Syntax.mut (Syntax.tyInt Syntax.w32)) 15)) (Reads'.room-gone 𝓤 H A (Syntax.tyStruct (List._∷_ 38 (List._∷_ 91 (List._∷_ 93 List.[]))) (Syntax.tcons (Syntax.tyRef Syntax.erased Syntax.mut (Syntax.tyInt Syntax.w32)) (Syntax.tcons (Syntax.tyInt Syntax.w64) Syntax.tnil)))) (Relend.reads-owed-len 𝓤 H A W (Referent.rtF (Referent.fInt Syntax.w32)) (Syntax.tyRef (Syntax.named 8) Syntax.mut (Syntax.tyInt Syntax.w32)) 8 15 (Row.lease (κs .1 .1 .1 .1 .1 .1 .1 .1 .0) (qs .1 .1 .1 .1 .1 .1 .1 .1 .0)) 8 Path'.refl, Path'.refl) Path'.refl Path'.refl λ b o k. tt) d48
+          d49 : Typed.Typed 𝓤 H A 𝓣 E G46 b41 Δ0 at49
+          d49 = Typed.g-pre 𝓤 H A W 𝓣 E G46 G47 b41 Δ0 (λ Ψ. Ψ) at48 (Lifetime.g-begin 𝓤 H A W E G46 15 (tt, (tt, (tt, (tt, (tt, ((tt, tt), ((tt, tt), ((tt, tt), ((tt, tt), (tt, (tt, (tt, (tt, (tt, (tt, (tt, (tt, (tt, (tt, (tt, (tt, (tt, (tt, (tt, (tt, (tt, (tt, (tt, (tt, (tt, (tt, (tt, (tt, (tt, (tt, (tt, (tt, (tt, (tt, (tt, (tt, (tt, tt))))))))))))))))))))))))))))))))))))))))))) d48
 
-          d50 : Typed.Typed 𝓤 H A 𝓣 E G47 b43 Δ0 at50
-          d50 = Typed.s-seq 𝓤 H A W 𝓣 E G47 G48 b23 b42 Δ0 (Typed.give s46) at49 (Relend.t-sl-relend 𝓤 H A W E (Referent.rtF (Referent.fInt Syntax.w32)) 𝓣 G47 9 35 8 15 (Syntax.tyRef (Syntax.named 8) Syntax.mut (Syntax.tyInt Syntax.w32)) (Syntax.tyRef Syntax.erased Syntax.mut (Syntax.tyInt Syntax.w32)) (Row.lease (κs .1 .1 .1 .1 .1 .1 .1 .1 .0) (qs .1 .1 .1 .1 .1 .1 .1 .1 .0)) 0 (λ x. x) (Reads'.as-is 𝓤 H A (Mut.mslice (Referent.rtF (Referent.fInt Syntax.w32)) (Syntax.tyRef (Syntax.named 8) Syntax.mut (Syntax.tyInt Syntax.w32)) 8)) (Reads'.room-gone 𝓤 H A (Syntax.tyRef Syntax.erased Syntax.mut (Syntax.tyInt Syntax.w32))) Path'.refl tt Path'.refl Path'.refl Path'.refl λ b o. tt) d49
+          d50 : Typed.Typed 𝓤 H A 𝓣 E G45 b42 Δ0 at50
+          d50 = Typed.s-seq 𝓤 H A W 𝓣 E G45 G46 b22 b41 Δ0 (Typed.ask s44) at49 (Relend.t-sl-aggregate 𝓤 H A W E (Referent.rtF (Referent.fInt Syntax.w32)) 𝓣 (Relend.asMut (Referent.rtF (Referent.fInt Syntax.w32))) G45 33 34 14 (Syntax.tyRef Syntax.erased Syntax.mut (Syntax.tyInt Syntax.w32)) (Syntax.tyRef Syntax.erased Syntax.mut (Syntax.tyInt Syntax.w32)) (λ x. x) (Scalar.oFld 8 (List._∷_ (Syntax.field 1) List.[]) (Syntax.tyInt Syntax.w64) 8 λ v. Shared.lenV (v .0)) (Reads'.as-is 𝓤 H A (Relend.msptr (Referent.rtF (Referent.fInt Syntax.w32)) (Syntax.tyRef Syntax.erased Syntax.mut (Syntax.tyInt Syntax.w32)) 14)) (Reads'.room-gone 𝓤 H A (Syntax.tyStruct (List._∷_ 38 (List._∷_ 91 (List._∷_ 93 List.[]))) (Syntax.tcons (Syntax.tyRef Syntax.erased Syntax.mut (Syntax.tyInt Syntax.w32)) (Syntax.tcons (Syntax.tyInt Syntax.w64) Syntax.tnil)))) (Relend.reads-owed-len 𝓤 H A W (Referent.rtF (Referent.fInt Syntax.w32)) (Syntax.tyRef (Syntax.named 7) Syntax.mut (Syntax.tyInt Syntax.w32)) 7 14 (Row.lease (κs .1 .1 .1 .1 .1 .1 .1 .0) (qs .1 .1 .1 .1 .1 .1 .1 .0)) 8 Path'.refl, Path'.refl) Path'.refl Path'.refl λ b o k. tt) d49
 
-          d51 : Typed.Typed 𝓤 H A 𝓣 E G46 b43 Δ0 at51
-          d51 = Typed.g-pre 𝓤 H A W 𝓣 E G46 G47 b43 Δ0 (λ Ψ. Ψ) at50 (Lifetime.g-begin 𝓤 H A W E G46 15 (tt, (tt, (tt, (tt, (tt, ((tt, tt), ((tt, tt), ((tt, tt), ((tt, tt), (tt, (tt, (tt, (tt, (tt, (tt, (tt, (tt, (tt, (tt, (tt, (tt, (tt, (tt, (tt, (tt, (tt, (tt, (tt, (tt, (tt, (tt, (tt, (tt, (tt, (tt, (tt, (tt, (tt, (tt, (tt, (tt, (tt, tt))))))))))))))))))))))))))))))))))))))))))) d50
+          d51 : Typed.Typed 𝓤 H A 𝓣 E G44 b43 Δ0 at51
+          d51 = Typed.s-seq 𝓤 H A W 𝓣 E G44 G45 b21 b42 Δ0 (Typed.give s43) at50 (Relend.t-sl-relend 𝓤 H A W E (Referent.rtF (Referent.fInt Syntax.w32)) 𝓣 G44 8 33 7 14 (Syntax.tyRef (Syntax.named 7) Syntax.mut (Syntax.tyInt Syntax.w32)) (Syntax.tyRef Syntax.erased Syntax.mut (Syntax.tyInt Syntax.w32)) (Row.lease (κs .1 .1 .1 .1 .1 .1 .1 .0) (qs .1 .1 .1 .1 .1 .1 .1 .0)) 0 (λ x. x) (Reads'.as-is 𝓤 H A (Mut.mslice (Referent.rtF (Referent.fInt Syntax.w32)) (Syntax.tyRef (Syntax.named 7) Syntax.mut (Syntax.tyInt Syntax.w32)) 7)) (Reads'.room-gone 𝓤 H A (Syntax.tyRef Syntax.erased Syntax.mut (Syntax.tyInt Syntax.w32))) Path'.refl tt Path'.refl Path'.refl Path'.refl λ b o. tt) d50
 
-          d52 : Typed.Typed 𝓤 H A 𝓣 E G45 b44 Δ0 at52
-          d52 = Typed.s-seq 𝓤 H A W 𝓣 E G45 G46 b22 b43 Δ0 (Typed.ask s44) at51 (Relend.t-sl-aggregate 𝓤 H A W E (Referent.rtF (Referent.fInt Syntax.w32)) 𝓣 (Relend.asMut (Referent.rtF (Referent.fInt Syntax.w32))) G45 33 34 14 (Syntax.tyRef Syntax.erased Syntax.mut (Syntax.tyInt Syntax.w32)) (Syntax.tyRef Syntax.erased Syntax.mut (Syntax.tyInt Syntax.w32)) (λ x. x) (Scalar.oFld 8 (List._∷_ (Syntax.field 1) List.[]) (Syntax.tyInt Syntax.w64) 8 λ v. Shared.lenV (v .0)) (Reads'.as-is 𝓤 H A (Relend.msptr (Referent.rtF (Referent.fInt Syntax.w32)) (Syntax.tyRef Syntax.erased Syntax.mut (Syntax.tyInt Syntax.w32)) 14)) (Reads'.room-gone 𝓤 H A (Syntax.tyStruct (List._∷_ 38 (List._∷_ 91 (List._∷_ 93 List.[]))) (Syntax.tcons (Syntax.tyRef Syntax.erased Syntax.mut (Syntax.tyInt Syntax.w32)) (Syntax.tcons (Syntax.tyInt Syntax.w64) Syntax.tnil)))) (Relend.reads-owed-len 𝓤 H A W (Referent.rtF (Referent.fInt Syntax.w32)) (Syntax.tyRef (Syntax.named 7) Syntax.mut (Syntax.tyInt Syntax.w32)) 7 14 (Row.lease (κs .1 .1 .1 .1 .1 .1 .1 .0) (qs .1 .1 .1 .1 .1 .1 .1 .0)) 8 Path'.refl, Path'.refl) Path'.refl Path'.refl λ b o k. tt) d51
+          d52 : Typed.Typed 𝓤 H A 𝓣 E G43 b43 Δ0 at52
+          d52 = Typed.g-pre 𝓤 H A W 𝓣 E G43 G44 b43 Δ0 (λ Ψ. Ψ) at51 (Lifetime.g-begin 𝓤 H A W E G43 14 (tt, (tt, (tt, (tt, (tt, ((tt, tt), ((tt, tt), ((tt, tt), (tt, (tt, (tt, (tt, (tt, (tt, (tt, (tt, (tt, (tt, (tt, (tt, (tt, (tt, (tt, (tt, (tt, (tt, (tt, (tt, (tt, (tt, (tt, (tt, (tt, (tt, (tt, (tt, (tt, (tt, (tt, (tt, (tt, (tt, tt))))))))))))))))))))))))))))))))))))))))))) d51
 
-          d53 : Typed.Typed 𝓤 H A 𝓣 E G44 b45 Δ0 at53
-          d53 = Typed.s-seq 𝓤 H A W 𝓣 E G44 G45 b21 b44 Δ0 (Typed.give s43) at52 (Relend.t-sl-relend 𝓤 H A W E (Referent.rtF (Referent.fInt Syntax.w32)) 𝓣 G44 8 33 7 14 (Syntax.tyRef (Syntax.named 7) Syntax.mut (Syntax.tyInt Syntax.w32)) (Syntax.tyRef Syntax.erased Syntax.mut (Syntax.tyInt Syntax.w32)) (Row.lease (κs .1 .1 .1 .1 .1 .1 .1 .0) (qs .1 .1 .1 .1 .1 .1 .1 .0)) 0 (λ x. x) (Reads'.as-is 𝓤 H A (Mut.mslice (Referent.rtF (Referent.fInt Syntax.w32)) (Syntax.tyRef (Syntax.named 7) Syntax.mut (Syntax.tyInt Syntax.w32)) 7)) (Reads'.room-gone 𝓤 H A (Syntax.tyRef Syntax.erased Syntax.mut (Syntax.tyInt Syntax.w32))) Path'.refl tt Path'.refl Path'.refl Path'.refl λ b o. tt) d52
+          d53 : Typed.Typed 𝓤 H A 𝓣 E G42 b44 Δ0 at53
+          d53 = Typed.s-seq 𝓤 H A W 𝓣 E G42 G43 b20 b43 Δ0 (Typed.ask s41) at52 (Relend.t-sl-aggregate 𝓤 H A W E MoveTy.R 𝓣 (Relend.asMut MoveTy.R) G42 31 32 13 (Syntax.tyRef Syntax.erased Syntax.mut MoveTy.behind) (Syntax.tyRef Syntax.erased Syntax.mut MoveTy.behind) (λ x. x) (Scalar.oFld 7 (List._∷_ (Syntax.field 1) List.[]) (Syntax.tyInt Syntax.w64) 8 λ v. Shared.lenV (v .0)) (Reads'.as-is 𝓤 H A (Relend.msptr MoveTy.R (Syntax.tyRef Syntax.erased Syntax.mut MoveTy.behind) 13)) (Reads'.room-gone 𝓤 H A (Syntax.tyStruct (List._∷_ 38 (List._∷_ 91 (List._∷_ 93 List.[]))) (Syntax.tcons (Syntax.tyRef Syntax.erased Syntax.mut MoveTy.behind) (Syntax.tcons (Syntax.tyInt Syntax.w64) Syntax.tnil)))) (Relend.reads-owed-len 𝓤 H A W MoveTy.R (Syntax.tyRef (Syntax.named 6) Syntax.mut MoveTy.behind) 6 13 (Row.lease (κs .1 .1 .1 .1 .1 .1 .0) (qs .1 .1 .1 .1 .1 .1 .0)) 8 Path'.refl, Path'.refl) Path'.refl Path'.refl λ b o k. tt) d52
 
-          d54 : Typed.Typed 𝓤 H A 𝓣 E G43 b45 Δ0 at54
-          d54 = Typed.g-pre 𝓤 H A W 𝓣 E G43 G44 b45 Δ0 (λ Ψ. Ψ) at53 (Lifetime.g-begin 𝓤 H A W E G43 14 (tt, (tt, (tt, (tt, (tt, ((tt, tt), ((tt, tt), ((tt, tt), (tt, (tt, (tt, (tt, (tt, (tt, (tt, (tt, (tt, (tt, (tt, (tt, (tt, (tt, (tt, (tt, (tt, (tt, (tt, (tt, (tt, (tt, (tt, (tt, (tt, (tt, (tt, (tt, (tt, (tt, (tt, (tt, (tt, (tt, tt))))))))))))))))))))))))))))))))))))))))))) d53
+          d54 : Typed.Typed 𝓤 H A 𝓣 E G41 b45 Δ0 at54
+          d54 = Typed.s-seq 𝓤 H A W 𝓣 E G41 G42 b19 b44 Δ0 (Typed.give s40) at53 (Relend.t-sl-relend 𝓤 H A W E MoveTy.R 𝓣 G41 7 31 6 13 (Syntax.tyRef (Syntax.named 6) Syntax.mut MoveTy.behind) (Syntax.tyRef Syntax.erased Syntax.mut MoveTy.behind) (Row.lease (κs .1 .1 .1 .1 .1 .1 .0) (qs .1 .1 .1 .1 .1 .1 .0)) 0 (λ x. x) (Reads'.as-is 𝓤 H A (Mut.mslice MoveTy.R (Syntax.tyRef (Syntax.named 6) Syntax.mut MoveTy.behind) 6)) (Reads'.room-gone 𝓤 H A (Syntax.tyRef Syntax.erased Syntax.mut MoveTy.behind)) Path'.refl tt Path'.refl Path'.refl Path'.refl λ b o. tt) d53
 
-          d55 : Typed.Typed 𝓤 H A 𝓣 E G42 b46 Δ0 at55
-          d55 = Typed.s-seq 𝓤 H A W 𝓣 E G42 G43 b20 b45 Δ0 (Typed.ask s41) at54 (Relend.t-sl-aggregate 𝓤 H A W E MoveTy.R 𝓣 (Relend.asMut MoveTy.R) G42 31 32 13 (Syntax.tyRef Syntax.erased Syntax.mut MoveTy.behind) (Syntax.tyRef Syntax.erased Syntax.mut MoveTy.behind) (λ x. x) (Scalar.oFld 7 (List._∷_ (Syntax.field 1) List.[]) (Syntax.tyInt Syntax.w64) 8 λ v. Shared.lenV (v .0)) (Reads'.as-is 𝓤 H A (Relend.msptr MoveTy.R (Syntax.tyRef Syntax.erased Syntax.mut MoveTy.behind) 13)) (Reads'.room-gone 𝓤 H A (Syntax.tyStruct (List._∷_ 38 (List._∷_ 91 (List._∷_ 93 List.[]))) (Syntax.tcons (Syntax.tyRef Syntax.erased Syntax.mut MoveTy.behind) (Syntax.tcons (Syntax.tyInt Syntax.w64) Syntax.tnil)))) (Relend.reads-owed-len 𝓤 H A W MoveTy.R (Syntax.tyRef (Syntax.named 6) Syntax.mut MoveTy.behind) 6 13 (Row.lease (κs .1 .1 .1 .1 .1 .1 .0) (qs .1 .1 .1 .1 .1 .1 .0)) 8 Path'.refl, Path'.refl) Path'.refl Path'.refl λ b o k. tt) d54
+          d55 : Typed.Typed 𝓤 H A 𝓣 E G40 b45 Δ0 at55
+          d55 = Typed.g-pre 𝓤 H A W 𝓣 E G40 G41 b45 Δ0 (λ Ψ. Ψ) at54 (Lifetime.g-begin 𝓤 H A W E G40 13 (tt, (tt, (tt, (tt, (tt, ((tt, tt), ((tt, tt), (tt, (tt, (tt, (tt, (tt, (tt, (tt, (tt, (tt, (tt, (tt, (tt, (tt, (tt, (tt, (tt, (tt, (tt, (tt, (tt, (tt, (tt, (tt, (tt, (tt, (tt, (tt, (tt, (tt, (tt, (tt, (tt, (tt, (tt, (tt, tt))))))))))))))))))))))))))))))))))))))))))) d54
 
-          d56 : Typed.Typed 𝓤 H A 𝓣 E G41 b47 Δ0 at56
-          d56 = Typed.s-seq 𝓤 H A W 𝓣 E G41 G42 b19 b46 Δ0 (Typed.give s40) at55 (Relend.t-sl-relend 𝓤 H A W E MoveTy.R 𝓣 G41 7 31 6 13 (Syntax.tyRef (Syntax.named 6) Syntax.mut MoveTy.behind) (Syntax.tyRef Syntax.erased Syntax.mut MoveTy.behind) (Row.lease (κs .1 .1 .1 .1 .1 .1 .0) (qs .1 .1 .1 .1 .1 .1 .0)) 0 (λ x. x) (Reads'.as-is 𝓤 H A (Mut.mslice MoveTy.R (Syntax.tyRef (Syntax.named 6) Syntax.mut MoveTy.behind) 6)) (Reads'.room-gone 𝓤 H A (Syntax.tyRef Syntax.erased Syntax.mut MoveTy.behind)) Path'.refl tt Path'.refl Path'.refl Path'.refl λ b o. tt) d55
+          d56 : Typed.Typed 𝓤 H A 𝓣 E G39 b46 Δ0 at56
+          d56 = Typed.s-seq 𝓤 H A W 𝓣 E G39 G40 b18 b45 Δ0 (Typed.ask s38) at55 (Relend.t-sl-aggregate 𝓤 H A W E (Signed.SInt Syntax.w64) 𝓣 (Relend.asMut (Signed.SInt Syntax.w64)) G39 29 30 12 (Syntax.tyRef Syntax.erased Syntax.mut (Syntax.tyInt Syntax.w64)) (Syntax.tyRef Syntax.erased Syntax.mut (Syntax.tyInt Syntax.w64)) (λ x. x) (Scalar.oAt 11 (Syntax.tyInt Syntax.w64) (Row.valS (Row.sInt Syntax.w64))) (Reads'.as-is 𝓤 H A (Relend.msptr (Signed.SInt Syntax.w64) (Syntax.tyRef Syntax.erased Syntax.mut (Syntax.tyInt Syntax.w64)) 12)) (Reads'.room-gone 𝓤 H A (Syntax.tyStruct (List._∷_ 38 (List._∷_ 91 (List._∷_ 93 List.[]))) (Syntax.tcons (Syntax.tyRef Syntax.erased Syntax.mut (Syntax.tyInt Syntax.w64)) (Syntax.tcons (Syntax.tyInt Syntax.w64) Syntax.tnil)))) (Scalar.reads-sc 𝓤 H A W (Row.sInt Syntax.w64), Path'.refl) Path'.refl Path'.refl λ b o k. tt) d55
 
-          d57 : Typed.Typed 𝓤 H A 𝓣 E G40 b47 Δ0 at57
-          d57 = Typed.g-pre 𝓤 H A W 𝓣 E G40 G41 b47 Δ0 (λ Ψ. Ψ) at56 (Lifetime.g-begin 𝓤 H A W E G40 13 (tt, (tt, (tt, (tt, (tt, ((tt, tt), ((tt, tt), (tt, (tt, (tt, (tt, (tt, (tt, (tt, (tt, (tt, (tt, (tt, (tt, (tt, (tt, (tt, (tt, (tt, (tt, (tt, (tt, (tt, (tt, (tt, (tt, (tt, (tt, (tt, (tt, (tt, (tt, (tt, (tt, (tt, (tt, (tt, tt))))))))))))))))))))))))))))))))))))))))))) d56
+          d57 : Typed.Typed 𝓤 H A 𝓣 E G38 b47 Δ0 at57
+          d57 = Typed.s-seq 𝓤 H A W 𝓣 E G38 G39 b17 b46 Δ0 (Typed.both s37) at56 (Part.t-sl-relendᵖ 𝓤 H A W E (Signed.SInt Syntax.w64) 𝓣 G38 6 29 5 12 (Syntax.tyRef (Syntax.named 5) Syntax.mut (Syntax.tyInt Syntax.w64)) (Syntax.tyRef Syntax.erased Syntax.mut (Syntax.tyInt Syntax.w64)) (Row.lease (κs .1 .1 .1 .1 .1 .0) (qs .1 .1 .1 .1 .1 .0)) 0 (λ x. x) (λ u. u .1 .1 .1 .1 .1 .1 .1 .1 .1 .1 .1 .0) (Reads'.as-is 𝓤 H A (Mut.mslice (Signed.SInt Syntax.w64) (Syntax.tyRef (Syntax.named 5) Syntax.mut (Syntax.tyInt Syntax.w64)) 5)) (Reads'.room-gone 𝓤 H A (Syntax.tyRef Syntax.erased Syntax.mut (Syntax.tyInt Syntax.w64))) Path'.refl tt Path'.refl Path'.refl Path'.refl λ b o. tt) d56
 
-          d58 : Typed.Typed 𝓤 H A 𝓣 E G39 b48 Δ0 at58
-          d58 = Typed.s-seq 𝓤 H A W 𝓣 E G39 G40 b18 b47 Δ0 (Typed.ask s38) at57 (Relend.t-sl-aggregate 𝓤 H A W E (Signed.SInt Syntax.w64) 𝓣 (Relend.asMut (Signed.SInt Syntax.w64)) G39 29 30 12 (Syntax.tyRef Syntax.erased Syntax.mut (Syntax.tyInt Syntax.w64)) (Syntax.tyRef Syntax.erased Syntax.mut (Syntax.tyInt Syntax.w64)) (λ x. x) (Scalar.oAt 11 (Syntax.tyInt Syntax.w64) (Row.valS (Row.sInt Syntax.w64))) (Reads'.as-is 𝓤 H A (Relend.msptr (Signed.SInt Syntax.w64) (Syntax.tyRef Syntax.erased Syntax.mut (Syntax.tyInt Syntax.w64)) 12)) (Reads'.room-gone 𝓤 H A (Syntax.tyStruct (List._∷_ 38 (List._∷_ 91 (List._∷_ 93 List.[]))) (Syntax.tcons (Syntax.tyRef Syntax.erased Syntax.mut (Syntax.tyInt Syntax.w64)) (Syntax.tcons (Syntax.tyInt Syntax.w64) Syntax.tnil)))) (Scalar.reads-sc 𝓤 H A W (Row.sInt Syntax.w64), Path'.refl) Path'.refl Path'.refl λ b o k. tt) d57
+          d58 : Typed.Typed 𝓤 H A 𝓣 E G37 b47 Δ0 at58
+          d58 = Typed.g-pre 𝓤 H A W 𝓣 E G37 G38 b47 Δ0 (λ Ψ. Ψ) at57 (Lifetime.g-begin 𝓤 H A W E G37 12 (tt, (tt, (tt, (tt, (tt, ((tt, tt), (tt, (tt, (tt, (tt, (tt, (tt, (tt, (tt, (tt, (tt, (tt, (tt, (tt, (tt, (tt, (tt, (tt, (tt, (tt, (tt, (tt, (tt, (tt, (tt, (tt, (tt, (tt, (tt, (tt, (tt, (tt, (tt, (tt, (tt, (tt, (tt, tt))))))))))))))))))))))))))))))))))))))))))) d57
 
-          d59 : Typed.Typed 𝓤 H A 𝓣 E G38 b49 Δ0 at59
-          d59 = Typed.s-seq 𝓤 H A W 𝓣 E G38 G39 b17 b48 Δ0 (Typed.both s37) at58 (Part.t-sl-relendᵖ 𝓤 H A W E (Signed.SInt Syntax.w64) 𝓣 G38 6 29 5 12 (Syntax.tyRef (Syntax.named 5) Syntax.mut (Syntax.tyInt Syntax.w64)) (Syntax.tyRef Syntax.erased Syntax.mut (Syntax.tyInt Syntax.w64)) (Row.lease (κs .1 .1 .1 .1 .1 .0) (qs .1 .1 .1 .1 .1 .0)) 0 (λ x. x) (λ u. u .1 .1 .1 .1 .1 .1 .1 .1 .1 .1 .1 .0) (Reads'.as-is 𝓤 H A (Mut.mslice (Signed.SInt Syntax.w64) (Syntax.tyRef (Syntax.named 5) Syntax.mut (Syntax.tyInt Syntax.w64)) 5)) (Reads'.room-gone 𝓤 H A (Syntax.tyRef Syntax.erased Syntax.mut (Syntax.tyInt Syntax.w64))) Path'.refl tt Path'.refl Path'.refl Path'.refl λ b o. tt) d58
+          d59 : Typed.Typed 𝓤 H A 𝓣 E G36 b48 Δ0 at59
+          d59 = Typed.s-seq 𝓤 H A W 𝓣 E G36 G37 b16 b47 Δ0 (Typed.ask s35) at58 (Relend.t-sl-aggregate 𝓤 H A W E (Referent.rtF (Referent.fInt Syntax.w32)) 𝓣 (Relend.asMut (Referent.rtF (Referent.fInt Syntax.w32))) G36 27 28 11 (Syntax.tyRef Syntax.erased Syntax.mut (Syntax.tyInt Syntax.w32)) (Syntax.tyRef Syntax.erased Syntax.mut (Syntax.tyInt Syntax.w32)) (λ x. x) (Scalar.oFld 5 (List._∷_ (Syntax.field 1) List.[]) (Syntax.tyInt Syntax.w64) 8 λ v. Shared.lenV (v .0)) (Reads'.as-is 𝓤 H A (Relend.msptr (Referent.rtF (Referent.fInt Syntax.w32)) (Syntax.tyRef Syntax.erased Syntax.mut (Syntax.tyInt Syntax.w32)) 11)) (Reads'.room-gone 𝓤 H A (Syntax.tyStruct (List._∷_ 38 (List._∷_ 91 (List._∷_ 93 List.[]))) (Syntax.tcons (Syntax.tyRef Syntax.erased Syntax.mut (Syntax.tyInt Syntax.w32)) (Syntax.tcons (Syntax.tyInt Syntax.w64) Syntax.tnil)))) (Relend.reads-owed-len 𝓤 H A W (Referent.rtF (Referent.fInt Syntax.w32)) (Syntax.tyRef (Syntax.named 4) Syntax.mut (Syntax.tyInt Syntax.w32)) 4 11 (Row.lease (κs .1 .1 .1 .1 .0) (qs .1 .1 .1 .1 .0)) 8 Path'.refl, Path'.refl) Path'.refl Path'.refl λ b o k. tt) d58
 
-          d60 : Typed.Typed 𝓤 H A 𝓣 E G37 b49 Δ0 at60
-          d60 = Typed.g-pre 𝓤 H A W 𝓣 E G37 G38 b49 Δ0 (λ Ψ. Ψ) at59 (Lifetime.g-begin 𝓤 H A W E G37 12 (tt, (tt, (tt, (tt, (tt, ((tt, tt), (tt, (tt, (tt, (tt, (tt, (tt, (tt, (tt, (tt, (tt, (tt, (tt, (tt, (tt, (tt, (tt, (tt, (tt, (tt, (tt, (tt, (tt, (tt, (tt, (tt, (tt, (tt, (tt, (tt, (tt, (tt, (tt, (tt, (tt, (tt, (tt, tt))))))))))))))))))))))))))))))))))))))))))) d59
+          d60 : Typed.Typed 𝓤 H A 𝓣 E G35 b49 Δ0 at60
+          d60 = Typed.s-seq 𝓤 H A W 𝓣 E G35 G36 b15 b48 Δ0 (Typed.give s34) at59 (Relend.t-sl-relend 𝓤 H A W E (Referent.rtF (Referent.fInt Syntax.w32)) 𝓣 G35 5 27 4 11 (Syntax.tyRef (Syntax.named 4) Syntax.mut (Syntax.tyInt Syntax.w32)) (Syntax.tyRef Syntax.erased Syntax.mut (Syntax.tyInt Syntax.w32)) (Row.lease (κs .1 .1 .1 .1 .0) (qs .1 .1 .1 .1 .0)) 0 (λ x. x) (Reads'.as-is 𝓤 H A (Mut.mslice (Referent.rtF (Referent.fInt Syntax.w32)) (Syntax.tyRef (Syntax.named 4) Syntax.mut (Syntax.tyInt Syntax.w32)) 4)) (Reads'.room-gone 𝓤 H A (Syntax.tyRef Syntax.erased Syntax.mut (Syntax.tyInt Syntax.w32))) Path'.refl tt Path'.refl Path'.refl Path'.refl λ b o. tt) d59
 
-          d61 : Typed.Typed 𝓤 H A 𝓣 E G36 b50 Δ0 at61
-          d61 = Typed.s-seq 𝓤 H A W 𝓣 E G36 G37 b16 b49 Δ0 (Typed.ask s35) at60 (Relend.t-sl-aggregate 𝓤 H A W E (Referent.rtF (Referent.fInt Syntax.w32)) 𝓣 (Relend.asMut (Referent.rtF (Referent.fInt Syntax.w32))) G36 27 28 11 (Syntax.tyRef Syntax.erased Syntax.mut (Syntax.tyInt Syntax.w32)) (Syntax.tyRef Syntax.erased Syntax.mut (Syntax.tyInt Syntax.w32)) (λ x. x) (Scalar.oFld 5 (List._∷_ (Syntax.field 1) List.[]) (Syntax.tyInt Syntax.w64) 8 λ v. Shared.lenV (v .0)) (Reads'.as-is 𝓤 H A (Relend.msptr (Referent.rtF (Referent.fInt Syntax.w32)) (Syntax.tyRef Syntax.erased Syntax.mut (Syntax.tyInt Syntax.w32)) 11)) (Reads'.room-gone 𝓤 H A (Syntax.tyStruct (List._∷_ 38 (List._∷_ 91 (List._∷_ 93 List.[]))) (Syntax.tcons (Syntax.tyRef Syntax.erased Syntax.mut (Syntax.tyInt Syntax.w32)) (Syntax.tcons (Syntax.tyInt Syntax.w64) Syntax.tnil)))) (Relend.reads-owed-len 𝓤 H A W (Referent.rtF (Referent.fInt Syntax.w32)) (Syntax.tyRef (Syntax.named 4) Syntax.mut (Syntax.tyInt Syntax.w32)) 4 11 (Row.lease (κs .1 .1 .1 .1 .0) (qs .1 .1 .1 .1 .0)) 8 Path'.refl, Path'.refl) Path'.refl Path'.refl λ b o k. tt) d60
+          d61 : Typed.Typed 𝓤 H A 𝓣 E G34 b49 Δ0 at61
+          d61 = Typed.g-pre 𝓤 H A W 𝓣 E G34 G35 b49 Δ0 (λ Ψ. Ψ) at60 (Lifetime.g-begin 𝓤 H A W E G34 11 (tt, (tt, (tt, (tt, (tt, (tt, (tt, (tt, (tt, (tt, (tt, (tt, (tt, (tt, (tt, (tt, (tt, (tt, (tt, (tt, (tt, (tt, (tt, (tt, (tt, (tt, (tt, (tt, (tt, (tt, (tt, (tt, (tt, (tt, (tt, (tt, (tt, (tt, (tt, (tt, (tt, (tt, tt))))))))))))))))))))))))))))))))))))))))))) d60
 
-          d62 : Typed.Typed 𝓤 H A 𝓣 E G35 b51 Δ0 at62
-          d62 = Typed.s-seq 𝓤 H A W 𝓣 E G35 G36 b15 b50 Δ0 (Typed.give s34) at61 (Relend.t-sl-relend 𝓤 H A W E (Referent.rtF (Referent.fInt Syntax.w32)) 𝓣 G35 5 27 4 11 (Syntax.tyRef (Syntax.named 4) Syntax.mut (Syntax.tyInt Syntax.w32)) (Syntax.tyRef Syntax.erased Syntax.mut (Syntax.tyInt Syntax.w32)) (Row.lease (κs .1 .1 .1 .1 .0) (qs .1 .1 .1 .1 .0)) 0 (λ x. x) (Reads'.as-is 𝓤 H A (Mut.mslice (Referent.rtF (Referent.fInt Syntax.w32)) (Syntax.tyRef (Syntax.named 4) Syntax.mut (Syntax.tyInt Syntax.w32)) 4)) (Reads'.room-gone 𝓤 H A (Syntax.tyRef Syntax.erased Syntax.mut (Syntax.tyInt Syntax.w32))) Path'.refl tt Path'.refl Path'.refl Path'.refl λ b o. tt) d61
+          d62 : Typed.Typed 𝓤 H A 𝓣 E G33 b49 Δ0 at62
+          d62 = Typed.g-pre 𝓤 H A W 𝓣 E G33 G34 b49 Δ0 (Typed.pass T33 T34 s32) at61 (Scalar.g-room 𝓤 H A W E G33 10 (Syntax.tyStruct (List._∷_ 102 (List._∷_ 105 (List._∷_ 100 (List._∷_ 117 (List._∷_ 99 (List._∷_ 99 (List._∷_ 105 (List._∷_ 97 (List._∷_ 95 (List._∷_ 109 (List._∷_ 97 (List._∷_ 116 (List._∷_ 116 (List._∷_ 104 (List._∷_ 101 (List._∷_ 121 (List._∷_ 115 (List._∷_ 101 (List._∷_ 115 (List._∷_ 58 (List._∷_ 58 (List._∷_ 83 (List._∷_ 101 (List._∷_ 116 (List._∷_ 116 (List._∷_ 105 (List._∷_ 110 (List._∷_ 103 (List._∷_ 115 List.[]))))))))))))))))))))))))))))) (Syntax.tcons (Syntax.tyInt Syntax.w32) (Syntax.tcons (Syntax.tyInt Syntax.w32) (Syntax.tcons (Syntax.tyInt Syntax.w32) (Syntax.tcons (Syntax.tyInt Syntax.w32) (Syntax.tcons (Syntax.tyInt Syntax.w32) (Syntax.tcons (Syntax.tyFloat Ieee.binary64) Syntax.tnil))))))) (Local.room-whole 𝓤 H A W (Declared.row Settings.the-type) (Syntax.tyStruct (List._∷_ 102 (List._∷_ 105 (List._∷_ 100 (List._∷_ 117 (List._∷_ 99 (List._∷_ 99 (List._∷_ 105 (List._∷_ 97 (List._∷_ 95 (List._∷_ 109 (List._∷_ 97 (List._∷_ 116 (List._∷_ 116 (List._∷_ 104 (List._∷_ 101 (List._∷_ 121 (List._∷_ 115 (List._∷_ 101 (List._∷_ 115 (List._∷_ 58 (List._∷_ 58 (List._∷_ 83 (List._∷_ 101 (List._∷_ 116 (List._∷_ 116 (List._∷_ 105 (List._∷_ 110 (List._∷_ 103 (List._∷_ 115 List.[]))))))))))))))))))))))))))))) (Syntax.tcons (Syntax.tyInt Syntax.w32) (Syntax.tcons (Syntax.tyInt Syntax.w32) (Syntax.tcons (Syntax.tyInt Syntax.w32) (Syntax.tcons (Syntax.tyInt Syntax.w32) (Syntax.tcons (Syntax.tyInt Syntax.w32) (Syntax.tcons (Syntax.tyFloat Ieee.binary64) Syntax.tnil))))))) Path'.refl)) d61
 
-          d63 : Typed.Typed 𝓤 H A 𝓣 E G34 b51 Δ0 at63
-          d63 = Typed.g-pre 𝓤 H A W 𝓣 E G34 G35 b51 Δ0 (λ Ψ. Ψ) at62 (Lifetime.g-begin 𝓤 H A W E G34 11 (tt, (tt, (tt, (tt, (tt, (tt, (tt, (tt, (tt, (tt, (tt, (tt, (tt, (tt, (tt, (tt, (tt, (tt, (tt, (tt, (tt, (tt, (tt, (tt, (tt, (tt, (tt, (tt, (tt, (tt, (tt, (tt, (tt, (tt, (tt, (tt, (tt, (tt, (tt, (tt, (tt, (tt, tt))))))))))))))))))))))))))))))))))))))))))) d62
+          d63 : Typed.Typed 𝓤 H A 𝓣 E G32 b50 Δ0 at63
+          d63 = Typed.s-seq 𝓤 H A W 𝓣 E G32 G33 b14 b49 Δ0 (Typed.pass T32 T33 s31) at62 (Scalar.t-use 𝓤 H A W E 𝓣 G32 (Scalar.oFld 10 (List._∷_ (Syntax.field 0) List.[]) (Syntax.tyInt Syntax.w32) 0 (Reads.fieldV Settings.the-type Laws''.the-laws 0)) 21 (Rows.sc-here (Row.sInt Syntax.w32)) (Syntax.tyInt Syntax.w32) (Row.valS (Row.sInt Syntax.w32)) (Row.sInt Syntax.w32 .of) (Reads.reads-field 𝓤 H A W Settings.the-type Laws''.the-laws 0 (Syntax.tyInt Syntax.w32) 0 Path'.refl, Path'.refl) (Reads'.room-gone 𝓤 H A (Syntax.tyInt Syntax.w32)) (Scalar.holds-sc 𝓤 H A W (Row.sInt Syntax.w32)) Path'.refl (λ u. Path'.refl) λ u. tt) d62
 
-          d64 : Typed.Typed 𝓤 H A 𝓣 E G33 b51 Δ0 at64
-          d64 = Typed.g-pre 𝓤 H A W 𝓣 E G33 G34 b51 Δ0 (Typed.pass T33 T34 s32) at63 (Scalar.g-room 𝓤 H A W E G33 10 (Syntax.tyStruct (List._∷_ 102 (List._∷_ 105 (List._∷_ 100 (List._∷_ 117 (List._∷_ 99 (List._∷_ 99 (List._∷_ 105 (List._∷_ 97 (List._∷_ 95 (List._∷_ 109 (List._∷_ 97 (List._∷_ 116 (List._∷_ 116 (List._∷_ 104 (List._∷_ 101 (List._∷_ 121 (List._∷_ 115 (List._∷_ 101 (List._∷_ 115 (List._∷_ 58 (List._∷_ 58 (List._∷_ 83 (List._∷_ 101 (List._∷_ 116 (List._∷_ 116 (List._∷_ 105 (List._∷_ 110 (List._∷_ 103 (List._∷_ 115 List.[]))))))))))))))))))))))))))))) (Syntax.tcons (Syntax.tyInt Syntax.w32) (Syntax.tcons (Syntax.tyInt Syntax.w32) (Syntax.tcons (Syntax.tyInt Syntax.w32) (Syntax.tcons (Syntax.tyInt Syntax.w32) (Syntax.tcons (Syntax.tyInt Syntax.w32) (Syntax.tcons (Syntax.tyFloat Ieee.binary64) Syntax.tnil))))))) (Local.room-whole 𝓤 H A W (Declared.row Settings.the-type) (Syntax.tyStruct (List._∷_ 102 (List._∷_ 105 (List._∷_ 100 (List._∷_ 117 (List._∷_ 99 (List._∷_ 99 (List._∷_ 105 (List._∷_ 97 (List._∷_ 95 (List._∷_ 109 (List._∷_ 97 (List._∷_ 116 (List._∷_ 116 (List._∷_ 104 (List._∷_ 101 (List._∷_ 121 (List._∷_ 115 (List._∷_ 101 (List._∷_ 115 (List._∷_ 58 (List._∷_ 58 (List._∷_ 83 (List._∷_ 101 (List._∷_ 116 (List._∷_ 116 (List._∷_ 105 (List._∷_ 110 (List._∷_ 103 (List._∷_ 115 List.[]))))))))))))))))))))))))))))) (Syntax.tcons (Syntax.tyInt Syntax.w32) (Syntax.tcons (Syntax.tyInt Syntax.w32) (Syntax.tcons (Syntax.tyInt Syntax.w32) (Syntax.tcons (Syntax.tyInt Syntax.w32) (Syntax.tcons (Syntax.tyInt Syntax.w32) (Syntax.tcons (Syntax.tyFloat Ieee.binary64) Syntax.tnil))))))) Path'.refl)) d63
+          d64 : Typed.Typed 𝓤 H A 𝓣 E G31 b51 Δ0 at64
+          d64 = Typed.s-seq 𝓤 H A W 𝓣 E G31 G32 b13 b50 Δ0 (Typed.both s30) at63 (Plain.t-call-plain 𝓤 H A W 𝓣 0 ps·5 r·5 (claims· .10) (claims· .11) "lists::index" (known .5) E (λ pos β. β) G31 (Num.vFld 10 (List._∷_ (Syntax.field 1) List.[]) 4 λ x. Settings.struct .as-values x .1 .0, tt) 20 List.[] (Call.sub-id 𝓤 H A W (G31 .slots)) ((Reads.reads-field 𝓤 H A W Settings.the-type Laws''.the-laws 1 (Syntax.tyInt Syntax.w32) 4 Path'.refl, Path'.refl), tt) (Reads'.room-gone 𝓤 H A (Syntax.tyInt Syntax.w64)) tt Path'.refl) d63
 
-          d65 : Typed.Typed 𝓤 H A 𝓣 E G32 b52 Δ0 at65
-          d65 = Typed.s-seq 𝓤 H A W 𝓣 E G32 G33 b14 b51 Δ0 (Typed.pass T32 T33 s31) at64 (Scalar.t-use 𝓤 H A W E 𝓣 G32 (Scalar.oFld 10 (List._∷_ (Syntax.field 0) List.[]) (Syntax.tyInt Syntax.w32) 0 (Reads.fieldV Settings.the-type Laws''.the-laws 0)) 21 (Rows.sc-here (Row.sInt Syntax.w32)) (Syntax.tyInt Syntax.w32) (Row.valS (Row.sInt Syntax.w32)) (Row.sInt Syntax.w32 .of) (Reads.reads-field 𝓤 H A W Settings.the-type Laws''.the-laws 0 (Syntax.tyInt Syntax.w32) 0 Path'.refl, Path'.refl) (Reads'.room-gone 𝓤 H A (Syntax.tyInt Syntax.w32)) (Scalar.holds-sc 𝓤 H A W (Row.sInt Syntax.w32)) Path'.refl (λ u. Path'.refl) λ u. tt) d64
+          d65 : Typed.Typed 𝓤 H A 𝓣 E G30 b52 Δ0 at65
+          d65 = Typed.s-seq 𝓤 H A W 𝓣 E G30 G31 b12 b51 Δ0 (Typed.both s29) at64 (Plain.t-call-plain 𝓤 H A W 𝓣 0 ps·4 r·4 (claims· .8) (claims· .9) "lists::wide" (known .4) E (λ pos β. β) G30 (Num.vFld 10 (List._∷_ (Syntax.field 2) List.[]) 8 λ x. Settings.struct .as-values x .1 .1 .0, tt) 19 List.[] (Call.sub-id 𝓤 H A W (G30 .slots)) ((Reads.reads-field 𝓤 H A W Settings.the-type Laws''.the-laws 2 (Syntax.tyInt Syntax.w32) 8 Path'.refl, Path'.refl), tt) (Reads'.room-gone 𝓤 H A (Syntax.tyInt Syntax.w64)) tt Path'.refl) d64
 
-          d66 : Typed.Typed 𝓤 H A 𝓣 E G31 b53 Δ0 at66
-          d66 = Typed.s-seq 𝓤 H A W 𝓣 E G31 G32 b13 b52 Δ0 (Typed.both s30) at65 (Plain.t-call-plain 𝓤 H A W 𝓣 0 ps·5 r·5 (claims· .10) (claims· .11) "lists::index" (known .5) E (λ pos β. β) G31 (Num.vFld 10 (List._∷_ (Syntax.field 1) List.[]) 4 λ x. Settings.struct .as-values x .1 .0, tt) 20 List.[] (Call.sub-id 𝓤 H A W (G31 .slots)) ((Reads.reads-field 𝓤 H A W Settings.the-type Laws''.the-laws 1 (Syntax.tyInt Syntax.w32) 4 Path'.refl, Path'.refl), tt) (Reads'.room-gone 𝓤 H A (Syntax.tyInt Syntax.w64)) tt Path'.refl) d65
+          d66 : Typed.Typed 𝓤 H A 𝓣 E G29 b52 Δ0 at66
+          d66 = Typed.g-pre 𝓤 H A W 𝓣 E G29 G30 b52 Δ0 (λ Ψ. Ψ) at65 (Lifetime.g-forget 𝓤 H A W E G29 10 Row.dead Path'.refl) d65
 
-          d67 : Typed.Typed 𝓤 H A 𝓣 E G30 b54 Δ0 at67
-          d67 = Typed.s-seq 𝓤 H A W 𝓣 E G30 G31 b12 b53 Δ0 (Typed.both s29) at66 (Plain.t-call-plain 𝓤 H A W 𝓣 0 ps·4 r·4 (claims· .8) (claims· .9) "lists::wide" (known .4) E (λ pos β. β) G30 (Num.vFld 10 (List._∷_ (Syntax.field 2) List.[]) 8 λ x. Settings.struct .as-values x .1 .1 .0, tt) 19 List.[] (Call.sub-id 𝓤 H A W (G30 .slots)) ((Reads.reads-field 𝓤 H A W Settings.the-type Laws''.the-laws 2 (Syntax.tyInt Syntax.w32) 8 Path'.refl, Path'.refl), tt) (Reads'.room-gone 𝓤 H A (Syntax.tyInt Syntax.w64)) tt Path'.refl) d66
+          d67 : Typed.Typed 𝓤 H A 𝓣 E G28 b52 Δ0 at67
+          d67 = Typed.g-pre 𝓤 H A W 𝓣 E G28 G29 b52 Δ0 (Typed.pass T27 T29 s27) at66 (Reshare.g-back-sl-shr 𝓤 H A W E (Referent.rtF (Referent.fInt Syntax.w32)) G28 5 4 10 (Syntax.tyRef (Syntax.named 4) Syntax.mut (Syntax.tyInt Syntax.w32)) (Row.lease (κs .1 .1 .1 .1 .0) (qs .1 .1 .1 .1 .0)) (λ x. x) (Reads'.as-is 𝓤 H A (Reshare.mslice-owedS (Referent.rtF (Referent.fInt Syntax.w32)) (Syntax.tyRef (Syntax.named 4) Syntax.mut (Syntax.tyInt Syntax.w32)) 4 10 (Row.lease (κs .1 .1 .1 .1 .0) (qs .1 .1 .1 .1 .0)))) Path'.refl Path'.refl) d66
 
-          d68 : Typed.Typed 𝓤 H A 𝓣 E G29 b54 Δ0 at68
-          d68 = Typed.g-pre 𝓤 H A W 𝓣 E G29 G30 b54 Δ0 (λ Ψ. Ψ) at67 (Lifetime.g-forget 𝓤 H A W E G29 10 Row.dead Path'.refl) d67
+          d68 : Typed.Typed 𝓤 H A 𝓣 E G27 b52 Δ0 at68
+          d68 = Typed.g-pre 𝓤 H A W 𝓣 E G27 G28 b52 Δ0 (λ Ψ. Ψ) at67 (Lifetime.g-end 𝓤 H A W E G27 10 Path'.refl) d67
 
-          d69 : Typed.Typed 𝓤 H A 𝓣 E G28 b54 Δ0 at69
-          d69 = Typed.g-pre 𝓤 H A W 𝓣 E G28 G29 b54 Δ0 (Typed.pass T27 T29 s27) at68 (Reshare.g-back-sl-shr 𝓤 H A W E (Referent.rtF (Referent.fInt Syntax.w32)) G28 5 4 10 (Syntax.tyRef (Syntax.named 4) Syntax.mut (Syntax.tyInt Syntax.w32)) (Row.lease (κs .1 .1 .1 .1 .0) (qs .1 .1 .1 .1 .0)) (λ x. x) (Reads'.as-is 𝓤 H A (Reshare.mslice-owedS (Referent.rtF (Referent.fInt Syntax.w32)) (Syntax.tyRef (Syntax.named 4) Syntax.mut (Syntax.tyInt Syntax.w32)) 4 10 (Row.lease (κs .1 .1 .1 .1 .0) (qs .1 .1 .1 .1 .0)))) Path'.refl Path'.refl) d68
+          d69 : Typed.Typed 𝓤 H A 𝓣 E G26 b52 Δ0 at69
+          d69 = Typed.g-pre 𝓤 H A W 𝓣 E G26 G27 b52 Δ0 (Typed.pass T26 T27 s25) at68 (Scalar.g-room 𝓤 H A W E G26 26 (Syntax.tyStruct (List._∷_ 38 (List._∷_ 91 (List._∷_ 93 List.[]))) (Syntax.tcons (Syntax.tyRef Syntax.erased Syntax.imm (Syntax.tyInt Syntax.w32)) (Syntax.tcons (Syntax.tyInt Syntax.w64) Syntax.tnil))) (Shared.room-sslice 𝓤 H A W (Referent.rtF (Referent.fInt Syntax.w32)) (Syntax.tyRef Syntax.erased Syntax.imm (Syntax.tyInt Syntax.w32)) 10)) d68
 
-          d70 : Typed.Typed 𝓤 H A 𝓣 E G27 b54 Δ0 at70
-          d70 = Typed.g-pre 𝓤 H A W 𝓣 E G27 G28 b54 Δ0 (λ Ψ. Ψ) at69 (Lifetime.g-end 𝓤 H A W E G27 10 Path'.refl) d69
+          d70 : Typed.Typed 𝓤 H A 𝓣 E G25 b53 Δ0 at70
+          d70 = Typed.s-seq 𝓤 H A W 𝓣 E G25 G26 b11 b52 Δ0 (Typed.both s24) at69 (Plain.t-call-plain 𝓤 H A W 𝓣 4 ps·3 r·3 (claims· .6) (claims· .7) "topology::cut::cut_of" (known .3) E (λ pos β. β) G25 (record { pos = 1; ty = Syntax.tyRef (Syntax.named 0) Syntax.imm (Syntax.tyInt Syntax.w32); ref = λ x. x }, (record { pos = 2; ty = Syntax.tyRef (Syntax.named 1) Syntax.imm (Syntax.tyInt Syntax.w32); ref = λ x. x }, (record { pos = 3; ty = Syntax.tyRef (Syntax.named 2) Syntax.imm (Syntax.tyInt Syntax.w32); ref = λ x. x }, (record { pos = 26; ty = Syntax.tyRef Syntax.erased Syntax.imm (Syntax.tyInt Syntax.w32); ref = λ x. x }, tt)))) 18 (List._∷_ 0 (List._∷_ 1 (List._∷_ 2 (List._∷_ 10 List.[])))) (Call.sub-id 𝓤 H A W (G25 .slots)) (ShrSlice.spares-sslice 𝓤 H A W (Referent.rtF (Referent.fInt Syntax.w32)) (Syntax.tyRef (Syntax.named 0) Syntax.imm (Syntax.tyInt Syntax.w32)) 0, Shared.reads-sslice 𝓤 H A W (Referent.rtF (Referent.fInt Syntax.w32)) (Syntax.tyRef (Syntax.named 0) Syntax.imm (Syntax.tyInt Syntax.w32)) 0, Path'.refl, (ShrSlice.spares-sslice 𝓤 H A W (Referent.rtF (Referent.fInt Syntax.w32)) (Syntax.tyRef (Syntax.named 1) Syntax.imm (Syntax.tyInt Syntax.w32)) 1, Shared.reads-sslice 𝓤 H A W (Referent.rtF (Referent.fInt Syntax.w32)) (Syntax.tyRef (Syntax.named 1) Syntax.imm (Syntax.tyInt Syntax.w32)) 1, Path'.refl, (ShrSlice.spares-sslice 𝓤 H A W (Referent.rtF (Referent.fInt Syntax.w32)) (Syntax.tyRef (Syntax.named 2) Syntax.imm (Syntax.tyInt Syntax.w32)) 2, Shared.reads-sslice 𝓤 H A W (Referent.rtF (Referent.fInt Syntax.w32)) (Syntax.tyRef (Syntax.named 2) Syntax.imm (Syntax.tyInt Syntax.w32)) 2, Path'.refl, (ShrSlice.spares-sslice 𝓤 H A W (Referent.rtF (Referent.fInt Syntax.w32)) (Syntax.tyRef Syntax.erased Syntax.imm (Syntax.tyInt Syntax.w32)) 10, Shared.reads-sslice 𝓤 H A W (Referent.rtF (Referent.fInt Syntax.w32)) (Syntax.tyRef Syntax.erased Syntax.imm (Syntax.tyInt Syntax.w32)) 10, Path'.refl, tt)))) (Reads'.room-gone 𝓤 H A (Syntax.tyInt Syntax.w64)) (tt, (tt, (tt, (tt, tt)))) Path'.refl) d69
 
-          d71 : Typed.Typed 𝓤 H A 𝓣 E G26 b54 Δ0 at71
-          d71 = Typed.g-pre 𝓤 H A W 𝓣 E G26 G27 b54 Δ0 (Typed.pass T26 T27 s25) at70 (Scalar.g-room 𝓤 H A W E G26 26 (Syntax.tyStruct (List._∷_ 38 (List._∷_ 91 (List._∷_ 93 List.[]))) (Syntax.tcons (Syntax.tyRef Syntax.erased Syntax.imm (Syntax.tyInt Syntax.w32)) (Syntax.tcons (Syntax.tyInt Syntax.w64) Syntax.tnil))) (Shared.room-sslice 𝓤 H A W (Referent.rtF (Referent.fInt Syntax.w32)) (Syntax.tyRef Syntax.erased Syntax.imm (Syntax.tyInt Syntax.w32)) 10)) d70
+          d71 : Typed.Typed 𝓤 H A 𝓣 E G24 b54 Δ0 at71
+          d71 = Typed.s-seq 𝓤 H A W 𝓣 E G24 G25 b10 b53 Δ0 (Typed.ask s23) at70 (Relend.t-sl-aggregate 𝓤 H A W E (Referent.rtF (Referent.fInt Syntax.w32)) 𝓣 (Relend.asShr (Referent.rtF (Referent.fInt Syntax.w32))) G24 25 26 10 (Syntax.tyRef Syntax.erased Syntax.imm (Syntax.tyInt Syntax.w32)) (Syntax.tyRef Syntax.erased Syntax.imm (Syntax.tyInt Syntax.w32)) (λ x. x) (Scalar.oFld 5 (List._∷_ (Syntax.field 1) List.[]) (Syntax.tyInt Syntax.w64) 8 λ v. Shared.lenV (v .0)) (Reads'.as-is 𝓤 H A (Relend.ssptr (Referent.rtF (Referent.fInt Syntax.w32)) (Syntax.tyRef Syntax.erased Syntax.imm (Syntax.tyInt Syntax.w32)) 10)) (Reads'.room-gone 𝓤 H A (Syntax.tyStruct (List._∷_ 38 (List._∷_ 91 (List._∷_ 93 List.[]))) (Syntax.tcons (Syntax.tyRef Syntax.erased Syntax.imm (Syntax.tyInt Syntax.w32)) (Syntax.tcons (Syntax.tyInt Syntax.w64) Syntax.tnil)))) (Reshare.reads-owedS-len 𝓤 H A W (Referent.rtF (Referent.fInt Syntax.w32)) (Syntax.tyRef (Syntax.named 4) Syntax.mut (Syntax.tyInt Syntax.w32)) 4 10 (Row.lease (κs .1 .1 .1 .1 .0) (qs .1 .1 .1 .1 .0)) 8 Path'.refl, Path'.refl) Path'.refl Path'.refl λ b o k. tt) d70
 
-          d72 : Typed.Typed 𝓤 H A 𝓣 E G25 b55 Δ0 at72
-          d72 = Typed.s-seq 𝓤 H A W 𝓣 E G25 G26 b11 b54 Δ0 (Typed.both s24) at71 (Plain.t-call-plain 𝓤 H A W 𝓣 4 ps·3 r·3 (claims· .6) (claims· .7) "topology::cut::cut_of" (known .3) E (λ pos β. β) G25 (record { pos = 1; ty = Syntax.tyRef (Syntax.named 0) Syntax.imm (Syntax.tyInt Syntax.w32); ref = λ x. x }, (record { pos = 2; ty = Syntax.tyRef (Syntax.named 1) Syntax.imm (Syntax.tyInt Syntax.w32); ref = λ x. x }, (record { pos = 3; ty = Syntax.tyRef (Syntax.named 2) Syntax.imm (Syntax.tyInt Syntax.w32); ref = λ x. x }, (record { pos = 26; ty = Syntax.tyRef Syntax.erased Syntax.imm (Syntax.tyInt Syntax.w32); ref = λ x. x }, tt)))) 18 (List._∷_ 0 (List._∷_ 1 (List._∷_ 2 (List._∷_ 10 List.[])))) (Call.sub-id 𝓤 H A W (G25 .slots)) (ShrSlice.spares-sslice 𝓤 H A W (Referent.rtF (Referent.fInt Syntax.w32)) (Syntax.tyRef (Syntax.named 0) Syntax.imm (Syntax.tyInt Syntax.w32)) 0, Shared.reads-sslice 𝓤 H A W (Referent.rtF (Referent.fInt Syntax.w32)) (Syntax.tyRef (Syntax.named 0) Syntax.imm (Syntax.tyInt Syntax.w32)) 0, Path'.refl, (ShrSlice.spares-sslice 𝓤 H A W (Referent.rtF (Referent.fInt Syntax.w32)) (Syntax.tyRef (Syntax.named 1) Syntax.imm (Syntax.tyInt Syntax.w32)) 1, Shared.reads-sslice 𝓤 H A W (Referent.rtF (Referent.fInt Syntax.w32)) (Syntax.tyRef (Syntax.named 1) Syntax.imm (Syntax.tyInt Syntax.w32)) 1, Path'.refl, (ShrSlice.spares-sslice 𝓤 H A W (Referent.rtF (Referent.fInt Syntax.w32)) (Syntax.tyRef (Syntax.named 2) Syntax.imm (Syntax.tyInt Syntax.w32)) 2, Shared.reads-sslice 𝓤 H A W (Referent.rtF (Referent.fInt Syntax.w32)) (Syntax.tyRef (Syntax.named 2) Syntax.imm (Syntax.tyInt Syntax.w32)) 2, Path'.refl, (ShrSlice.spares-sslice 𝓤 H A W (Referent.rtF (Referent.fInt Syntax.w32)) (Syntax.tyRef Syntax.erased Syntax.imm (Syntax.tyInt Syntax.w32)) 10, Shared.reads-sslice 𝓤 H A W (Referent.rtF (Referent.fInt Syntax.w32)) (Syntax.tyRef Syntax.erased Syntax.imm (Syntax.tyInt Syntax.w32)) 10, Path'.refl, tt)))) (Reads'.room-gone 𝓤 H A (Syntax.tyInt Syntax.w64)) (tt, (tt, (tt, (tt, tt)))) Path'.refl) d71
+          d72 : Typed.Typed 𝓤 H A 𝓣 E G23 b55 Δ0 at72
+          d72 = Typed.s-seq 𝓤 H A W 𝓣 E G23 G24 b9 b54 Δ0 (Typed.give s22) at71 (Reshare.t-sl-reshare 𝓤 H A W E (Referent.rtF (Referent.fInt Syntax.w32)) 𝓣 G23 5 25 4 10 (Syntax.tyRef (Syntax.named 4) Syntax.mut (Syntax.tyInt Syntax.w32)) (Syntax.tyRef Syntax.erased Syntax.imm (Syntax.tyInt Syntax.w32)) (Row.lease (κs .1 .1 .1 .1 .0) (qs .1 .1 .1 .1 .0)) 0 (λ x. x) (Reads'.as-is 𝓤 H A (Mut.mslice (Referent.rtF (Referent.fInt Syntax.w32)) (Syntax.tyRef (Syntax.named 4) Syntax.mut (Syntax.tyInt Syntax.w32)) 4)) (Reads'.room-gone 𝓤 H A (Syntax.tyRef Syntax.erased Syntax.imm (Syntax.tyInt Syntax.w32))) Path'.refl tt Path'.refl Path'.refl Path'.refl λ b o. tt) d71
 
-          d73 : Typed.Typed 𝓤 H A 𝓣 E G24 b56 Δ0 at73
-          d73 = Typed.s-seq 𝓤 H A W 𝓣 E G24 G25 b10 b55 Δ0 (Typed.ask s23) at72 (Relend.t-sl-aggregate 𝓤 H A W E (Referent.rtF (Referent.fInt Syntax.w32)) 𝓣 (Relend.asShr (Referent.rtF (Referent.fInt Syntax.w32))) G24 25 26 10 (Syntax.tyRef Syntax.erased Syntax.imm (Syntax.tyInt Syntax.w32)) (Syntax.tyRef Syntax.erased Syntax.imm (Syntax.tyInt Syntax.w32)) (λ x. x) (Scalar.oFld 5 (List._∷_ (Syntax.field 1) List.[]) (Syntax.tyInt Syntax.w64) 8 λ v. Shared.lenV (v .0)) (Reads'.as-is 𝓤 H A (Relend.ssptr (Referent.rtF (Referent.fInt Syntax.w32)) (Syntax.tyRef Syntax.erased Syntax.imm (Syntax.tyInt Syntax.w32)) 10)) (Reads'.room-gone 𝓤 H A (Syntax.tyStruct (List._∷_ 38 (List._∷_ 91 (List._∷_ 93 List.[]))) (Syntax.tcons (Syntax.tyRef Syntax.erased Syntax.imm (Syntax.tyInt Syntax.w32)) (Syntax.tcons (Syntax.tyInt Syntax.w64) Syntax.tnil)))) (Reshare.reads-owedS-len 𝓤 H A W (Referent.rtF (Referent.fInt Syntax.w32)) (Syntax.tyRef (Syntax.named 4) Syntax.mut (Syntax.tyInt Syntax.w32)) 4 10 (Row.lease (κs .1 .1 .1 .1 .0) (qs .1 .1 .1 .1 .0)) 8 Path'.refl, Path'.refl) Path'.refl Path'.refl λ b o k. tt) d72
+          d73 : Typed.Typed 𝓤 H A 𝓣 E G22 b55 Δ0 at73
+          d73 = Typed.g-pre 𝓤 H A W 𝓣 E G22 G23 b55 Δ0 (λ Ψ. Ψ) at72 (Lifetime.g-begin 𝓤 H A W E G22 10 (tt, (tt, (tt, (tt, (tt, (tt, (tt, (tt, (tt, (tt, (tt, (tt, (tt, (tt, (tt, (tt, (tt, (tt, (tt, (tt, (tt, (tt, (tt, (tt, (tt, (tt, (tt, (tt, (tt, (tt, (tt, (tt, (tt, (tt, (tt, (tt, (tt, (tt, (tt, (tt, (tt, (tt, tt))))))))))))))))))))))))))))))))))))))))))) d72
 
-          d74 : Typed.Typed 𝓤 H A 𝓣 E G23 b57 Δ0 at74
-          d74 = Typed.s-seq 𝓤 H A W 𝓣 E G23 G24 b9 b56 Δ0 (Typed.give s22) at73 (Reshare.t-sl-reshare 𝓤 H A W E (Referent.rtF (Referent.fInt Syntax.w32)) 𝓣 G23 5 25 4 10 (Syntax.tyRef (Syntax.named 4) Syntax.mut (Syntax.tyInt Syntax.w32)) (Syntax.tyRef Syntax.erased Syntax.imm (Syntax.tyInt Syntax.w32)) (Row.lease (κs .1 .1 .1 .1 .0) (qs .1 .1 .1 .1 .0)) 0 (λ x. x) (Reads'.as-is 𝓤 H A (Mut.mslice (Referent.rtF (Referent.fInt Syntax.w32)) (Syntax.tyRef (Syntax.named 4) Syntax.mut (Syntax.tyInt Syntax.w32)) 4)) (Reads'.room-gone 𝓤 H A (Syntax.tyRef Syntax.erased Syntax.imm (Syntax.tyInt Syntax.w32))) Path'.refl tt Path'.refl Path'.refl Path'.refl λ b o. tt) d73
+          d74 : Typed.Typed 𝓤 H A 𝓣 E G21 b56 Δ0 at74
+          d74 = Typed.s-seq 𝓤 H A W 𝓣 E G21 G22 b8 b55 Δ0 (Typed.both s20) at73 (Plain.t-call-plain 𝓤 H A W 𝓣 0 ps·2 r·2 (claims· .4) (claims· .5) "imbalance::ceilings_of" (known .2) E (λ pos β. β) G21 (record { pos = 12; st = List.[]; d = 0; at = λ x. x }, (Num.vAt 13 λ x. x, (Num.vLit 2, (Num.vAt 14 λ x. x, (Num.vAt 15 λ x. x, (Float.fAt 16 λ x. x, tt)))))) 17 List.[] (Call.sub-id 𝓤 H A W (G21 .slots)) ((Yields.yields-copy 𝓤 H A W (λ ρ. Unit) (Declared.row Loads.the-type) Path'.refl (Copies.cStruct Loads.the-type Laws'4.the-laws Laws'4.the-copy .copy 𝓤 H A W) (Rows.whole (Declared.row Loads.the-type)) (λ x. x) (λ x. x) (λ ρ told. Local.mem-whole 𝓤 H A W (Declared.row Loads.the-type) ρ) λ ρ told. Local.whole-mem 𝓤 H A W (Declared.row Loads.the-type) ρ, Path'.refl), ((Scalar.reads-sc 𝓤 H A W (Row.sInt Syntax.w64), Path'.refl), (tt, ((Scalar.reads-sc 𝓤 H A W (Row.sInt Syntax.w32), Path'.refl), ((Scalar.reads-sc 𝓤 H A W (Row.sInt Syntax.w32), Path'.refl), ((Scalar.reads-sc 𝓤 H A W (Row.sFloat Ieee.binary64), Path'.refl), tt)))))) (Reads'.room-gone 𝓤 H A (Syntax.tyStruct (List._∷_ 105 (List._∷_ 109 (List._∷_ 98 (List._∷_ 97 (List._∷_ 108 (List._∷_ 97 (List._∷_ 110 (List._∷_ 99 (List._∷_ 101 (List._∷_ 58 (List._∷_ 58 (List._∷_ 67 (List._∷_ 101 (List._∷_ 105 (List._∷_ 108 (List._∷_ 105 (List._∷_ 110 (List._∷_ 103 (List._∷_ 115 List.[]))))))))))))))))))) (Syntax.tcons (Syntax.tyArray (Syntax.tyInt Syntax.w64) 16) Syntax.tnil))) tt Path'.refl) d73
 
-          d75 : Typed.Typed 𝓤 H A 𝓣 E G22 b57 Δ0 at75
-          d75 = Typed.g-pre 𝓤 H A W 𝓣 E G22 G23 b57 Δ0 (λ Ψ. Ψ) at74 (Lifetime.g-begin 𝓤 H A W E G22 10 (tt, (tt, (tt, (tt, (tt, (tt, (tt, (tt, (tt, (tt, (tt, (tt, (tt, (tt, (tt, (tt, (tt, (tt, (tt, (tt, (tt, (tt, (tt, (tt, (tt, (tt, (tt, (tt, (tt, (tt, (tt, (tt, (tt, (tt, (tt, (tt, (tt, (tt, (tt, (tt, (tt, (tt, tt))))))))))))))))))))))))))))))))))))))))))) d74
+          d75 : Typed.Typed 𝓤 H A 𝓣 E G20 b57 Δ0 at75
+          d75 = Typed.s-seq 𝓤 H A W 𝓣 E G20 G21 b7 b56 Δ0 (Typed.pass T20 T21 s19) at74 (Scalar.t-use 𝓤 H A W E 𝓣 G20 (Scalar.oFld 10 (List._∷_ (Syntax.field 5) List.[]) (Syntax.tyFloat Ieee.binary64) 24 (Reads.fieldV Settings.the-type Laws''.the-laws 5)) 16 (Rows.sc-here (Row.sFloat Ieee.binary64)) (Syntax.tyFloat Ieee.binary64) (Row.valS (Row.sFloat Ieee.binary64)) (Row.sFloat Ieee.binary64 .of) (Reads.reads-field 𝓤 H A W Settings.the-type Laws''.the-laws 5 (Syntax.tyFloat Ieee.binary64) 24 Path'.refl, Path'.refl) (Reads'.room-gone 𝓤 H A (Syntax.tyFloat Ieee.binary64)) (Scalar.holds-sc 𝓤 H A W (Row.sFloat Ieee.binary64)) Path'.refl (λ u. Path'.refl) λ u. tt) d74
 
-          d76 : Typed.Typed 𝓤 H A 𝓣 E G21 b58 Δ0 at76
-          d76 = Typed.s-seq 𝓤 H A W 𝓣 E G21 G22 b8 b57 Δ0 (Typed.both s20) at75 (Plain.t-call-plain 𝓤 H A W 𝓣 0 ps·2 r·2 (claims· .4) (claims· .5) "imbalance::ceilings_of" (known .2) E (λ pos β. β) G21 (record { pos = 12; st = List.[]; d = 0; at = λ x. x }, (Num.vAt 13 λ x. x, (Num.vLit 2, (Num.vAt 14 λ x. x, (Num.vAt 15 λ x. x, (Float.fAt 16 λ x. x, tt)))))) 17 List.[] (Call.sub-id 𝓤 H A W (G21 .slots)) ((Yields.yields-copy 𝓤 H A W (λ ρ. Unit) (Declared.row Loads.the-type) Path'.refl (Copies.cStruct Loads.the-type Laws'4.the-laws Laws'4.the-copy .copy 𝓤 H A W) (Rows.whole (Declared.row Loads.the-type)) (λ x. x) (λ x. x) (λ ρ told. Local.mem-whole 𝓤 H A W (Declared.row Loads.the-type) ρ) λ ρ told. Local.whole-mem 𝓤 H A W (Declared.row Loads.the-type) ρ, Path'.refl), ((Scalar.reads-sc 𝓤 H A W (Row.sInt Syntax.w64), Path'.refl), (tt, ((Scalar.reads-sc 𝓤 H A W (Row.sInt Syntax.w32), Path'.refl), ((Scalar.reads-sc 𝓤 H A W (Row.sInt Syntax.w32), Path'.refl), ((Scalar.reads-sc 𝓤 H A W (Row.sFloat Ieee.binary64), Path'.refl), tt)))))) (Reads'.room-gone 𝓤 H A (Syntax.tyStruct (List._∷_ 105 (List._∷_ 109 (List._∷_ 98 (List._∷_ 97 (List._∷_ 108 (List._∷_ 97 (List._∷_ 110 (List._∷_ 99 (List._∷_ 101 (List._∷_ 58 (List._∷_ 58 (List._∷_ 67 (List._∷_ 101 (List._∷_ 105 (List._∷_ 108 (List._∷_ 105 (List._∷_ 110 (List._∷_ 103 (List._∷_ 115 List.[]))))))))))))))))))) (Syntax.tcons (Syntax.tyArray (Syntax.tyInt Syntax.w64) 16) Syntax.tnil))) tt Path'.refl) d75
+          d76 : Typed.Typed 𝓤 H A 𝓣 E G19 b58 Δ0 at76
+          d76 = Typed.s-seq 𝓤 H A W 𝓣 E G19 G20 b6 b57 Δ0 (Typed.pass T19 T20 s18) at75 (Scalar.t-use 𝓤 H A W E 𝓣 G19 (Scalar.oFld 10 (List._∷_ (Syntax.field 4) List.[]) (Syntax.tyInt Syntax.w32) 16 (Reads.fieldV Settings.the-type Laws''.the-laws 4)) 15 (Rows.sc-here (Row.sInt Syntax.w32)) (Syntax.tyInt Syntax.w32) (Row.valS (Row.sInt Syntax.w32)) (Row.sInt Syntax.w32 .of) (Reads.reads-field 𝓤 H A W Settings.the-type Laws''.the-laws 4 (Syntax.tyInt Syntax.w32) 16 Path'.refl, Path'.refl) (Reads'.room-gone 𝓤 H A (Syntax.tyInt Syntax.w32)) (Scalar.holds-sc 𝓤 H A W (Row.sInt Syntax.w32)) Path'.refl (λ u. Path'.refl) λ u. tt) d75
 
-          d77 : Typed.Typed 𝓤 H A 𝓣 E G20 b59 Δ0 at77
-          d77 = Typed.s-seq 𝓤 H A W 𝓣 E G20 G21 b7 b58 Δ0 (Typed.pass T20 T21 s19) at76 (Scalar.t-use 𝓤 H A W E 𝓣 G20 (Scalar.oFld 10 (List._∷_ (Syntax.field 5) List.[]) (Syntax.tyFloat Ieee.binary64) 24 (Reads.fieldV Settings.the-type Laws''.the-laws 5)) 16 (Rows.sc-here (Row.sFloat Ieee.binary64)) (Syntax.tyFloat Ieee.binary64) (Row.valS (Row.sFloat Ieee.binary64)) (Row.sFloat Ieee.binary64 .of) (Reads.reads-field 𝓤 H A W Settings.the-type Laws''.the-laws 5 (Syntax.tyFloat Ieee.binary64) 24 Path'.refl, Path'.refl) (Reads'.room-gone 𝓤 H A (Syntax.tyFloat Ieee.binary64)) (Scalar.holds-sc 𝓤 H A W (Row.sFloat Ieee.binary64)) Path'.refl (λ u. Path'.refl) λ u. tt) d76
+          d77 : Typed.Typed 𝓤 H A 𝓣 E G18 b59 Δ0 at77
+          d77 = Typed.s-seq 𝓤 H A W 𝓣 E G18 G19 b5 b58 Δ0 (Typed.pass T18 T19 s17) at76 (Scalar.t-use 𝓤 H A W E 𝓣 G18 (Scalar.oFld 10 (List._∷_ (Syntax.field 3) List.[]) (Syntax.tyInt Syntax.w32) 12 (Reads.fieldV Settings.the-type Laws''.the-laws 3)) 14 (Rows.sc-here (Row.sInt Syntax.w32)) (Syntax.tyInt Syntax.w32) (Row.valS (Row.sInt Syntax.w32)) (Row.sInt Syntax.w32 .of) (Reads.reads-field 𝓤 H A W Settings.the-type Laws''.the-laws 3 (Syntax.tyInt Syntax.w32) 12 Path'.refl, Path'.refl) (Reads'.room-gone 𝓤 H A (Syntax.tyInt Syntax.w32)) (Scalar.holds-sc 𝓤 H A W (Row.sInt Syntax.w32)) Path'.refl (λ u. Path'.refl) λ u. tt) d76
 
-          d78 : Typed.Typed 𝓤 H A 𝓣 E G19 b60 Δ0 at78
-          d78 = Typed.s-seq 𝓤 H A W 𝓣 E G19 G20 b6 b59 Δ0 (Typed.pass T19 T20 s18) at77 (Scalar.t-use 𝓤 H A W E 𝓣 G19 (Scalar.oFld 10 (List._∷_ (Syntax.field 4) List.[]) (Syntax.tyInt Syntax.w32) 16 (Reads.fieldV Settings.the-type Laws''.the-laws 4)) 15 (Rows.sc-here (Row.sInt Syntax.w32)) (Syntax.tyInt Syntax.w32) (Row.valS (Row.sInt Syntax.w32)) (Row.sInt Syntax.w32 .of) (Reads.reads-field 𝓤 H A W Settings.the-type Laws''.the-laws 4 (Syntax.tyInt Syntax.w32) 16 Path'.refl, Path'.refl) (Reads'.room-gone 𝓤 H A (Syntax.tyInt Syntax.w32)) (Scalar.holds-sc 𝓤 H A W (Row.sInt Syntax.w32)) Path'.refl (λ u. Path'.refl) λ u. tt) d77
+          d78 : Typed.Typed 𝓤 H A 𝓣 E G17 b60 Δ0 at78
+          d78 = Typed.s-seq 𝓤 H A W 𝓣 E G17 G18 b4 b59 Δ0 (Typed.both s16) at77 (Plain.t-call-plain 𝓤 H A W 𝓣 1 ps·1 r·1 (claims· .2) (claims· .3) "imbalance::total_weight" (known .1) E (λ pos β. β) G17 (record { pos = 4; ty = Syntax.tyRef (Syntax.named 3) Syntax.imm (Syntax.tyInt Syntax.w32); ref = λ x. x }, tt) 13 (List._∷_ 3 List.[]) (Call.sub-id 𝓤 H A W (G17 .slots)) (ShrSlice.spares-sslice 𝓤 H A W (Referent.rtF (Referent.fInt Syntax.w32)) (Syntax.tyRef (Syntax.named 3) Syntax.imm (Syntax.tyInt Syntax.w32)) 3, Shared.reads-sslice 𝓤 H A W (Referent.rtF (Referent.fInt Syntax.w32)) (Syntax.tyRef (Syntax.named 3) Syntax.imm (Syntax.tyInt Syntax.w32)) 3, Path'.refl, tt) (Reads'.room-gone 𝓤 H A (Syntax.tyInt Syntax.w64)) (tt, tt) Path'.refl) d77
 
-          d79 : Typed.Typed 𝓤 H A 𝓣 E G18 b61 Δ0 at79
-          d79 = Typed.s-seq 𝓤 H A W 𝓣 E G18 G19 b5 b60 Δ0 (Typed.pass T18 T19 s17) at78 (Scalar.t-use 𝓤 H A W E 𝓣 G18 (Scalar.oFld 10 (List._∷_ (Syntax.field 3) List.[]) (Syntax.tyInt Syntax.w32) 12 (Reads.fieldV Settings.the-type Laws''.the-laws 3)) 14 (Rows.sc-here (Row.sInt Syntax.w32)) (Syntax.tyInt Syntax.w32) (Row.valS (Row.sInt Syntax.w32)) (Row.sInt Syntax.w32 .of) (Reads.reads-field 𝓤 H A W Settings.the-type Laws''.the-laws 3 (Syntax.tyInt Syntax.w32) 12 Path'.refl, Path'.refl) (Reads'.room-gone 𝓤 H A (Syntax.tyInt Syntax.w32)) (Scalar.holds-sc 𝓤 H A W (Row.sInt Syntax.w32)) Path'.refl (λ u. Path'.refl) λ u. tt) d78
+          d79 : Typed.Typed 𝓤 H A 𝓣 E G16 b60 Δ0 at79
+          d79 = Typed.g-pre 𝓤 H A W 𝓣 E G16 G17 b60 Δ0 (λ Ψ. Ψ) at78 (Lifetime.g-forget 𝓤 H A W E G16 9 Row.dead Path'.refl) d78
 
-          d80 : Typed.Typed 𝓤 H A 𝓣 E G17 b62 Δ0 at80
-          d80 = Typed.s-seq 𝓤 H A W 𝓣 E G17 G18 b4 b61 Δ0 (Typed.both s16) at79 (Plain.t-call-plain 𝓤 H A W 𝓣 1 ps·1 r·1 (claims· .2) (claims· .3) "imbalance::total_weight" (known .1) E (λ pos β. β) G17 (record { pos = 4; ty = Syntax.tyRef (Syntax.named 3) Syntax.imm (Syntax.tyInt Syntax.w32); ref = λ x. x }, tt) 13 (List._∷_ 3 List.[]) (Call.sub-id 𝓤 H A W (G17 .slots)) (ShrSlice.spares-sslice 𝓤 H A W (Referent.rtF (Referent.fInt Syntax.w32)) (Syntax.tyRef (Syntax.named 3) Syntax.imm (Syntax.tyInt Syntax.w32)) 3, Shared.reads-sslice 𝓤 H A W (Referent.rtF (Referent.fInt Syntax.w32)) (Syntax.tyRef (Syntax.named 3) Syntax.imm (Syntax.tyInt Syntax.w32)) 3, Path'.refl, tt) (Reads'.room-gone 𝓤 H A (Syntax.tyInt Syntax.w64)) (tt, tt) Path'.refl) d79
+          d80 : Typed.Typed 𝓤 H A 𝓣 E G15 b60 Δ0 at80
+          d80 = Typed.g-pre 𝓤 H A W 𝓣 E G15 G16 b60 Δ0 (Typed.pass T14 T16 s14) at79 (Reshare.g-back-sl-shr 𝓤 H A W E (Referent.rtF (Referent.fInt Syntax.w32)) G15 5 4 9 (Syntax.tyRef (Syntax.named 4) Syntax.mut (Syntax.tyInt Syntax.w32)) (Row.lease (κs .1 .1 .1 .1 .0) (qs .1 .1 .1 .1 .0)) (λ x. x) (Reads'.as-is 𝓤 H A (Reshare.mslice-owedS (Referent.rtF (Referent.fInt Syntax.w32)) (Syntax.tyRef (Syntax.named 4) Syntax.mut (Syntax.tyInt Syntax.w32)) 4 9 (Row.lease (κs .1 .1 .1 .1 .0) (qs .1 .1 .1 .1 .0)))) Path'.refl Path'.refl) d79
 
-          d81 : Typed.Typed 𝓤 H A 𝓣 E G16 b62 Δ0 at81
-          d81 = Typed.g-pre 𝓤 H A W 𝓣 E G16 G17 b62 Δ0 (λ Ψ. Ψ) at80 (Lifetime.g-forget 𝓤 H A W E G16 9 Row.dead Path'.refl) d80
+          d81 : Typed.Typed 𝓤 H A 𝓣 E G14 b60 Δ0 at81
+          d81 = Typed.g-pre 𝓤 H A W 𝓣 E G14 G15 b60 Δ0 (λ Ψ. Ψ) at80 (Lifetime.g-end 𝓤 H A W E G14 9 Path'.refl) d80
 
-          d82 : Typed.Typed 𝓤 H A 𝓣 E G15 b62 Δ0 at82
-          d82 = Typed.g-pre 𝓤 H A W 𝓣 E G15 G16 b62 Δ0 (Typed.pass T14 T16 s14) at81 (Reshare.g-back-sl-shr 𝓤 H A W E (Referent.rtF (Referent.fInt Syntax.w32)) G15 5 4 9 (Syntax.tyRef (Syntax.named 4) Syntax.mut (Syntax.tyInt Syntax.w32)) (Row.lease (κs .1 .1 .1 .1 .0) (qs .1 .1 .1 .1 .0)) (λ x. x) (Reads'.as-is 𝓤 H A (Reshare.mslice-owedS (Referent.rtF (Referent.fInt Syntax.w32)) (Syntax.tyRef (Syntax.named 4) Syntax.mut (Syntax.tyInt Syntax.w32)) 4 9 (Row.lease (κs .1 .1 .1 .1 .0) (qs .1 .1 .1 .1 .0)))) Path'.refl Path'.refl) d81
+          d82 : Typed.Typed 𝓤 H A 𝓣 E G13 b60 Δ0 at82
+          d82 = Typed.g-pre 𝓤 H A W 𝓣 E G13 G14 b60 Δ0 (Typed.pass T13 T14 s12) at81 (Scalar.g-room 𝓤 H A W E G13 24 (Syntax.tyStruct (List._∷_ 38 (List._∷_ 91 (List._∷_ 93 List.[]))) (Syntax.tcons (Syntax.tyRef Syntax.erased Syntax.imm (Syntax.tyInt Syntax.w32)) (Syntax.tcons (Syntax.tyInt Syntax.w64) Syntax.tnil))) (Shared.room-sslice 𝓤 H A W (Referent.rtF (Referent.fInt Syntax.w32)) (Syntax.tyRef Syntax.erased Syntax.imm (Syntax.tyInt Syntax.w32)) 9)) d81
 
-          d83 : Typed.Typed 𝓤 H A 𝓣 E G14 b62 Δ0 at83
-          d83 = Typed.g-pre 𝓤 H A W 𝓣 E G14 G15 b62 Δ0 (λ Ψ. Ψ) at82 (Lifetime.g-end 𝓤 H A W E G14 9 Path'.refl) d82
+          d83 : Typed.Typed 𝓤 H A 𝓣 E G12 b61 Δ0 at83
+          d83 = Typed.s-seq 𝓤 H A W 𝓣 E G12 G13 b3 b60 Δ0 (Typed.both s11) at82 (Plain.t-call-plain 𝓤 H A W 𝓣 2 ps·0 r·0 (claims· .0) (claims· .1) "imbalance::parts_load" (known .0) E (λ pos β. β) G12 (record { pos = 4; ty = Syntax.tyRef (Syntax.named 3) Syntax.imm (Syntax.tyInt Syntax.w32); ref = λ x. x }, (record { pos = 24; ty = Syntax.tyRef Syntax.erased Syntax.imm (Syntax.tyInt Syntax.w32); ref = λ x. x }, tt)) 12 (List._∷_ 3 (List._∷_ 9 List.[])) (Call.sub-id 𝓤 H A W (G12 .slots)) (ShrSlice.spares-sslice 𝓤 H A W (Referent.rtF (Referent.fInt Syntax.w32)) (Syntax.tyRef (Syntax.named 3) Syntax.imm (Syntax.tyInt Syntax.w32)) 3, Shared.reads-sslice 𝓤 H A W (Referent.rtF (Referent.fInt Syntax.w32)) (Syntax.tyRef (Syntax.named 3) Syntax.imm (Syntax.tyInt Syntax.w32)) 3, Path'.refl, (ShrSlice.spares-sslice 𝓤 H A W (Referent.rtF (Referent.fInt Syntax.w32)) (Syntax.tyRef Syntax.erased Syntax.imm (Syntax.tyInt Syntax.w32)) 9, Shared.reads-sslice 𝓤 H A W (Referent.rtF (Referent.fInt Syntax.w32)) (Syntax.tyRef Syntax.erased Syntax.imm (Syntax.tyInt Syntax.w32)) 9, Path'.refl, tt)) (Reads'.room-gone 𝓤 H A (Syntax.tyStruct (List._∷_ 105 (List._∷_ 109 (List._∷_ 98 (List._∷_ 97 (List._∷_ 108 (List._∷_ 97 (List._∷_ 110 (List._∷_ 99 (List._∷_ 101 (List._∷_ 58 (List._∷_ 58 (List._∷_ 76 (List._∷_ 111 (List._∷_ 97 (List._∷_ 100 (List._∷_ 115 List.[])))))))))))))))) (Syntax.tcons (Syntax.tyArray (Syntax.tyInt Syntax.w64) 16) Syntax.tnil))) (tt, (tt, tt)) Path'.refl) d82
 
-          d84 : Typed.Typed 𝓤 H A 𝓣 E G13 b62 Δ0 at84
-          d84 = Typed.g-pre 𝓤 H A W 𝓣 E G13 G14 b62 Δ0 (Typed.pass T13 T14 s12) at83 (Scalar.g-room 𝓤 H A W E G13 24 (Syntax.tyStruct (List._∷_ 38 (List._∷_ 91 (List._∷_ 93 List.[]))) (Syntax.tcons (Syntax.tyRef Syntax.erased Syntax.imm (Syntax.tyInt Syntax.w32)) (Syntax.tcons (Syntax.tyInt Syntax.w64) Syntax.tnil))) (Shared.room-sslice 𝓤 H A W (Referent.rtF (Referent.fInt Syntax.w32)) (Syntax.tyRef Syntax.erased Syntax.imm (Syntax.tyInt Syntax.w32)) 9)) d83
+          d84 : Typed.Typed 𝓤 H A 𝓣 E G11 b62 Δ0 at84
+          d84 = Typed.s-seq 𝓤 H A W 𝓣 E G11 G12 b2 b61 Δ0 (Typed.ask s10) at83 (Relend.t-sl-aggregate 𝓤 H A W E (Referent.rtF (Referent.fInt Syntax.w32)) 𝓣 (Relend.asShr (Referent.rtF (Referent.fInt Syntax.w32))) G11 23 24 9 (Syntax.tyRef Syntax.erased Syntax.imm (Syntax.tyInt Syntax.w32)) (Syntax.tyRef Syntax.erased Syntax.imm (Syntax.tyInt Syntax.w32)) (λ x. x) (Scalar.oFld 5 (List._∷_ (Syntax.field 1) List.[]) (Syntax.tyInt Syntax.w64) 8 λ v. Shared.lenV (v .0)) (Reads'.as-is 𝓤 H A (Relend.ssptr (Referent.rtF (Referent.fInt Syntax.w32)) (Syntax.tyRef Syntax.erased Syntax.imm (Syntax.tyInt Syntax.w32)) 9)) (Reads'.room-gone 𝓤 H A (Syntax.tyStruct (List._∷_ 38 (List._∷_ 91 (List._∷_ 93 List.[]))) (Syntax.tcons (Syntax.tyRef Syntax.erased Syntax.imm (Syntax.tyInt Syntax.w32)) (Syntax.tcons (Syntax.tyInt Syntax.w64) Syntax.tnil)))) (Reshare.reads-owedS-len 𝓤 H A W (Referent.rtF (Referent.fInt Syntax.w32)) (Syntax.tyRef (Syntax.named 4) Syntax.mut (Syntax.tyInt Syntax.w32)) 4 9 (Row.lease (κs .1 .1 .1 .1 .0) (qs .1 .1 .1 .1 .0)) 8 Path'.refl, Path'.refl) Path'.refl Path'.refl λ b o k. tt) d83
 
-          d85 : Typed.Typed 𝓤 H A 𝓣 E G12 b63 Δ0 at85
-          d85 = Typed.s-seq 𝓤 H A W 𝓣 E G12 G13 b3 b62 Δ0 (Typed.both s11) at84 (Plain.t-call-plain 𝓤 H A W 𝓣 2 ps·0 r·0 (claims· .0) (claims· .1) "imbalance::parts_load" (known .0) E (λ pos β. β) G12 (record { pos = 4; ty = Syntax.tyRef (Syntax.named 3) Syntax.imm (Syntax.tyInt Syntax.w32); ref = λ x. x }, (record { pos = 24; ty = Syntax.tyRef Syntax.erased Syntax.imm (Syntax.tyInt Syntax.w32); ref = λ x. x }, tt)) 12 (List._∷_ 3 (List._∷_ 9 List.[])) (Call.sub-id 𝓤 H A W (G12 .slots)) (ShrSlice.spares-sslice 𝓤 H A W (Referent.rtF (Referent.fInt Syntax.w32)) (Syntax.tyRef (Syntax.named 3) Syntax.imm (Syntax.tyInt Syntax.w32)) 3, Shared.reads-sslice 𝓤 H A W (Referent.rtF (Referent.fInt Syntax.w32)) (Syntax.tyRef (Syntax.named 3) Syntax.imm (Syntax.tyInt Syntax.w32)) 3, Path'.refl, (ShrSlice.spares-sslice 𝓤 H A W (Referent.rtF (Referent.fInt Syntax.w32)) (Syntax.tyRef Syntax.erased Syntax.imm (Syntax.tyInt Syntax.w32)) 9, Shared.reads-sslice 𝓤 H A W (Referent.rtF (Referent.fInt Syntax.w32)) (Syntax.tyRef Syntax.erased Syntax.imm (Syntax.tyInt Syntax.w32)) 9, Path'.refl, tt)) (Reads'.room-gone 𝓤 H A (Syntax.tyStruct (List._∷_ 105 (List._∷_ 109 (List._∷_ 98 (List._∷_ 97 (List._∷_ 108 (List._∷_ 97 (List._∷_ 110 (List._∷_ 99 (List._∷_ 101 (List._∷_ 58 (List._∷_ 58 (List._∷_ 76 (List._∷_ 111 (List._∷_ 97 (List._∷_ 100 (List._∷_ 115 List.[])))))))))))))))) (Syntax.tcons (Syntax.tyArray (Syntax.tyInt Syntax.w64) 16) Syntax.tnil))) (tt, (tt, tt)) Path'.refl) d84
+          d85 : Typed.Typed 𝓤 H A 𝓣 E G10 b63 Δ0 at85
+          d85 = Typed.s-seq 𝓤 H A W 𝓣 E G10 G11 b1 b62 Δ0 (Typed.give s9) at84 (Reshare.t-sl-reshare 𝓤 H A W E (Referent.rtF (Referent.fInt Syntax.w32)) 𝓣 G10 5 23 4 9 (Syntax.tyRef (Syntax.named 4) Syntax.mut (Syntax.tyInt Syntax.w32)) (Syntax.tyRef Syntax.erased Syntax.imm (Syntax.tyInt Syntax.w32)) (Row.lease (κs .1 .1 .1 .1 .0) (qs .1 .1 .1 .1 .0)) 0 (λ x. x) (Reads'.as-is 𝓤 H A (Mut.mslice (Referent.rtF (Referent.fInt Syntax.w32)) (Syntax.tyRef (Syntax.named 4) Syntax.mut (Syntax.tyInt Syntax.w32)) 4)) (Reads'.room-gone 𝓤 H A (Syntax.tyRef Syntax.erased Syntax.imm (Syntax.tyInt Syntax.w32))) Path'.refl tt Path'.refl Path'.refl Path'.refl λ b o. tt) d84
 
-          d86 : Typed.Typed 𝓤 H A 𝓣 E G11 b64 Δ0 at86
-          d86 = Typed.s-seq 𝓤 H A W 𝓣 E G11 G12 b2 b63 Δ0 (Typed.ask s10) at85 (Relend.t-sl-aggregate 𝓤 H A W E (Referent.rtF (Referent.fInt Syntax.w32)) 𝓣 (Relend.asShr (Referent.rtF (Referent.fInt Syntax.w32))) G11 23 24 9 (Syntax.tyRef Syntax.erased Syntax.imm (Syntax.tyInt Syntax.w32)) (Syntax.tyRef Syntax.erased Syntax.imm (Syntax.tyInt Syntax.w32)) (λ x. x) (Scalar.oFld 5 (List._∷_ (Syntax.field 1) List.[]) (Syntax.tyInt Syntax.w64) 8 λ v. Shared.lenV (v .0)) (Reads'.as-is 𝓤 H A (Relend.ssptr (Referent.rtF (Referent.fInt Syntax.w32)) (Syntax.tyRef Syntax.erased Syntax.imm (Syntax.tyInt Syntax.w32)) 9)) (Reads'.room-gone 𝓤 H A (Syntax.tyStruct (List._∷_ 38 (List._∷_ 91 (List._∷_ 93 List.[]))) (Syntax.tcons (Syntax.tyRef Syntax.erased Syntax.imm (Syntax.tyInt Syntax.w32)) (Syntax.tcons (Syntax.tyInt Syntax.w64) Syntax.tnil)))) (Reshare.reads-owedS-len 𝓤 H A W (Referent.rtF (Referent.fInt Syntax.w32)) (Syntax.tyRef (Syntax.named 4) Syntax.mut (Syntax.tyInt Syntax.w32)) 4 9 (Row.lease (κs .1 .1 .1 .1 .0) (qs .1 .1 .1 .1 .0)) 8 Path'.refl, Path'.refl) Path'.refl Path'.refl λ b o k. tt) d85
+          d86 : Typed.Typed 𝓤 H A 𝓣 E G9 b63 Δ0 at86
+          d86 = Typed.g-pre 𝓤 H A W 𝓣 E G9 G10 b63 Δ0 (λ Ψ. Ψ) at85 (Lifetime.g-begin 𝓤 H A W E G9 9 (tt, (tt, (tt, (tt, (tt, (tt, (tt, (tt, (tt, (tt, (tt, (tt, (tt, (tt, (tt, (tt, (tt, (tt, (tt, (tt, (tt, (tt, (tt, (tt, (tt, (tt, (tt, (tt, (tt, (tt, (tt, (tt, (tt, (tt, (tt, (tt, (tt, (tt, (tt, (tt, (tt, (tt, tt))))))))))))))))))))))))))))))))))))))))))) d85
 
-          d87 : Typed.Typed 𝓤 H A 𝓣 E G10 b65 Δ0 at87
-          d87 = Typed.s-seq 𝓤 H A W 𝓣 E G10 G11 b1 b64 Δ0 (Typed.give s9) at86 (Reshare.t-sl-reshare 𝓤 H A W E (Referent.rtF (Referent.fInt Syntax.w32)) 𝓣 G10 5 23 4 9 (Syntax.tyRef (Syntax.named 4) Syntax.mut (Syntax.tyInt Syntax.w32)) (Syntax.tyRef Syntax.erased Syntax.imm (Syntax.tyInt Syntax.w32)) (Row.lease (κs .1 .1 .1 .1 .0) (qs .1 .1 .1 .1 .0)) 0 (λ x. x) (Reads'.as-is 𝓤 H A (Mut.mslice (Referent.rtF (Referent.fInt Syntax.w32)) (Syntax.tyRef (Syntax.named 4) Syntax.mut (Syntax.tyInt Syntax.w32)) 4)) (Reads'.room-gone 𝓤 H A (Syntax.tyRef Syntax.erased Syntax.imm (Syntax.tyInt Syntax.w32))) Path'.refl tt Path'.refl Path'.refl Path'.refl λ b o. tt) d86
+          d87 : Typed.Typed 𝓤 H A 𝓣 E G8 b64 Δ0 at87
+          d87 = Typed.s-seq 𝓤 H A W 𝓣 E G8 G9 b0 b63 Δ0 (Typed.pass T8 T9 s7) at86 (Scalar.t-use 𝓤 H A W E 𝓣 G8 (Scalar.oFld 5 (List._∷_ (Syntax.field 1) List.[]) (Syntax.tyInt Syntax.w64) 8 Shared.lenV) 11 (Rows.sc-here (Row.sInt Syntax.w64)) (Syntax.tyInt Syntax.w64) (Row.valS (Row.sInt Syntax.w64)) (Row.sInt Syntax.w64 .of) (Mut.reads-mslice-len 𝓤 H A W (Referent.rtF (Referent.fInt Syntax.w32)) (Syntax.tyRef (Syntax.named 4) Syntax.mut (Syntax.tyInt Syntax.w32)) 4 8 Path'.refl, Path'.refl) (Reads'.room-gone 𝓤 H A (Syntax.tyInt Syntax.w64)) (Scalar.holds-sc 𝓤 H A W (Row.sInt Syntax.w64)) Path'.refl (λ u. Path'.refl) λ u. tt) d86
 
-          d88 : Typed.Typed 𝓤 H A 𝓣 E G9 b65 Δ0 at88
-          d88 = Typed.g-pre 𝓤 H A W 𝓣 E G9 G10 b65 Δ0 (λ Ψ. Ψ) at87 (Lifetime.g-begin 𝓤 H A W E G9 9 (tt, (tt, (tt, (tt, (tt, (tt, (tt, (tt, (tt, (tt, (tt, (tt, (tt, (tt, (tt, (tt, (tt, (tt, (tt, (tt, (tt, (tt, (tt, (tt, (tt, (tt, (tt, (tt, (tt, (tt, (tt, (tt, (tt, (tt, (tt, (tt, (tt, (tt, (tt, (tt, (tt, (tt, tt))))))))))))))))))))))))))))))))))))))))))) d87
+          d88 : Typed.Typed 𝓤 H A 𝓣 E G7 b64 Δ0 at88
+          d88 = Typed.g-pre 𝓤 H A W 𝓣 E G7 G8 b64 Δ0 (Typed.give s6) at87 (Know.g-sl-known 𝓤 H A W (Referent.fInt Syntax.w32) E G7 9 8 (Syntax.tyRef (Syntax.named 8) Syntax.mut (Syntax.tyInt Syntax.w32)) (Row.lease (κs .1 .1 .1 .1 .1 .1 .1 .1 .0) (qs .1 .1 .1 .1 .1 .1 .1 .1 .0)) 0 (λ x. x) record { fits = Dec'.lit< tt } (Reads'.as-is 𝓤 H A (Mut.mslice (Referent.rtF (Referent.fInt Syntax.w32)) (Syntax.tyRef (Syntax.named 8) Syntax.mut (Syntax.tyInt Syntax.w32)) 8)) Path'.refl tt) d87
 
-          d89 : Typed.Typed 𝓤 H A 𝓣 E G8 b66 Δ0 at89
-          d89 = Typed.s-seq 𝓤 H A W 𝓣 E G8 G9 b0 b65 Δ0 (Typed.pass T8 T9 s7) at88 (Scalar.t-use 𝓤 H A W E 𝓣 G8 (Scalar.oFld 5 (List._∷_ (Syntax.field 1) List.[]) (Syntax.tyInt Syntax.w64) 8 Shared.lenV) 11 (Rows.sc-here (Row.sInt Syntax.w64)) (Syntax.tyInt Syntax.w64) (Row.valS (Row.sInt Syntax.w64)) (Row.sInt Syntax.w64 .of) (Mut.reads-mslice-len 𝓤 H A W (Referent.rtF (Referent.fInt Syntax.w32)) (Syntax.tyRef (Syntax.named 4) Syntax.mut (Syntax.tyInt Syntax.w32)) 4 8 Path'.refl, Path'.refl) (Reads'.room-gone 𝓤 H A (Syntax.tyInt Syntax.w64)) (Scalar.holds-sc 𝓤 H A W (Row.sInt Syntax.w64)) Path'.refl (λ u. Path'.refl) λ u. tt) d88
+          d89 : Typed.Typed 𝓤 H A 𝓣 E G6 b64 Δ0 at89
+          d89 = Typed.g-pre 𝓤 H A W 𝓣 E G6 G7 b64 Δ0 (Typed.give s5) at88 (Know.g-sl-known 𝓤 H A W (Referent.fInt Syntax.w32) E G6 8 7 (Syntax.tyRef (Syntax.named 7) Syntax.mut (Syntax.tyInt Syntax.w32)) (Row.lease (κs .1 .1 .1 .1 .1 .1 .1 .0) (qs .1 .1 .1 .1 .1 .1 .1 .0)) 0 (λ x. x) record { fits = Dec'.lit< tt } (Reads'.as-is 𝓤 H A (Mut.mslice (Referent.rtF (Referent.fInt Syntax.w32)) (Syntax.tyRef (Syntax.named 7) Syntax.mut (Syntax.tyInt Syntax.w32)) 7)) Path'.refl tt) d88
 
-          d90 : Typed.Typed 𝓤 H A 𝓣 E G7 b66 Δ0 at90
-          d90 = Typed.g-pre 𝓤 H A W 𝓣 E G7 G8 b66 Δ0 (Typed.give s6) at89 (Know.g-sl-known 𝓤 H A W (Referent.fInt Syntax.w32) E G7 9 8 (Syntax.tyRef (Syntax.named 8) Syntax.mut (Syntax.tyInt Syntax.w32)) (Row.lease (κs .1 .1 .1 .1 .1 .1 .1 .1 .0) (qs .1 .1 .1 .1 .1 .1 .1 .1 .0)) 0 (λ x. x) record { fits = Dec'.lit< tt } (Reads'.as-is 𝓤 H A (Mut.mslice (Referent.rtF (Referent.fInt Syntax.w32)) (Syntax.tyRef (Syntax.named 8) Syntax.mut (Syntax.tyInt Syntax.w32)) 8)) Path'.refl tt) d89
+          d90 : Typed.Typed 𝓤 H A 𝓣 E G5 b64 Δ0 at90
+          d90 = Typed.g-pre 𝓤 H A W 𝓣 E G5 G6 b64 Δ0 (Typed.give s4) at89 (Know.g-sl-known 𝓤 H A W (Referent.fInt Syntax.w32) E G5 5 4 (Syntax.tyRef (Syntax.named 4) Syntax.mut (Syntax.tyInt Syntax.w32)) (Row.lease (κs .1 .1 .1 .1 .0) (qs .1 .1 .1 .1 .0)) 0 (λ x. x) record { fits = Dec'.lit< tt } (Reads'.as-is 𝓤 H A (Mut.mslice (Referent.rtF (Referent.fInt Syntax.w32)) (Syntax.tyRef (Syntax.named 4) Syntax.mut (Syntax.tyInt Syntax.w32)) 4)) Path'.refl tt) d89
 
-          d91 : Typed.Typed 𝓤 H A 𝓣 E G6 b66 Δ0 at91
-          d91 = Typed.g-pre 𝓤 H A W 𝓣 E G6 G7 b66 Δ0 (Typed.give s5) at90 (Know.g-sl-known 𝓤 H A W (Referent.fInt Syntax.w32) E G6 8 7 (Syntax.tyRef (Syntax.named 7) Syntax.mut (Syntax.tyInt Syntax.w32)) (Row.lease (κs .1 .1 .1 .1 .1 .1 .1 .0) (qs .1 .1 .1 .1 .1 .1 .1 .0)) 0 (λ x. x) record { fits = Dec'.lit< tt } (Reads'.as-is 𝓤 H A (Mut.mslice (Referent.rtF (Referent.fInt Syntax.w32)) (Syntax.tyRef (Syntax.named 7) Syntax.mut (Syntax.tyInt Syntax.w32)) 7)) Path'.refl tt) d90
+          d91 : Typed.Typed 𝓤 H A 𝓣 E G4 b64 Δ0 at91
+          d91 = Typed.g-pre 𝓤 H A W 𝓣 E G4 G5 b64 Δ0 (Typed.give s3) at90 (Know.g-shs-known 𝓤 H A W (Referent.fInt Syntax.w32) E G4 4 3 (Syntax.tyRef (Syntax.named 3) Syntax.imm (Syntax.tyInt Syntax.w32)) (Row.lease (κs .1 .1 .1 .0) (qs .1 .1 .1 .0)) 0 (λ x. x) record { fits = Dec'.lit< tt } (Reads'.as-is 𝓤 H A (Rows.sslice (Referent.rtF (Referent.fInt Syntax.w32)) (Syntax.tyRef (Syntax.named 3) Syntax.imm (Syntax.tyInt Syntax.w32)) 3)) Path'.refl tt) d90
 
-          d92 : Typed.Typed 𝓤 H A 𝓣 E G5 b66 Δ0 at92
-          d92 = Typed.g-pre 𝓤 H A W 𝓣 E G5 G6 b66 Δ0 (Typed.give s4) at91 (Know.g-sl-known 𝓤 H A W (Referent.fInt Syntax.w32) E G5 5 4 (Syntax.tyRef (Syntax.named 4) Syntax.mut (Syntax.tyInt Syntax.w32)) (Row.lease (κs .1 .1 .1 .1 .0) (qs .1 .1 .1 .1 .0)) 0 (λ x. x) record { fits = Dec'.lit< tt } (Reads'.as-is 𝓤 H A (Mut.mslice (Referent.rtF (Referent.fInt Syntax.w32)) (Syntax.tyRef (Syntax.named 4) Syntax.mut (Syntax.tyInt Syntax.w32)) 4)) Path'.refl tt) d91
+          d92 : Typed.Typed 𝓤 H A 𝓣 E G3 b64 Δ0 at92
+          d92 = Typed.g-pre 𝓤 H A W 𝓣 E G3 G4 b64 Δ0 (Typed.give s2) at91 (Know.g-shs-known 𝓤 H A W (Referent.fInt Syntax.w32) E G3 3 2 (Syntax.tyRef (Syntax.named 2) Syntax.imm (Syntax.tyInt Syntax.w32)) (Row.lease (κs .1 .1 .0) (qs .1 .1 .0)) 0 (λ x. x) record { fits = Dec'.lit< tt } (Reads'.as-is 𝓤 H A (Rows.sslice (Referent.rtF (Referent.fInt Syntax.w32)) (Syntax.tyRef (Syntax.named 2) Syntax.imm (Syntax.tyInt Syntax.w32)) 2)) Path'.refl tt) d91
 
-          d93 : Typed.Typed 𝓤 H A 𝓣 E G4 b66 Δ0 at93
-          d93 = Typed.g-pre 𝓤 H A W 𝓣 E G4 G5 b66 Δ0 (Typed.give s3) at92 (Know.g-shs-known 𝓤 H A W (Referent.fInt Syntax.w32) E G4 4 3 (Syntax.tyRef (Syntax.named 3) Syntax.imm (Syntax.tyInt Syntax.w32)) (Row.lease (κs .1 .1 .1 .0) (qs .1 .1 .1 .0)) 0 (λ x. x) record { fits = Dec'.lit< tt } (Reads'.as-is 𝓤 H A (Rows.sslice (Referent.rtF (Referent.fInt Syntax.w32)) (Syntax.tyRef (Syntax.named 3) Syntax.imm (Syntax.tyInt Syntax.w32)) 3)) Path'.refl tt) d92
+          d93 : Typed.Typed 𝓤 H A 𝓣 E G2 b64 Δ0 at93
+          d93 = Typed.g-pre 𝓤 H A W 𝓣 E G2 G3 b64 Δ0 (Typed.give s1) at92 (Know.g-shs-known 𝓤 H A W (Referent.fInt Syntax.w32) E G2 2 1 (Syntax.tyRef (Syntax.named 1) Syntax.imm (Syntax.tyInt Syntax.w32)) (Row.lease (κs .1 .0) (qs .1 .0)) 0 (λ x. x) record { fits = Dec'.lit< tt } (Reads'.as-is 𝓤 H A (Rows.sslice (Referent.rtF (Referent.fInt Syntax.w32)) (Syntax.tyRef (Syntax.named 1) Syntax.imm (Syntax.tyInt Syntax.w32)) 1)) Path'.refl tt) d92
 
-          d94 : Typed.Typed 𝓤 H A 𝓣 E G3 b66 Δ0 at94
-          d94 = Typed.g-pre 𝓤 H A W 𝓣 E G3 G4 b66 Δ0 (Typed.give s2) at93 (Know.g-shs-known 𝓤 H A W (Referent.fInt Syntax.w32) E G3 3 2 (Syntax.tyRef (Syntax.named 2) Syntax.imm (Syntax.tyInt Syntax.w32)) (Row.lease (κs .1 .1 .0) (qs .1 .1 .0)) 0 (λ x. x) record { fits = Dec'.lit< tt } (Reads'.as-is 𝓤 H A (Rows.sslice (Referent.rtF (Referent.fInt Syntax.w32)) (Syntax.tyRef (Syntax.named 2) Syntax.imm (Syntax.tyInt Syntax.w32)) 2)) Path'.refl tt) d93
+          d94 : Typed.Typed 𝓤 H A 𝓣 E G0 b64 Δ0 at94
+          d94 = Typed.g-pre 𝓤 H A W 𝓣 E G0 G2 b64 Δ0 (Typed.give s0) at93 (Know.g-shs-known 𝓤 H A W (Referent.fInt Syntax.w32) E G0 1 0 (Syntax.tyRef (Syntax.named 0) Syntax.imm (Syntax.tyInt Syntax.w32)) (Row.lease (κs .0) (qs .0)) 0 (λ x. x) record { fits = Dec'.lit< tt } (Reads'.as-is 𝓤 H A (Rows.sslice (Referent.rtF (Referent.fInt Syntax.w32)) (Syntax.tyRef (Syntax.named 0) Syntax.imm (Syntax.tyInt Syntax.w32)) 0)) Path'.refl tt) d93
 
-          d95 : Typed.Typed 𝓤 H A 𝓣 E G2 b66 Δ0 at95
-          d95 = Typed.g-pre 𝓤 H A W 𝓣 E G2 G3 b66 Δ0 (Typed.give s1) at94 (Know.g-shs-known 𝓤 H A W (Referent.fInt Syntax.w32) E G2 2 1 (Syntax.tyRef (Syntax.named 1) Syntax.imm (Syntax.tyInt Syntax.w32)) (Row.lease (κs .1 .0) (qs .1 .0)) 0 (λ x. x) record { fits = Dec'.lit< tt } (Reads'.as-is 𝓤 H A (Rows.sslice (Referent.rtF (Referent.fInt Syntax.w32)) (Syntax.tyRef (Syntax.named 1) Syntax.imm (Syntax.tyInt Syntax.w32)) 1)) Path'.refl tt) d94
-
-          d96 : Typed.Typed 𝓤 H A 𝓣 E G0 b66 Δ0 at96
-          d96 = Typed.g-pre 𝓤 H A W 𝓣 E G0 G2 b66 Δ0 (Typed.give s0) at95 (Know.g-shs-known 𝓤 H A W (Referent.fInt Syntax.w32) E G0 1 0 (Syntax.tyRef (Syntax.named 0) Syntax.imm (Syntax.tyInt Syntax.w32)) (Row.lease (κs .0) (qs .0)) 0 (λ x. x) record { fits = Dec'.lit< tt } (Reads'.as-is 𝓤 H A (Rows.sslice (Referent.rtF (Referent.fInt Syntax.w32)) (Syntax.tyRef (Syntax.named 0) Syntax.imm (Syntax.tyInt Syntax.w32)) 0)) Path'.refl tt) d95
-
-          pub typed : Typed.Typed 𝓤 H A 𝓣 E (Function.Γin 9 ps r xs m κs qs) b66 (Function.Δret 9 ps r xs m κs qs) Φ
-          typed = d96
+          pub typed : Typed.Typed 𝓤 H A 𝓣 E (Function.Γin 9 ps r xs m κs qs) b64 (Function.Δret 9 ps r xs m κs qs) Φ
+          typed = d94
 
       module _ (κs : Lifetimes.Lfts 9) where
         pub record Args : Type 0 where
@@ -4940,234 +5102,202 @@ module _ (claims· : Claims) where
       m50 = λ before given. s71 .next (m49 before given)
 
       module _ (before· : After-slice-known6) where
-        pub record After-clear-gains-arg·own : Type 0 where
+        pub record After-clear-arg·own : Type 0 where
           pub given : s70 .gives (m48 (before· .before) (before· .slice-known6 .given))
 
-      pub record After-clear-gains-arg : Type 0 where
-        pub before : After-slice-known6
-        pub clear-gains-arg : After-clear-gains-arg·own before
-
-      abbrev pub Need-clear-gains-requires : Type 0
-      Need-clear-gains-requires = (c : After-clear-gains-arg) → s72 .asks (m50 (c .before) (c .clear-gains-arg .given))
-
-      abbrev pub m51 : (before : After-clear-gains-arg) → (given : s72 .gives (m50 (before .before) (before .clear-gains-arg .given))) → Typed.Mo T74
-      m51 = λ before given. s72 .next (m50 (before .before) (before .clear-gains-arg .given)) given
-
-      module _ (before· : After-clear-gains-arg) where
-        abbrev pub After-clear-gains·own : Type 0
-        After-clear-gains·own = Called.Called ps·7 r·7 (claims· .15) T73 (
-          record { pos = 39; ty = Syntax.tyRef Syntax.erased Syntax.mut (Syntax.tyInt Syntax.w64); ref = λ x. x },
-          (Num.vAt 11 λ x. x, tt),
-        ) (m50 (before· .before) (before· .clear-gains-arg .given))
-
-      pub record After-clear-gains : Type 0 where
-        pub before : After-clear-gains-arg
-        pub clear-gains : After-clear-gains·own before
-
-      abbrev pub After-clear-gains·gave : (c : After-clear-gains) → s72 .gives (m50 (c .before .before) (c .before .clear-gains-arg .given))
-      After-clear-gains·gave = λ c. Called.given ps·7 r·7 (claims· .15) T73 (
-        record { pos = 39; ty = Syntax.tyRef Syntax.erased Syntax.mut (Syntax.tyInt Syntax.w64); ref = λ x. x },
-        (Num.vAt 11 λ x. x, tt),
-      ) (m50 (c .before .before) (c .before .clear-gains-arg .given)) (c .clear-gains)
-
-      abbrev pub m52 : (before : After-clear-gains-arg) → (given : s72 .gives (m50 (before .before) (before .clear-gains-arg .given))) → Typed.Mo T75
-      m52 = λ before given. s73 (m51 before given)
-
-      abbrev pub m53 : (before : After-clear-gains) → (given : s75 .gives (m52 (before .before) (After-clear-gains·gave before))) → Typed.Mo T77
-      m53 = λ before given. s75 .next (m52 (before .before) (After-clear-gains·gave before)) given
-
-      module _ (before· : After-clear-gains) where
-        pub record After-gains2·own : Type 0 where
-          pub given : s75 .gives (m52 (before· .before) (After-clear-gains·gave before·))
-
-      pub record After-gains2 : Type 0 where
-        pub before : After-clear-gains
-        pub gains2 : After-gains2·own before
-
-      abbrev pub m54 : (before : After-gains2) → (given : s78 .gives (m53 (before .before) (before .gains2 .given))) → Typed.Mo T80
-      m54 = λ before given. s78 .next (m53 (before .before) (before .gains2 .given)) given
-
-      abbrev pub m55 : (before : After-gains2) → (given : s78 .gives (m53 (before .before) (before .gains2 .given))) → Typed.Mo T81
-      m55 = λ before given. s79 .next (m54 before given)
-
-      module _ (before· : After-gains2) where
-        pub record After-clear-arg·own : Type 0 where
-          pub given : s78 .gives (m53 (before· .before) (before· .gains2 .given))
-
       pub record After-clear-arg : Type 0 where
-        pub before : After-gains2
+        pub before : After-slice-known6
         pub clear-arg : After-clear-arg·own before
 
       abbrev pub Need-clear-requires : Type 0
-      Need-clear-requires = (c : After-clear-arg) → s80 .asks (m55 (c .before) (c .clear-arg .given))
+      Need-clear-requires = (c : After-clear-arg) → s72 .asks (m50 (c .before) (c .clear-arg .given))
 
-      abbrev pub m56 : (before : After-clear-arg) → (given : s80 .gives (m55 (before .before) (before .clear-arg .given))) → Typed.Mo T82
-      m56 = λ before given. s80 .next (m55 (before .before) (before .clear-arg .given)) given
+      abbrev pub m51 : (before : After-clear-arg) → (given : s72 .gives (m50 (before .before) (before .clear-arg .given))) → Typed.Mo T74
+      m51 = λ before given. s72 .next (m50 (before .before) (before .clear-arg .given)) given
 
       module _ (before· : After-clear-arg) where
         abbrev pub After-clear·own : Type 0
-        After-clear·own = Called.Called ps·8 r·8 (claims· .17) T81 (
-          record { pos = 41; ty = Syntax.tyRef Syntax.erased Syntax.mut MoveTy.behind; ref = λ x. x },
+        After-clear·own = Called.Called ps·7 r·7 (claims· .15) T73 (
+          record { pos = 39; ty = Syntax.tyRef Syntax.erased Syntax.mut MoveTy.behind; ref = λ x. x },
           (Num.vAt 11 λ x. x, tt),
-        ) (m55 (before· .before) (before· .clear-arg .given))
+        ) (m50 (before· .before) (before· .clear-arg .given))
 
       pub record After-clear : Type 0 where
         pub before : After-clear-arg
         pub clear : After-clear·own before
 
-      abbrev pub After-clear·gave : (c : After-clear) → s80 .gives (m55 (c .before .before) (c .before .clear-arg .given))
-      After-clear·gave = λ c. Called.given ps·8 r·8 (claims· .17) T81 (
-        record { pos = 41; ty = Syntax.tyRef Syntax.erased Syntax.mut MoveTy.behind; ref = λ x. x },
+      abbrev pub After-clear·gave : (c : After-clear) → s72 .gives (m50 (c .before .before) (c .before .clear-arg .given))
+      After-clear·gave = λ c. Called.given ps·7 r·7 (claims· .15) T73 (
+        record { pos = 39; ty = Syntax.tyRef Syntax.erased Syntax.mut MoveTy.behind; ref = λ x. x },
         (Num.vAt 11 λ x. x, tt),
-      ) (m55 (c .before .before) (c .before .clear-arg .given)) (c .clear)
+      ) (m50 (c .before .before) (c .before .clear-arg .given)) (c .clear)
 
-      abbrev pub m57 : (before : After-clear-arg) → (given : s80 .gives (m55 (before .before) (before .clear-arg .given))) → Typed.Mo T83
-      m57 = λ before given. s81 (m56 before given)
+      abbrev pub m52 : (before : After-clear-arg) → (given : s72 .gives (m50 (before .before) (before .clear-arg .given))) → Typed.Mo T75
+      m52 = λ before given. s73 (m51 before given)
 
-      abbrev pub m58 : (before : After-clear) → (given : s83 .gives (m57 (before .before) (After-clear·gave before))) → Typed.Mo T85
-      m58 = λ before given. s83 .next (m57 (before .before) (After-clear·gave before)) given
+      abbrev pub m53 : (before : After-clear) → (given : s75 .gives (m52 (before .before) (After-clear·gave before))) → Typed.Mo T77
+      m53 = λ before given. s75 .next (m52 (before .before) (After-clear·gave before)) given
 
       module _ (before· : After-clear) where
         pub record After-moves2·own : Type 0 where
-          pub given : s83 .gives (m57 (before· .before) (After-clear·gave before·))
+          pub given : s75 .gives (m52 (before· .before) (After-clear·gave before·))
 
       pub record After-moves2 : Type 0 where
         pub before : After-clear
         pub moves2 : After-moves2·own before
 
-      abbrev pub Need-run-report-requires : Type 0
-      Need-run-report-requires = (c : After-moves2) → s85 .asks (m58 (c .before) (c .moves2 .given))
+      abbrev pub m54 : (before : After-moves2) → (given : s78 .gives (m53 (before .before) (before .moves2 .given))) → Typed.Mo T80
+      m54 = λ before given. s78 .next (m53 (before .before) (before .moves2 .given)) given
 
-      abbrev pub m59 : (before : After-moves2) → (given : s85 .gives (m58 (before .before) (before .moves2 .given))) → Typed.Mo T87
-      m59 = λ before given. s85 .next (m58 (before .before) (before .moves2 .given)) given
+      abbrev pub m55 : (before : After-moves2) → (given : s78 .gives (m53 (before .before) (before .moves2 .given))) → Typed.Mo T81
+      m55 = λ before given. s79 .next (m54 before given)
 
       module _ (before· : After-moves2) where
-        abbrev pub After-run-report·own : Type 0
-        After-run-report·own = Called.Called ps·9 r·9 (claims· .19) T85 (
-          record { pos = 22; st = List.[]; d = 0; at = λ x. x },
-          (Num.vAt 18 λ x. x, tt),
-        ) (m58 (before· .before) (before· .moves2 .given))
+        pub record After-finish-arg·own : Type 0 where
+          pub given : s78 .gives (m53 (before· .before) (before· .moves2 .given))
 
-      pub record After-run-report : Type 0 where
+      pub record After-finish-arg : Type 0 where
         pub before : After-moves2
-        pub run-report : After-run-report·own before
+        pub finish-arg : After-finish-arg·own before
 
-      abbrev pub After-run-report·gave : (c : After-run-report) → s85 .gives (m58 (c .before .before) (c .before .moves2 .given))
-      After-run-report·gave = λ c. Called.given ps·9 r·9 (claims· .19) T85 (
-        record { pos = 22; st = List.[]; d = 0; at = λ x. x },
-        (Num.vAt 18 λ x. x, tt),
-      ) (m58 (c .before .before) (c .before .moves2 .given)) (c .run-report)
+      abbrev pub Need-finish-requires : Type 0
+      Need-finish-requires = (c : After-finish-arg) → s80 .asks (m55 (c .before) (c .finish-arg .given))
 
-      abbrev pub m60 : (before : After-moves2) → (given : s85 .gives (m58 (before .before) (before .moves2 .given))) → Typed.Mo T88
-      m60 = λ before given. s86 (m59 before given)
+      abbrev pub m56 : (before : After-finish-arg) → (given : s80 .gives (m55 (before .before) (before .finish-arg .given))) → Typed.Mo T82
+      m56 = λ before given. s80 .next (m55 (before .before) (before .finish-arg .given)) given
 
-      abbrev pub m61 : (before : After-moves2) → (given : s85 .gives (m58 (before .before) (before .moves2 .given))) → Typed.Mo T89
-      m61 = λ before given. s87 (m60 before given)
+      module _ (before· : After-finish-arg) where
+        abbrev pub After-finish·own : Type 0
+        After-finish·own = Called.Called ps·8 r·8 (claims· .17) T81 (
+          record { pos = 41; ty = Syntax.tyRef Syntax.erased Syntax.mut (Syntax.tyInt Syntax.w64); ref = λ x. x },
+          (Num.vAt 11 λ x. x, (record { pos = 22; st = List.[]; d = 0; at = λ x. x }, (Num.vAt 18 λ x. x, tt))),
+        ) (m55 (before· .before) (before· .finish-arg .given))
 
-      abbrev pub m62 : (before : After-moves2) → (given : s85 .gives (m58 (before .before) (before .moves2 .given))) → Typed.Mo T90
-      m62 = λ before given. s88 (m61 before given)
+      pub record After-finish : Type 0 where
+        pub before : After-finish-arg
+        pub finish : After-finish·own before
 
-      abbrev pub m63 : (before : After-moves2) → (given : s85 .gives (m58 (before .before) (before .moves2 .given))) → Typed.Mo T91
-      m63 = λ before given. s89 (m62 before given)
+      abbrev pub After-finish·gave : (c : After-finish) → s80 .gives (m55 (c .before .before) (c .before .finish-arg .given))
+      After-finish·gave = λ c. Called.given ps·8 r·8 (claims· .17) T81 (
+        record { pos = 41; ty = Syntax.tyRef Syntax.erased Syntax.mut (Syntax.tyInt Syntax.w64); ref = λ x. x },
+        (Num.vAt 11 λ x. x, (record { pos = 22; st = List.[]; d = 0; at = λ x. x }, (Num.vAt 18 λ x. x, tt))),
+      ) (m55 (c .before .before) (c .before .finish-arg .given)) (c .finish)
 
-      abbrev pub m64 : (before : After-moves2) → (given : s85 .gives (m58 (before .before) (before .moves2 .given))) → Typed.Mo T92
-      m64 = λ before given. s90 (m63 before given)
+      abbrev pub m57 : (before : After-finish-arg) → (given : s80 .gives (m55 (before .before) (before .finish-arg .given))) → Typed.Mo T83
+      m57 = λ before given. s81 (m56 before given)
 
-      abbrev pub m65 : (before : After-moves2) → (given : s85 .gives (m58 (before .before) (before .moves2 .given))) → Typed.Mo T93
-      m65 = λ before given. s91 (m64 before given)
+      abbrev pub m58 : (before : After-finish-arg) → (given : s80 .gives (m55 (before .before) (before .finish-arg .given))) → Typed.Mo T84
+      m58 = λ before given. s82 (m57 before given)
 
-      abbrev pub m66 : (before : After-moves2) → (given : s85 .gives (m58 (before .before) (before .moves2 .given))) → Typed.Mo T94
-      m66 = λ before given. s92 (m65 before given)
+      abbrev pub m59 : (before : After-finish-arg) → (given : s80 .gives (m55 (before .before) (before .finish-arg .given))) → Typed.Mo T85
+      m59 = λ before given. s83 (m58 before given)
 
-      abbrev pub m67 : (before : After-moves2) → (given : s85 .gives (m58 (before .before) (before .moves2 .given))) → Typed.Mo T95
-      m67 = λ before given. s93 (m66 before given)
+      abbrev pub m60 : (before : After-finish-arg) → (given : s80 .gives (m55 (before .before) (before .finish-arg .given))) → Typed.Mo T86
+      m60 = λ before given. s84 (m59 before given)
 
-      abbrev pub m68 : (before : After-moves2) → (given : s85 .gives (m58 (before .before) (before .moves2 .given))) → Typed.Mo T96
-      m68 = λ before given. s94 (m67 before given)
+      abbrev pub m61 : (before : After-finish-arg) → (given : s80 .gives (m55 (before .before) (before .finish-arg .given))) → Typed.Mo T87
+      m61 = λ before given. s85 (m60 before given)
 
-      abbrev pub m69 : (before : After-moves2) → (given : s85 .gives (m58 (before .before) (before .moves2 .given))) → Typed.Mo T97
-      m69 = λ before given. s95 (m68 before given)
+      abbrev pub m62 : (before : After-finish-arg) → (given : s80 .gives (m55 (before .before) (before .finish-arg .given))) → Typed.Mo T88
+      m62 = λ before given. s86 (m61 before given)
+
+      abbrev pub m63 : (before : After-finish-arg) → (given : s80 .gives (m55 (before .before) (before .finish-arg .given))) → Typed.Mo T89
+      m63 = λ before given. s87 (m62 before given)
+
+      abbrev pub m64 : (before : After-finish-arg) → (given : s80 .gives (m55 (before .before) (before .finish-arg .given))) → Typed.Mo T90
+      m64 = λ before given. s88 (m63 before given)
+
+      abbrev pub m65 : (before : After-finish-arg) → (given : s80 .gives (m55 (before .before) (before .finish-arg .given))) → Typed.Mo T91
+      m65 = λ before given. s89 (m64 before given)
+
+      abbrev pub m66 : (before : After-finish-arg) → (given : s80 .gives (m55 (before .before) (before .finish-arg .given))) → Typed.Mo T92
+      m66 = λ before given. s90 (m65 before given)
+
+      abbrev pub m67 : (before : After-finish) → (given : s92 .gives (m66 (before .before) (After-finish·gave before))) → Typed.Mo T94
+      m67 = λ before given. s92 .next (m66 (before .before) (After-finish·gave before)) given
+
+      module _ (before· : After-finish) where
+        pub record After-gains2·own : Type 0 where
+          pub given : s92 .gives (m66 (before· .before) (After-finish·gave before·))
+
+      pub record After-gains2 : Type 0 where
+        pub before : After-finish
+        pub gains2 : After-gains2·own before
 
       abbrev pub Need-same-length : Type 0
-      Need-same-length = (c : After-run-report) → MutSlice.SameLen (Row.get 5 (T97 .locals) (m69 (c .before) (After-run-report·gave c))) (dens (c .before .before .before .before .before .before .before .before .before .before .before .before .before .before .before .before .before .before .before .before .before .before .before .before .before .before .before .before .before .before .before .before .before .before .before .before .κs) (c .before .before .before .before .before .before .before .before .before .before .before .before .before .before .before .before .before .before .before .before .before .before .before .before .before .before .before .before .before .before .before .before .before .before .before .before .args) .1 .1 .1 .1 .0)
+      Need-same-length = (c : After-gains2) → MutSlice.SameLen (Row.get 5 (T94 .locals) (m67 (c .before) (c .gains2 .given))) (dens (c .before .before .before .before .before .before .before .before .before .before .before .before .before .before .before .before .before .before .before .before .before .before .before .before .before .before .before .before .before .before .before .before .before .before .before .κs) (c .before .before .before .before .before .before .before .before .before .before .before .before .before .before .before .before .before .before .before .before .before .before .before .before .before .before .before .before .before .before .before .before .before .before .before .args) .1 .1 .1 .1 .0)
 
       abbrev pub Need-same-length-2 : Type 0
-      Need-same-length-2 = (c : After-run-report) → MutSlice.SameLen (Row.get 6 (T97 .locals) (m69 (c .before) (After-run-report·gave c))) (dens (c .before .before .before .before .before .before .before .before .before .before .before .before .before .before .before .before .before .before .before .before .before .before .before .before .before .before .before .before .before .before .before .before .before .before .before .before .κs) (c .before .before .before .before .before .before .before .before .before .before .before .before .before .before .before .before .before .before .before .before .before .before .before .before .before .before .before .before .before .before .before .before .before .before .before .before .args) .1 .1 .1 .1 .1 .0)
+      Need-same-length-2 = (c : After-gains2) → MutSlice.SameLen (Row.get 6 (T94 .locals) (m67 (c .before) (c .gains2 .given))) (dens (c .before .before .before .before .before .before .before .before .before .before .before .before .before .before .before .before .before .before .before .before .before .before .before .before .before .before .before .before .before .before .before .before .before .before .before .κs) (c .before .before .before .before .before .before .before .before .before .before .before .before .before .before .before .before .before .before .before .before .before .before .before .before .before .before .before .before .before .before .before .before .before .before .before .args) .1 .1 .1 .1 .1 .0)
 
       abbrev pub Need-same-length-3 : Type 0
-      Need-same-length-3 = (c : After-run-report) → MutSlice.SameLen (Row.get 7 (T97 .locals) (m69 (c .before) (After-run-report·gave c))) (dens (c .before .before .before .before .before .before .before .before .before .before .before .before .before .before .before .before .before .before .before .before .before .before .before .before .before .before .before .before .before .before .before .before .before .before .before .before .κs) (c .before .before .before .before .before .before .before .before .before .before .before .before .before .before .before .before .before .before .before .before .before .before .before .before .before .before .before .before .before .before .before .before .before .before .before .before .args) .1 .1 .1 .1 .1 .1 .0)
+      Need-same-length-3 = (c : After-gains2) → MutSlice.SameLen (Row.get 7 (T94 .locals) (m67 (c .before) (c .gains2 .given))) (dens (c .before .before .before .before .before .before .before .before .before .before .before .before .before .before .before .before .before .before .before .before .before .before .before .before .before .before .before .before .before .before .before .before .before .before .before .κs) (c .before .before .before .before .before .before .before .before .before .before .before .before .before .before .before .before .before .before .before .before .before .before .before .before .before .before .before .before .before .before .before .before .before .before .before .args) .1 .1 .1 .1 .1 .1 .0)
 
       abbrev pub Need-same-length-4 : Type 0
-      Need-same-length-4 = (c : After-run-report) → MutSlice.SameLen (Row.get 8 (T97 .locals) (m69 (c .before) (After-run-report·gave c))) (dens (c .before .before .before .before .before .before .before .before .before .before .before .before .before .before .before .before .before .before .before .before .before .before .before .before .before .before .before .before .before .before .before .before .before .before .before .before .κs) (c .before .before .before .before .before .before .before .before .before .before .before .before .before .before .before .before .before .before .before .before .before .before .before .before .before .before .before .before .before .before .before .before .before .before .before .before .args) .1 .1 .1 .1 .1 .1 .1 .0)
+      Need-same-length-4 = (c : After-gains2) → MutSlice.SameLen (Row.get 8 (T94 .locals) (m67 (c .before) (c .gains2 .given))) (dens (c .before .before .before .before .before .before .before .before .before .before .before .before .before .before .before .before .before .before .before .before .before .before .before .before .before .before .before .before .before .before .before .before .before .before .before .κs) (c .before .before .before .before .before .before .before .before .before .before .before .before .before .before .before .before .before .before .before .before .before .before .before .before .before .before .before .before .before .before .before .before .before .before .before .args) .1 .1 .1 .1 .1 .1 .1 .0)
 
       abbrev pub Need-same-length-5 : Type 0
-      Need-same-length-5 = (c : After-run-report) → MutSlice.SameLen (Row.get 9 (T97 .locals) (m69 (c .before) (After-run-report·gave c))) (dens (c .before .before .before .before .before .before .before .before .before .before .before .before .before .before .before .before .before .before .before .before .before .before .before .before .before .before .before .before .before .before .before .before .before .before .before .before .κs) (c .before .before .before .before .before .before .before .before .before .before .before .before .before .before .before .before .before .before .before .before .before .before .before .before .before .before .before .before .before .before .before .before .before .before .before .before .args) .1 .1 .1 .1 .1 .1 .1 .1 .0)
+      Need-same-length-5 = (c : After-gains2) → MutSlice.SameLen (Row.get 9 (T94 .locals) (m67 (c .before) (c .gains2 .given))) (dens (c .before .before .before .before .before .before .before .before .before .before .before .before .before .before .before .before .before .before .before .before .before .before .before .before .before .before .before .before .before .before .before .before .before .before .before .κs) (c .before .before .before .before .before .before .before .before .before .before .before .before .before .before .before .before .before .before .before .before .before .before .before .before .before .before .before .before .before .before .before .before .before .before .before .args) .1 .1 .1 .1 .1 .1 .1 .1 .0)
 
       abbrev pub Need-returns : Type 0
-      Need-returns = (c : After-run-report) → Post· (c .before .before .before .before .before .before .before .before .before .before .before .before .before .before .before .before .before .before .before .before .before .before .before .before .before .before .before .before .before .before .before .before .before .before .before .before .κs) (dens (c .before .before .before .before .before .before .before .before .before .before .before .before .before .before .before .before .before .before .before .before .before .before .before .before .before .before .before .before .before .before .before .before .before .before .before .before .κs) (c .before .before .before .before .before .before .before .before .before .before .before .before .before .before .before .before .before .before .before .before .before .before .before .before .before .before .before .before .before .before .before .before .before .before .before .before .args)) (Function.resV r (c .before .before .before .before .before .before .before .before .before .before .before .before .before .before .before .before .before .before .before .before .before .before .before .before .before .before .before .before .before .before .before .before .before .before .before .before .κs) (m69 (c .before) (After-run-report·gave c) .0)) (Clauses.atExit (Kinds.endedOf 9 ps r) (c .before .before .before .before .before .before .before .before .before .before .before .before .before .before .before .before .before .before .before .before .before .before .before .before .before .before .before .before .before .before .before .before .before .before .before .before .κs) (dens (c .before .before .before .before .before .before .before .before .before .before .before .before .before .before .before .before .before .before .before .before .before .before .before .before .before .before .before .before .before .before .before .before .before .before .before .before .κs) (c .before .before .before .before .before .before .before .before .before .before .before .before .before .before .before .before .before .before .before .before .before .before .before .before .before .before .before .before .before .before .before .before .before .before .before .before .args)) (Enter.lastsP (c .before .before .before .before .before .before .before .before .before .before .before .before .before .before .before .before .before .before .before .before .before .before .before .before .before .before .before .before .before .before .before .before .before .before .before .before .κs) 1 ps xs (dens (c .before .before .before .before .before .before .before .before .before .before .before .before .before .before .before .before .before .before .before .before .before .before .before .before .before .before .before .before .before .before .before .before .before .before .before .before .κs) (c .before .before .before .before .before .before .before .before .before .before .before .before .before .before .before .before .before .before .before .before .before .before .before .before .before .before .before .before .before .before .before .before .before .before .before .before .args)) (m69 (c .before) (After-run-report·gave c) .1)))
+      Need-returns = (c : After-gains2) → Post· (c .before .before .before .before .before .before .before .before .before .before .before .before .before .before .before .before .before .before .before .before .before .before .before .before .before .before .before .before .before .before .before .before .before .before .before .κs) (dens (c .before .before .before .before .before .before .before .before .before .before .before .before .before .before .before .before .before .before .before .before .before .before .before .before .before .before .before .before .before .before .before .before .before .before .before .κs) (c .before .before .before .before .before .before .before .before .before .before .before .before .before .before .before .before .before .before .before .before .before .before .before .before .before .before .before .before .before .before .before .before .before .before .before .args)) (Function.resV r (c .before .before .before .before .before .before .before .before .before .before .before .before .before .before .before .before .before .before .before .before .before .before .before .before .before .before .before .before .before .before .before .before .before .before .before .κs) (m67 (c .before) (c .gains2 .given) .0)) (Clauses.atExit (Kinds.endedOf 9 ps r) (c .before .before .before .before .before .before .before .before .before .before .before .before .before .before .before .before .before .before .before .before .before .before .before .before .before .before .before .before .before .before .before .before .before .before .before .κs) (dens (c .before .before .before .before .before .before .before .before .before .before .before .before .before .before .before .before .before .before .before .before .before .before .before .before .before .before .before .before .before .before .before .before .before .before .before .κs) (c .before .before .before .before .before .before .before .before .before .before .before .before .before .before .before .before .before .before .before .before .before .before .before .before .before .before .before .before .before .before .before .before .before .before .before .args)) (Enter.lastsP (c .before .before .before .before .before .before .before .before .before .before .before .before .before .before .before .before .before .before .before .before .before .before .before .before .before .before .before .before .before .before .before .before .before .before .before .κs) 1 ps xs (dens (c .before .before .before .before .before .before .before .before .before .before .before .before .before .before .before .before .before .before .before .before .before .before .before .before .before .before .before .before .before .before .before .before .before .before .before .κs) (c .before .before .before .before .before .before .before .before .before .before .before .before .before .before .before .before .before .before .before .before .before .before .before .before .before .before .before .before .before .before .before .before .before .before .before .args)) (m67 (c .before) (c .gains2 .given) .1)))
 
-      module _ (parts-load-requires : Need-parts-load-requires) (total-weight-requires : Need-total-weight-requires) (ceilings-of-requires : Need-ceilings-of-requires) (cut-of-requires : Need-cut-of-requires) (wide-requires : Need-wide-requires) (index-requires : Need-index-requires) (slice-relend-prefix-make-passes : Need-slice-relend-prefix-make-passes) (slice-aggregate-make-passes : Need-slice-aggregate-make-passes) (make-passes-requires : Need-make-passes-requires) (clear-gains-requires : Need-clear-gains-requires) (clear-requires : Need-clear-requires) (run-report-requires : Need-run-report-requires) (same-length : Need-same-length) (same-length-2 : Need-same-length-2) (same-length-3 : Need-same-length-3) (same-length-4 : Need-same-length-4) (same-length-5 : Need-same-length-5) (returns : Need-returns) where
-        lay10 : (c : After-run-report) → at10 (W0 (c .before .before .before .before .before .before .before .before .before .before .before .before .before .before .before .before .before .before .before .before .before .before .before .before .before .before .before .before .before .before .before .before .before .before .before .before .κs) (c .before .before .before .before .before .before .before .before .before .before .before .before .before .before .before .before .before .before .before .before .before .before .before .before .before .before .before .before .before .before .before .before .before .before .before .before .args)) (m59 (c .before) (After-run-report·gave c))
-        lay10 = λ c. (
-          (Path'.refl, (Path'.refl, (Path'.refl, (Path'.refl, (MutSlice.fix-len (Row.get 5 (T97 .locals) (m69 (c .before) (After-run-report·gave c)) .ptr) (Row.get 5 (T97 .locals) (m69 (c .before) (After-run-report·gave c)) .name) (Row.get 5 (T97 .locals) (m69 (c .before) (After-run-report·gave c)) .now) (dens (c .before .before .before .before .before .before .before .before .before .before .before .before .before .before .before .before .before .before .before .before .before .before .before .before .before .before .before .before .before .before .before .before .before .before .before .before .κs) (c .before .before .before .before .before .before .before .before .before .before .before .before .before .before .before .before .before .before .before .before .before .before .before .before .before .before .before .before .before .before .before .before .before .before .before .before .args) .1 .1 .1 .1 .0 .now) (same-length record { before = c .before; run-report = c .run-report }), (MutSlice.fix-len (Row.get 6 (T97 .locals) (m69 (c .before) (After-run-report·gave c)) .ptr) (Row.get 6 (T97 .locals) (m69 (c .before) (After-run-report·gave c)) .name) (Row.get 6 (T97 .locals) (m69 (c .before) (After-run-report·gave c)) .now) (dens (c .before .before .before .before .before .before .before .before .before .before .before .before .before .before .before .before .before .before .before .before .before .before .before .before .before .before .before .before .before .before .before .before .before .before .before .before .κs) (c .before .before .before .before .before .before .before .before .before .before .before .before .before .before .before .before .before .before .before .before .before .before .before .before .before .before .before .before .before .before .before .before .before .before .before .before .args) .1 .1 .1 .1 .1 .0 .now) (same-length-2 record { before = c .before; run-report = c .run-report }), (MutSlice.fix-len (Row.get 7 (T97 .locals) (m69 (c .before) (After-run-report·gave c)) .ptr) (Row.get 7 (T97 .locals) (m69 (c .before) (After-run-report·gave c)) .name) (Row.get 7 (T97 .locals) (m69 (c .before) (After-run-report·gave c)) .now) (dens (c .before .before .before .before .before .before .before .before .before .before .before .before .before .before .before .before .before .before .before .before .before .before .before .before .before .before .before .before .before .before .before .before .before .before .before .before .κs) (c .before .before .before .before .before .before .before .before .before .before .before .before .before .before .before .before .before .before .before .before .before .before .before .before .before .before .before .before .before .before .before .before .before .before .before .before .args) .1 .1 .1 .1 .1 .1 .0 .now) (same-length-3 record { before = c .before; run-report = c .run-report }), (MutSlice.fix-len (Row.get 8 (T97 .locals) (m69 (c .before) (After-run-report·gave c)) .ptr) (Row.get 8 (T97 .locals) (m69 (c .before) (After-run-report·gave c)) .name) (Row.get 8 (T97 .locals) (m69 (c .before) (After-run-report·gave c)) .now) (dens (c .before .before .before .before .before .before .before .before .before .before .before .before .before .before .before .before .before .before .before .before .before .before .before .before .before .before .before .before .before .before .before .before .before .before .before .before .κs) (c .before .before .before .before .before .before .before .before .before .before .before .before .before .before .before .before .before .before .before .before .before .before .before .before .before .before .before .before .before .before .before .before .before .before .before .before .args) .1 .1 .1 .1 .1 .1 .1 .0 .now) (same-length-4 record { before = c .before; run-report = c .run-report }), (MutSlice.fix-len (Row.get 9 (T97 .locals) (m69 (c .before) (After-run-report·gave c)) .ptr) (Row.get 9 (T97 .locals) (m69 (c .before) (After-run-report·gave c)) .name) (Row.get 9 (T97 .locals) (m69 (c .before) (After-run-report·gave c)) .now) (dens (c .before .before .before .before .before .before .before .before .before .before .before .before .before .before .before .before .before .before .before .before .before .before .before .before .before .before .before .before .before .before .before .before .before .before .before .before .κs) (c .before .before .before .before .before .before .before .before .before .before .before .before .before .before .before .before .before .before .before .before .before .before .before .before .before .before .before .before .before .before .before .before .before .before .before .before .args) .1 .1 .1 .1 .1 .1 .1 .1 .0 .now) (same-length-5 record { before = c .before; run-report = c .run-report }), (tt, tt)))))))))),
-          returns record { before = c .before; run-report = c .run-report },
-        )
-
-        lay9 : (c : After-clear) → at15 (W0 (c .before .before .before .before .before .before .before .before .before .before .before .before .before .before .before .before .before .before .before .before .before .before .before .before .before .before .before .before .before .before .before .before .before .before .κs) (c .before .before .before .before .before .before .before .before .before .before .before .before .before .before .before .before .before .before .before .before .before .before .before .before .before .before .before .before .before .before .before .before .before .before .args)) (m56 (c .before) (After-clear·gave c))
+      module _ (parts-load-requires : Need-parts-load-requires) (total-weight-requires : Need-total-weight-requires) (ceilings-of-requires : Need-ceilings-of-requires) (cut-of-requires : Need-cut-of-requires) (wide-requires : Need-wide-requires) (index-requires : Need-index-requires) (slice-relend-prefix-make-passes : Need-slice-relend-prefix-make-passes) (slice-aggregate-make-passes : Need-slice-aggregate-make-passes) (make-passes-requires : Need-make-passes-requires) (clear-requires : Need-clear-requires) (finish-requires : Need-finish-requires) (same-length : Need-same-length) (same-length-2 : Need-same-length-2) (same-length-3 : Need-same-length-3) (same-length-4 : Need-same-length-4) (same-length-5 : Need-same-length-5) (returns : Need-returns) where
+        lay9 : (c : After-finish) → at13 (W0 (c .before .before .before .before .before .before .before .before .before .before .before .before .before .before .before .before .before .before .before .before .before .before .before .before .before .before .before .before .before .before .before .before .before .before .κs) (c .before .before .before .before .before .before .before .before .before .before .before .before .before .before .before .before .before .before .before .before .before .before .before .before .before .before .before .before .before .before .before .before .before .before .args)) (m56 (c .before) (After-finish·gave c))
         lay9 = λ c. (
           Path'.refl,
-          λ g. (run-report-requires record { before = record { before = c .before; clear = c .clear }; moves2 = record { given = g } }, λ g'. lay10 record { before = record { before = record { before = c .before; clear = c .clear }; moves2 = record { given = g } }; run-report = Called.called ps·9 r·9 (claims· .19) T85 (record { pos = 22; st = List.[]; d = 0; at = λ x. x }, (Num.vAt 18 λ x. x, tt)) (m58 record { before = c .before; clear = c .clear } g) g' }),
+          λ g. ((Path'.refl, (Path'.refl, (Path'.refl, (Path'.refl, (MutSlice.fix-len (Row.get 5 (T94 .locals) (m67 record { before = c .before; finish = c .finish } g) .ptr) (Row.get 5 (T94 .locals) (m67 record { before = c .before; finish = c .finish } g) .name) (Row.get 5 (T94 .locals) (m67 record { before = c .before; finish = c .finish } g) .now) (dens (c .before .before .before .before .before .before .before .before .before .before .before .before .before .before .before .before .before .before .before .before .before .before .before .before .before .before .before .before .before .before .before .before .before .before .κs) (c .before .before .before .before .before .before .before .before .before .before .before .before .before .before .before .before .before .before .before .before .before .before .before .before .before .before .before .before .before .before .before .before .before .before .args) .1 .1 .1 .1 .0 .now) (same-length record { before = record { before = c .before; finish = c .finish }; gains2 = record { given = g } }), (MutSlice.fix-len (Row.get 6 (T94 .locals) (m67 record { before = c .before; finish = c .finish } g) .ptr) (Row.get 6 (T94 .locals) (m67 record { before = c .before; finish = c .finish } g) .name) (Row.get 6 (T94 .locals) (m67 record { before = c .before; finish = c .finish } g) .now) (dens (c .before .before .before .before .before .before .before .before .before .before .before .before .before .before .before .before .before .before .before .before .before .before .before .before .before .before .before .before .before .before .before .before .before .before .κs) (c .before .before .before .before .before .before .before .before .before .before .before .before .before .before .before .before .before .before .before .before .before .before .before .before .before .before .before .before .before .before .before .before .before .before .args) .1 .1 .1 .1 .1 .0 .now) (same-length-2 record { before = record { before = c .before; finish = c .finish }; gains2 = record { given = g } }), (MutSlice.fix-len (Row.get 7 (T94 .locals) (m67 record { before = c .before; finish = c .finish } g) .ptr) (Row.get 7 (T94 .locals) (m67 record { before = c .before; finish = c .finish } g) .name) (Row.get 7 (T94 .locals) (m67 record { before = c .before; finish = c .finish } g) .now) (dens (c .before .before .before .before .before .before .before .before .before .before .before .before .before .before .before .before .before .before .before .before .before .before .before .before .before .before .before .before .before .before .before .before .before .before .κs) (c .before .before .before .before .before .before .before .before .before .before .before .before .before .before .before .before .before .before .before .before .before .before .before .before .before .before .before .before .before .before .before .before .before .before .args) .1 .1 .1 .1 .1 .1 .0 .now) (same-length-3 record { before = record { before = c .before; finish = c .finish }; gains2 = record { given = g } }), (MutSlice.fix-len (Row.get 8 (T94 .locals) (m67 record { before = c .before; finish = c .finish } g) .ptr) (Row.get 8 (T94 .locals) (m67 record { before = c .before; finish = c .finish } g) .name) (Row.get 8 (T94 .locals) (m67 record { before = c .before; finish = c .finish } g) .now) (dens (c .before .before .before .before .before .before .before .before .before .before .before .before .before .before .before .before .before .before .before .before .before .before .before .before .before .before .before .before .before .before .before .before .before .before .κs) (c .before .before .before .before .before .before .before .before .before .before .before .before .before .before .before .before .before .before .before .before .before .before .before .before .before .before .before .before .before .before .before .before .before .before .args) .1 .1 .1 .1 .1 .1 .1 .0 .now) (same-length-4 record { before = record { before = c .before; finish = c .finish }; gains2 = record { given = g } }), (MutSlice.fix-len (Row.get 9 (T94 .locals) (m67 record { before = c .before; finish = c .finish } g) .ptr) (Row.get 9 (T94 .locals) (m67 record { before = c .before; finish = c .finish } g) .name) (Row.get 9 (T94 .locals) (m67 record { before = c .before; finish = c .finish } g) .now) (dens (c .before .before .before .before .before .before .before .before .before .before .before .before .before .before .before .before .before .before .before .before .before .before .before .before .before .before .before .before .before .before .before .before .before .before .κs) (c .before .before .before .before .before .before .before .before .before .before .before .before .before .before .before .before .before .before .before .before .before .before .before .before .before .before .before .before .before .before .before .before .before .before .args) .1 .1 .1 .1 .1 .1 .1 .1 .0 .now) (same-length-5 record { before = record { before = c .before; finish = c .finish }; gains2 = record { given = g } }), (tt, tt)))))))))), returns record { before = record { before = c .before; finish = c .finish }; gains2 = record { given = g } }),
         )
 
-        lay8 : (c : After-clear-gains) → at23 (W0 (c .before .before .before .before .before .before .before .before .before .before .before .before .before .before .before .before .before .before .before .before .before .before .before .before .before .before .before .before .before .before .before .κs) (c .before .before .before .before .before .before .before .before .before .before .before .before .before .before .before .before .before .before .before .before .before .before .before .before .before .before .before .before .before .before .before .args)) (m51 (c .before) (After-clear-gains·gave c))
+        lay8 : (c : After-clear) → at21 (W0 (c .before .before .before .before .before .before .before .before .before .before .before .before .before .before .before .before .before .before .before .before .before .before .before .before .before .before .before .before .before .before .before .κs) (c .before .before .before .before .before .before .before .before .before .before .before .before .before .before .before .before .before .before .before .before .before .before .before .before .before .before .before .before .before .before .before .args)) (m51 (c .before) (After-clear·gave c))
         lay8 = λ c. (
           Path'.refl,
-          λ g. λ g'. (Path'.refl, (clear-requires record { before = record { before = record { before = c .before; clear-gains = c .clear-gains }; gains2 = record { given = g } }; clear-arg = record { given = g' } }, λ g''. lay9 record { before = record { before = record { before = record { before = c .before; clear-gains = c .clear-gains }; gains2 = record { given = g } }; clear-arg = record { given = g' } }; clear = Called.called ps·8 r·8 (claims· .17) T81 (record { pos = 41; ty = Syntax.tyRef Syntax.erased Syntax.mut MoveTy.behind; ref = λ x. x }, (Num.vAt 11 λ x. x, tt)) (m55 record { before = record { before = c .before; clear-gains = c .clear-gains }; gains2 = record { given = g } } g') g'' })),
+          λ g. λ g'. (Path'.refl, (finish-requires record { before = record { before = record { before = c .before; clear = c .clear }; moves2 = record { given = g } }; finish-arg = record { given = g' } }, λ g''. lay9 record { before = record { before = record { before = record { before = c .before; clear = c .clear }; moves2 = record { given = g } }; finish-arg = record { given = g' } }; finish = Called.called ps·8 r·8 (claims· .17) T81 (record { pos = 41; ty = Syntax.tyRef Syntax.erased Syntax.mut (Syntax.tyInt Syntax.w64); ref = λ x. x }, (Num.vAt 11 λ x. x, (record { pos = 22; st = List.[]; d = 0; at = λ x. x }, (Num.vAt 18 λ x. x, tt)))) (m55 record { before = record { before = c .before; clear = c .clear }; moves2 = record { given = g } } g') g'' })),
         )
 
-        lay7 : (c : After-make-passes) → at47 (W0 (c .before .before .before .before .before .before .before .before .before .before .before .before .before .before .before .before .before .before .before .before .before .κs) (c .before .before .before .before .before .before .before .before .before .before .before .before .before .before .before .before .before .before .before .before .before .args)) (m38 (c .before) (After-make-passes·gave c))
+        lay7 : (c : After-make-passes) → at45 (W0 (c .before .before .before .before .before .before .before .before .before .before .before .before .before .before .before .before .before .before .before .before .before .κs) (c .before .before .before .before .before .before .before .before .before .before .before .before .before .before .before .before .before .before .before .before .before .args)) (m38 (c .before) (After-make-passes·gave c))
         lay7 = λ c. (
           Path'.refl,
-          λ g. λ g'. (Path'.refl, λ g''. (Path'.refl, λ g'3. (Path'.refl, λ g'4. λ g'5. (Path'.refl, λ g'6. λ g'7. λ g'8. (Path'.refl, (clear-gains-requires record { before = record { before = record { before = record { before = record { before = record { before = record { before = record { before = record { before = record { before = c .before; make-passes = c .make-passes }; labels = record { given = g } }; slice-known4 = record { given = g' } }; gains = record { given = g'' } }; moves = record { given = g'3 } }; rows-made = record { given = g'4 } }; slice-known5 = record { given = g'5 } }; rows-rewound = record { given = g'6 } }; slice-known6 = record { given = g'7 } }; clear-gains-arg = record { given = g'8 } }, λ g'9. lay8 record { before = record { before = record { before = record { before = record { before = record { before = record { before = record { before = record { before = record { before = record { before = c .before; make-passes = c .make-passes }; labels = record { given = g } }; slice-known4 = record { given = g' } }; gains = record { given = g'' } }; moves = record { given = g'3 } }; rows-made = record { given = g'4 } }; slice-known5 = record { given = g'5 } }; rows-rewound = record { given = g'6 } }; slice-known6 = record { given = g'7 } }; clear-gains-arg = record { given = g'8 } }; clear-gains = Called.called ps·7 r·7 (claims· .15) T73 (record { pos = 39; ty = Syntax.tyRef Syntax.erased Syntax.mut (Syntax.tyInt Syntax.w64); ref = λ x. x }, (Num.vAt 11 λ x. x, tt)) (m50 record { before = record { before = record { before = record { before = record { before = record { before = record { before = record { before = record { before = c .before; make-passes = c .make-passes }; labels = record { given = g } }; slice-known4 = record { given = g' } }; gains = record { given = g'' } }; moves = record { given = g'3 } }; rows-made = record { given = g'4 } }; slice-known5 = record { given = g'5 } }; rows-rewound = record { given = g'6 } }; slice-known6 = record { given = g'7 } } g'8) g'9 })))))),
+          λ g. λ g'. (Path'.refl, λ g''. (Path'.refl, λ g'3. (Path'.refl, λ g'4. λ g'5. (Path'.refl, λ g'6. λ g'7. λ g'8. (Path'.refl, (clear-requires record { before = record { before = record { before = record { before = record { before = record { before = record { before = record { before = record { before = record { before = c .before; make-passes = c .make-passes }; labels = record { given = g } }; slice-known4 = record { given = g' } }; gains = record { given = g'' } }; moves = record { given = g'3 } }; rows-made = record { given = g'4 } }; slice-known5 = record { given = g'5 } }; rows-rewound = record { given = g'6 } }; slice-known6 = record { given = g'7 } }; clear-arg = record { given = g'8 } }, λ g'9. lay8 record { before = record { before = record { before = record { before = record { before = record { before = record { before = record { before = record { before = record { before = record { before = c .before; make-passes = c .make-passes }; labels = record { given = g } }; slice-known4 = record { given = g' } }; gains = record { given = g'' } }; moves = record { given = g'3 } }; rows-made = record { given = g'4 } }; slice-known5 = record { given = g'5 } }; rows-rewound = record { given = g'6 } }; slice-known6 = record { given = g'7 } }; clear-arg = record { given = g'8 } }; clear = Called.called ps·7 r·7 (claims· .15) T73 (record { pos = 39; ty = Syntax.tyRef Syntax.erased Syntax.mut MoveTy.behind; ref = λ x. x }, (Num.vAt 11 λ x. x, tt)) (m50 record { before = record { before = record { before = record { before = record { before = record { before = record { before = record { before = record { before = c .before; make-passes = c .make-passes }; labels = record { given = g } }; slice-known4 = record { given = g' } }; gains = record { given = g'' } }; moves = record { given = g'3 } }; rows-made = record { given = g'4 } }; slice-known5 = record { given = g'5 } }; rows-rewound = record { given = g'6 } }; slice-known6 = record { given = g'7 } } g'8) g'9 })))))),
         )
 
-        lay6 : (c : After-index) → at65 (W0 (c .before .before .before .before .before .before .before .before .before .before .before .before .before .before .before .κs) (c .before .before .before .before .before .before .before .before .before .before .before .before .before .before .before .args)) (m25 (c .before) (After-index·gave c))
+        lay6 : (c : After-index) → at63 (W0 (c .before .before .before .before .before .before .before .before .before .before .before .before .before .before .before .κs) (c .before .before .before .before .before .before .before .before .before .before .before .before .before .before .before .args)) (m25 (c .before) (After-index·gave c))
         lay6 = λ c. λ g. (
           Path'.refl,
           (slice-relend-prefix-make-passes record { before = record { before = c .before; index = c .index }; make-passes-arg = record { given = g } }, λ g'. (Relend.count-is T39 29 30 (λ x. x) (λ u. u .1 .1 .1 .1 .1 .1 .1 .1 .1 .1 .1 .0) (m30 record { before = record { before = c .before; index = c .index }; make-passes-arg = record { given = g } } g') (slice-aggregate-make-passes record { before = record { before = record { before = c .before; index = c .index }; make-passes-arg = record { given = g } }; make-passes-arg2 = record { given = g' } }), λ g''. (Path'.refl, λ g'3. (Path'.refl, λ g'4. (Path'.refl, (make-passes-requires record { before = record { before = record { before = record { before = record { before = record { before = c .before; index = c .index }; make-passes-arg = record { given = g } }; make-passes-arg2 = record { given = g' } }; make-passes-arg3 = record { given = g'' } }; make-passes-arg4 = record { given = g'3 } }; make-passes-arg5 = record { given = g'4 } }, λ g'5. lay7 record { before = record { before = record { before = record { before = record { before = record { before = record { before = c .before; index = c .index }; make-passes-arg = record { given = g } }; make-passes-arg2 = record { given = g' } }; make-passes-arg3 = record { given = g'' } }; make-passes-arg4 = record { given = g'3 } }; make-passes-arg5 = record { given = g'4 } }; make-passes = Called.called ps·6 r·6 (claims· .13) T49 (record { pos = 1; ty = Syntax.tyRef (Syntax.named 0) Syntax.imm (Syntax.tyInt Syntax.w32); ref = λ x. x }, (record { pos = 2; ty = Syntax.tyRef (Syntax.named 1) Syntax.imm (Syntax.tyInt Syntax.w32); ref = λ x. x }, (record { pos = 3; ty = Syntax.tyRef (Syntax.named 2) Syntax.imm (Syntax.tyInt Syntax.w32); ref = λ x. x }, (record { pos = 4; ty = Syntax.tyRef (Syntax.named 3) Syntax.imm (Syntax.tyInt Syntax.w32); ref = λ x. x }, (record { pos = 28; ty = Syntax.tyRef Syntax.erased Syntax.mut (Syntax.tyInt Syntax.w32); ref = λ x. x }, (record { pos = 30; ty = Syntax.tyRef Syntax.erased Syntax.mut (Syntax.tyInt Syntax.w64); ref = λ x. x }, (record { pos = 32; ty = Syntax.tyRef Syntax.erased Syntax.mut MoveTy.behind; ref = λ x. x }, (record { pos = 34; ty = Syntax.tyRef Syntax.erased Syntax.mut (Syntax.tyInt Syntax.w32); ref = λ x. x }, (record { pos = 36; ty = Syntax.tyRef Syntax.erased Syntax.mut (Syntax.tyInt Syntax.w32); ref = λ x. x }, (record { pos = 12; st = List.[]; d = 0; at = λ x. x }, (Num.vAt 18 λ x. x, (record { pos = 17; st = List.[]; d = 0; at = λ x. x }, (Num.vAt 19 λ x. x, (Num.vAt 20 λ x. x, (Num.vAt 21 λ x. x, tt))))))))))))))) (m37 record { before = record { before = record { before = record { before = record { before = c .before; index = c .index }; make-passes-arg = record { given = g } }; make-passes-arg2 = record { given = g' } }; make-passes-arg3 = record { given = g'' } }; make-passes-arg4 = record { given = g'3 } } g'4) g'5 })))))),
         )
 
-        lay5 : (c : After-wide) → at66 (W0 (c .before .before .before .before .before .before .before .before .before .before .before .before .before .before .κs) (c .before .before .before .before .before .before .before .before .before .before .before .before .before .before .args)) (m24 (c .before) (After-wide·gave c))
+        lay5 : (c : After-wide) → at64 (W0 (c .before .before .before .before .before .before .before .before .before .before .before .before .before .before .κs) (c .before .before .before .before .before .before .before .before .before .before .before .before .before .before .args)) (m24 (c .before) (After-wide·gave c))
         lay5 = λ c. (
           index-requires record { before = c .before; wide = c .wide },
           λ g. lay6 record { before = record { before = c .before; wide = c .wide }; index = Called.called ps·5 r·5 (claims· .11) T31 (Num.vFld 10 (List._∷_ (Syntax.field 1) List.[]) 4 λ x. Settings.struct .as-values x .1 .0, tt) (m24 (c .before) (After-wide·gave c)) g },
         )
 
-        lay4 : (c : After-cut-of) → at71 (W0 (c .before .before .before .before .before .before .before .before .before .before .before .before .before .κs) (c .before .before .before .before .before .before .before .before .before .before .before .before .before .args)) (m21 (c .before) (After-cut-of·gave c))
+        lay4 : (c : After-cut-of) → at69 (W0 (c .before .before .before .before .before .before .before .before .before .before .before .before .before .κs) (c .before .before .before .before .before .before .before .before .before .before .before .before .before .args)) (m21 (c .before) (After-cut-of·gave c))
         lay4 = λ c. (
           wide-requires record { before = c .before; cut-of = c .cut-of },
           λ g. lay5 record { before = record { before = c .before; cut-of = c .cut-of }; wide = Called.called ps·4 r·4 (claims· .9) T29 (Num.vFld 10 (List._∷_ (Syntax.field 2) List.[]) 8 λ x. Settings.struct .as-values x .1 .1 .0, tt) (m23 (c .before) (After-cut-of·gave c)) g },
         )
 
-        lay3 : (c : After-ceilings-of) → at75 (W0 (c .before .before .before .before .before .before .before .before .before .before .before .κs) (c .before .before .before .before .before .before .before .before .before .before .before .args)) (m18 (c .before) (After-ceilings-of·gave c))
+        lay3 : (c : After-ceilings-of) → at73 (W0 (c .before .before .before .before .before .before .before .before .before .before .before .κs) (c .before .before .before .before .before .before .before .before .before .before .before .args)) (m18 (c .before) (After-ceilings-of·gave c))
         lay3 = λ c. λ g. (
           Path'.refl,
           (cut-of-requires record { before = record { before = c .before; ceilings-of = c .ceilings-of }; cut-of-arg = record { given = g } }, λ g'. lay4 record { before = record { before = record { before = c .before; ceilings-of = c .ceilings-of }; cut-of-arg = record { given = g } }; cut-of = Called.called ps·3 r·3 (claims· .7) T25 (record { pos = 1; ty = Syntax.tyRef (Syntax.named 0) Syntax.imm (Syntax.tyInt Syntax.w32); ref = λ x. x }, (record { pos = 2; ty = Syntax.tyRef (Syntax.named 1) Syntax.imm (Syntax.tyInt Syntax.w32); ref = λ x. x }, (record { pos = 3; ty = Syntax.tyRef (Syntax.named 2) Syntax.imm (Syntax.tyInt Syntax.w32); ref = λ x. x }, (record { pos = 26; ty = Syntax.tyRef Syntax.erased Syntax.imm (Syntax.tyInt Syntax.w32); ref = λ x. x }, tt)))) (m20 record { before = c .before; ceilings-of = c .ceilings-of } g) g' }),
         )
 
-        lay2 : (c : After-total-weight) → at79 (W0 (c .before .before .before .before .before .before .before .before .before .before .κs) (c .before .before .before .before .before .before .before .before .before .before .args)) (m14 (c .before) (After-total-weight·gave c))
+        lay2 : (c : After-total-weight) → at77 (W0 (c .before .before .before .before .before .before .before .before .before .before .κs) (c .before .before .before .before .before .before .before .before .before .before .args)) (m14 (c .before) (After-total-weight·gave c))
         lay2 = λ c. (
           ceilings-of-requires record { before = c .before; total-weight = c .total-weight },
           λ g. lay3 record { before = record { before = c .before; total-weight = c .total-weight }; ceilings-of = Called.called ps·2 r·2 (claims· .5) T21 (record { pos = 12; st = List.[]; d = 0; at = λ x. x }, (Num.vAt 13 λ x. x, (Num.vLit 2, (Num.vAt 14 λ x. x, (Num.vAt 15 λ x. x, (Float.fAt 16 λ x. x, tt)))))) (m17 (c .before) (After-total-weight·gave c)) g },
         )
 
-        lay1 : (c : After-parts-load) → at84 (W0 (c .before .before .before .before .before .before .before .before .before .κs) (c .before .before .before .before .before .before .before .before .before .args)) (m11 (c .before) (After-parts-load·gave c))
+        lay1 : (c : After-parts-load) → at82 (W0 (c .before .before .before .before .before .before .before .before .before .κs) (c .before .before .before .before .before .before .before .before .before .args)) (m11 (c .before) (After-parts-load·gave c))
         lay1 = λ c. (
           total-weight-requires record { before = c .before; parts-load = c .parts-load },
           λ g. lay2 record { before = record { before = c .before; parts-load = c .parts-load }; total-weight = Called.called ps·1 r·1 (claims· .3) T16 (record { pos = 4; ty = Syntax.tyRef (Syntax.named 3) Syntax.imm (Syntax.tyInt Syntax.w32); ref = λ x. x }, tt) (m13 (c .before) (After-parts-load·gave c)) g },
         )
 
-        pub laid : (c : Start) → at96 (W0 (c .κs) (c .args)) (m0 (c .κs) (c .args))
+        pub laid : (c : Start) → at94 (W0 (c .κs) (c .args)) (m0 (c .κs) (c .args))
         laid = λ c. λ g. λ g'. λ g''. λ g'3. λ g'4. λ g'5. λ g'6. λ g'7. (
           Path'.refl,
           (parts-load-requires record { before = record { before = record { before = record { before = record { before = record { before = record { before = record { before = c; shared-slice-known = record { given = g } }; shared-slice-known2 = record { given = g' } }; shared-slice-known3 = record { given = g'' } }; shared-slice-known4 = record { given = g'3 } }; slice-known = record { given = g'4 } }; slice-known2 = record { given = g'5 } }; slice-known3 = record { given = g'6 } }; parts-load-arg = record { given = g'7 } }, λ g'8. lay1 record { before = record { before = record { before = record { before = record { before = record { before = record { before = record { before = record { before = c; shared-slice-known = record { given = g } }; shared-slice-known2 = record { given = g' } }; shared-slice-known3 = record { given = g'' } }; shared-slice-known4 = record { given = g'3 } }; slice-known = record { given = g'4 } }; slice-known2 = record { given = g'5 } }; slice-known3 = record { given = g'6 } }; parts-load-arg = record { given = g'7 } }; parts-load = Called.called ps·0 r·0 (claims· .1) T12 (record { pos = 4; ty = Syntax.tyRef (Syntax.named 3) Syntax.imm (Syntax.tyInt Syntax.w32); ref = λ x. x }, (record { pos = 24; ty = Syntax.tyRef Syntax.erased Syntax.imm (Syntax.tyInt Syntax.w32); ref = λ x. x }, tt)) (m10 record { before = record { before = record { before = record { before = record { before = record { before = record { before = c; shared-slice-known = record { given = g } }; shared-slice-known2 = record { given = g' } }; shared-slice-known3 = record { given = g'' } }; shared-slice-known4 = record { given = g'3 } }; slice-known = record { given = g'4 } }; slice-known2 = record { given = g'5 } }; slice-known3 = record { given = g'6 } } g'7) g'8 }),
@@ -5182,6 +5312,6 @@ module _ (claims· : Claims) where
             pre = pre;
           }
 
-        module _ {M : Type 1} (𝓤 : URA.URA M) (H : Wp.Heap 𝓤) (A : Atoms.Atoms 𝓤) (W : Kit.Given 𝓤 H A) (𝓣 : Wp.Tables 𝓤 H) (known0 : Plain.Known 𝓤 H A W 𝓣 2 ps·0 r·0 (claims· .0) (claims· .1) "imbalance::parts_load") (known1 : Plain.Known 𝓤 H A W 𝓣 1 ps·1 r·1 (claims· .2) (claims· .3) "imbalance::total_weight") (known2 : Plain.Known 𝓤 H A W 𝓣 0 ps·2 r·2 (claims· .4) (claims· .5) "imbalance::ceilings_of") (known3 : Plain.Known 𝓤 H A W 𝓣 4 ps·3 r·3 (claims· .6) (claims· .7) "topology::cut::cut_of") (known4 : Plain.Known 𝓤 H A W 𝓣 0 ps·4 r·4 (claims· .8) (claims· .9) "lists::wide") (known5 : Plain.Known 𝓤 H A W 𝓣 0 ps·5 r·5 (claims· .10) (claims· .11) "lists::index") (known6 : Plain.Known 𝓤 H A W 𝓣 9 ps·6 r·6 (claims· .12) (claims· .13) "fiduccia_mattheyses::make_passes") (known7 : Plain.Known 𝓤 H A W 𝓣 1 ps·7 r·7 (claims· .14) (claims· .15) "lists::clear_gains") (known8 : Plain.Known 𝓤 H A W 𝓣 1 ps·8 r·8 (claims· .16) (claims· .17) "fiduccia_mattheyses::clear") (known9 : Plain.Known 𝓤 H A W 𝓣 0 ps·9 r·9 (claims· .18) (claims· .19) "fiduccia_mattheyses::run_report") where
+        module _ {M : Type 1} (𝓤 : URA.URA M) (H : Wp.Heap 𝓤) (A : Atoms.Atoms 𝓤) (W : Kit.Given 𝓤 H A) (𝓣 : Wp.Tables 𝓤 H) (known0 : Plain.Known 𝓤 H A W 𝓣 2 ps·0 r·0 (claims· .0) (claims· .1) "imbalance::parts_load") (known1 : Plain.Known 𝓤 H A W 𝓣 1 ps·1 r·1 (claims· .2) (claims· .3) "imbalance::total_weight") (known2 : Plain.Known 𝓤 H A W 𝓣 0 ps·2 r·2 (claims· .4) (claims· .5) "imbalance::ceilings_of") (known3 : Plain.Known 𝓤 H A W 𝓣 4 ps·3 r·3 (claims· .6) (claims· .7) "topology::cut::cut_of") (known4 : Plain.Known 𝓤 H A W 𝓣 0 ps·4 r·4 (claims· .8) (claims· .9) "lists::wide") (known5 : Plain.Known 𝓤 H A W 𝓣 0 ps·5 r·5 (claims· .10) (claims· .11) "lists::index") (known6 : Plain.Known 𝓤 H A W 𝓣 9 ps·6 r·6 (claims· .12) (claims· .13) "fiduccia_mattheyses::make_passes") (known7 : Plain.Known 𝓤 H A W 𝓣 1 ps·7 r·7 (claims· .14) (claims· .15) "fiduccia_mattheyses::clear") (known8 : Plain.Known 𝓤 H A W 𝓣 1 ps·8 r·8 (claims· .16) (claims· .17) "fiduccia_mattheyses::finish") where
           pub spec : Statement.Triple 𝓤 (Wp.WpFn 𝓤 H (𝓣 .C) (𝓣 .Λ) (Function.fnOf 9 ps r xs m hs body)) (Function.plainOf 𝓤 H A 9 ps r Pre· Post·)
-          spec = Plain.t-fn-plain 𝓤 H A W 𝓣 9 ps r xs m hs body (λ κs qs bs. Φ) (λ κs qs bs bd. typed κs qs 𝓤 H A W 𝓣 (known0, known1, known2, known3, known4, known5, known6, known7, known8, known9) bs bd) Pre· Post· asked
+          spec = Plain.t-fn-plain 𝓤 H A W 𝓣 9 ps r xs m hs body (λ κs qs bs. Φ) (λ κs qs bs bd. typed κs qs 𝓤 H A W 𝓣 (known0, known1, known2, known3, known4, known5, known6, known7, known8) bs bd) Pre· Post· asked

@@ -1,41 +1,22 @@
--- `fiduccia_mattheyses_pass::gains::shifted` meets its contract.  Assumes nothing.
-use mir.Facts.{toZ-ofZ}
-use Rattle.fiduccia_mattheyses_pass.proofs.Updates.{doubled, double-fits, up-fits, down-fits, shift-up, shift-down}
+-- `fiduccia_mattheyses_pass::gains::shifted` meets its contract: what the arc changes is the gain's shift. Assumes nothing.
 use borrow.Author.Needs.{needs}
+use lib.Dec.{eqb}
+use Rattle.fiduccia_mattheyses_pass.proofs.Updates.{sum-fits, sum-shifts}
 use Rattle.fiduccia_mattheyses_pass.proofs.gains.shifted.Statement.{statement}
 use Rattle.fiduccia_mattheyses_pass.proofs.gains.shifted.Tie as tie
 
-cast-d : tie.Need-cast-d
-cast-d c = search needs
-
-mul-d : tie.Need-mul-d
-mul-d c = double-fits (c .args .g) (c .args .w) (c .pre) (c .fits .w .fits)
+twice-requires : tie.Need-twice-requires
+twice-requires c κs = search needs
 
 add-result : tie.Need-add-result
 add-result c =
-    let x = c .before in
-    let d = doubled (x .args .g) (x .args .w) (x .pre) (x .fits .w .fits) in
-    rw (toZ-ofZ (x .fits .g), d) (up-fits (x .args .g) (x .args .w) (x .pre) (x .fits .w .fits))
-
-sub-result : tie.Need-sub-result
-sub-result c =
-    let x = c .before in
-    let d = doubled (x .args .g) (x .args .w) (x .pre) (x .fits .w .fits) in
-    rw (toZ-ofZ (x .fits .g), d) (down-fits (x .args .g) (x .args .w) (x .pre) (x .fits .w .fits))
+    let x : tie.Start = c .before in
+    sum-fits (x .args .g) (x .args .w) (x .pre) (x .fits .w .fits) (eqb (x .args .p) (x .args .old)) (c .twice .result) (c .twice .ensures)
 
 returns : tie.Need-returns
 returns c =
-    let x = c .before in
-    let d = doubled (x .args .g) (x .args .w) (x .pre) (x .fits .w .fits) in
-    let f = up-fits (x .args .g) (x .args .w) (x .pre) (x .fits .w .fits) in
-    rw (toZ-ofZ (x .fits .g), d, toZ-ofZ f) (shift-up (x .args .g) (x .args .w) (x .pre) (x .fits .w .fits) (x .args .p) (x .args .old) (c .if1 .taken))
-
-returns-2 : tie.Need-returns-2
-returns-2 c =
-    let x = c .before in
-    let d = doubled (x .args .g) (x .args .w) (x .pre) (x .fits .w .fits) in
-    let f = down-fits (x .args .g) (x .args .w) (x .pre) (x .fits .w .fits) in
-    rw (toZ-ofZ (x .fits .g), d, toZ-ofZ f) (shift-down (x .args .g) (x .args .w) (x .pre) (x .fits .w .fits) (x .args .p) (x .args .old) (c .if1 .left))
+    let x : tie.Start = c .before in
+    sum-shifts (x .args .g) (x .args .w) (x .pre) (x .fits .w .fits) (eqb (x .args .p) (x .args .old)) (c .twice .result) (c .twice .ensures)
 
 pub shifted-spec : {M : Type 1} → statement M
-shifted-spec = tie.close (tie.spec cast-d mul-d add-result sub-result returns returns-2)
+shifted-spec = tie.close (tie.spec twice-requires add-result returns)

@@ -9,7 +9,8 @@ use lib.Signed.{mag}
 use borrow.Author.Needs.{needs}
 use Rattle.topology.specs.Graph.{Graph, inRows}
 use Rattle.topology.proofs.Rises.{arc-inside, arc-goes}
-use Rattle.kernighan_lin_pass.proofs.Bits.{sum-fits, sum-kept, twice-small}
+use Rattle.topology.proofs.Gains.{twice-small}
+use Rattle.kernighan_lin_pass.proofs.Bits.{sum-fits, sum-kept}
 use Rattle.kernighan_lin_pass.proofs.Tells.{Telling, begins, turn, gain-small, long-kept, ended}
 use Rattle.kernighan_lin_pass.proofs.gain.tell.Statement.{statement}
 use Rattle.kernighan_lin_pass.proofs.gain.tell.Tie as tie

@@ -1,5 +1,5 @@
 -- `ceiling::bits_of` meets its contract: a legal e is no NaN. Assumes nothing.
-use Rattle.plan_blocks.proofs.Bits.{legal-number}
+use Rattle.imbalance.proofs.Patterns.{legal-number}
 use borrow.Author.Needs.{needs}
 use Rattle.plan_blocks.proofs.ceiling.bits_of.Statement.{statement}
 use Rattle.plan_blocks.proofs.ceiling.bits_of.Tie as tie

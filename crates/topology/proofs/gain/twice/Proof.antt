@@ -1,8 +1,8 @@
--- `kernighan_lin_pass::gain::twice` meets its contract. Assumes nothing.
+-- `topology::gain::twice` meets its contract. Assumes nothing.
 use borrow.Author.Needs.{needs}
-use Rattle.kernighan_lin_pass.proofs.Bits.{twice-fits, negated-fits, twice-same, twice-other}
-use Rattle.kernighan_lin_pass.proofs.gain.twice.Statement.{statement}
-use Rattle.kernighan_lin_pass.proofs.gain.twice.Tie as tie
+use Rattle.topology.proofs.Gains.{twice-fits, negated-fits, twice-same, twice-other}
+use Rattle.topology.proofs.gain.twice.Statement.{statement}
+use Rattle.topology.proofs.gain.twice.Tie as tie
 
 cast-d : tie.Need-cast-d
 cast-d c = search needs

@@ -1,0 +1,17 @@
+-- What of FM's settings is used (document 01, "Ceiling").
+use mathlib.Core.Path.{_≡_}
+use Rattle.imbalance.specs.Used.{SameUsed}
+use Rattle.fiduccia_mattheyses.specs.declared.Settings.{Settings}
+use Rattle.fiduccia_mattheyses.specs.Entry.{Plan}
+
+-- two settings differ at most in what the choice does not use
+pub record SameSettings (s s′ : Settings) : Type 0 where
+  pub passes : s .passes ≡ s′ .passes
+  pub moves : s .moves ≡ s′ .moves
+  pub bad : s .bad ≡ s′ .bad
+  pub ceiling : SameUsed (s .choice) (s .whole) (s .imbalance) (s′ .choice) (s′ .whole) (s′ .imbalance)
+
+-- the same lists with other settings
+abbrev pub withSettings : Plan → Settings → Plan
+withSettings p s =
+    record { starts = p .starts; neighbours = p .neighbours; arcs = p .arcs; weights = p .weights; settings = s }
