@@ -14,7 +14,6 @@ pub mod Demands
 pub mod Quiet
 pub mod Lasts
 pub mod Promised
-pub mod RunRecordTy
 pub mod walk
 pub mod Refusals
 pub mod Unused

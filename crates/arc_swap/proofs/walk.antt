@@ -1,4 +1,5 @@
 -- Made by tools/walkgen.py: do not edit.
+pub mod RunRecordTy
 pub mod note
 pub mod zero_run
 pub mod drain_stack

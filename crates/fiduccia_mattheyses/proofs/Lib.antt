@@ -7,7 +7,6 @@ pub mod Running
 pub mod Entering
 pub mod Again
 pub mod Place
-pub mod MoveTy
 pub mod walk
 pub mod Unique
 pub mod Results

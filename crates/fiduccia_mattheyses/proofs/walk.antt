@@ -1,4 +1,5 @@
 -- Made by tools/walkgen.py: do not edit.
+pub mod MoveTy
 pub mod put_move
 pub mod move_at
 pub mod clear

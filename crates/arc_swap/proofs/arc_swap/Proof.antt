@@ -1,5 +1,4 @@
 -- `arc_swap::arc_swap` meets its promise: no vertex, a refusal, or the run. Assumes nothing.
-mod Lts
 mod Tie
 use Rattle.arc_swap.proofs.Calls.{in-order, at-empty, at-refusal, at-run}
 use borrow.Author.Needs.{needs}

@@ -1,5 +1,4 @@
 -- `arc_swap::arc_swap_counted` meets its promise: the record that it lends is at zero, and the one that it answers is what the call leaves there. Assumes nothing.
-mod Lts
 mod Tie
 use Rattle.arc_swap.proofs.Calls.{counted}
 use borrow.Author.Needs.{needs}

@@ -1,5 +1,4 @@
 -- `arc_swap::drain_stack` meets its contract: each attempt is a law of `Drains`. Assumes nothing.
-mod Lts
 mod Tie
 use mathlib.Core.Path.{refl, _∙_}
 use Prim.Native.Nat.{_+_, _*_}

@@ -1,5 +1,4 @@
 -- `arc_swap::run_passes` meets its contract: each pass is a law of `Running`. Assumes nothing.
-mod Lts
 mod Tie
 use mathlib.Core.Path.{_∙_}
 use native.Mathlib.Omega.{arith}

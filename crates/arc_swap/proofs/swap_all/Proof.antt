@@ -1,5 +1,4 @@
 -- `arc_swap::swap_all` meets its contract: what the run begins with, the passes and the report are laws of `Calls`. Assumes nothing.
-mod Lts
 mod Tie
 use Rattle.arc_swap.proofs.Calls.{passes-asked, ran}
 use borrow.Author.Needs.{needs}

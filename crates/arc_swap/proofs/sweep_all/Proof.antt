@@ -1,5 +1,4 @@
 -- `arc_swap::sweep_all` meets its contract: each turn is a law of `Taken`, and the pass one of `Sweeping`. Assumes nothing.
-mod Lts
 mod Tie
 use mathlib.Core.Path.{refl, _∙_}
 use Prim.Native.Nat.{_-_}

@@ -1,3 +1,4 @@
 -- Made by tools/walkgen.py: do not edit.
 pub mod Kinds
 pub mod Reads
+pub mod Lts

@@ -48,7 +48,7 @@ use Rattle.lists.specs.Fill.{filled}
 use Rattle.fiduccia_mattheyses.specs.Entry.{none}
 use Rattle.lists.proofs.Fills.{length-written, written-more, written-none}
 use Rattle.fiduccia_mattheyses.proofs.Again.{LentAgain, lends-again, comes-back}
-use Rattle.fiduccia_mattheyses.proofs.MoveTy.{R, behind}
+use Rattle.fiduccia_mattheyses.proofs.walk.MoveTy.{R, behind}
 use Rattle.fiduccia_mattheyses.proofs.put_move as put
 use Rattle.fiduccia_mattheyses.proofs.put_move.Symbol as put-def
 use Rattle.fiduccia_mattheyses.proofs.put_move.Symbol.{name as #fiduccia_mattheyses·put-move}

@@ -1,5 +1,4 @@
 -- `fiduccia_mattheyses::fiduccia_mattheyses` meets its promise: a refusal, no vertex, or the run. Assumes nothing.
-mod Lts
 mod Tie
 use borrow.Author.Needs.{needs}
 use Rattle.fiduccia_mattheyses.proofs.Entering.{checked, ready, at-empty, at-refusal, at-run}

@@ -1,5 +1,4 @@
 -- `fiduccia_mattheyses::make_passes` meets its contract: each turn is a law of `Running`. Assumes nothing.
-mod Lts
 mod Tie
 use mathlib.Core.Path.{refl, sym, _∙_}
 use Prim.Native.Nat.{_-_}

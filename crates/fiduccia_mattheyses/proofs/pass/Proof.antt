@@ -1,5 +1,4 @@
 -- `fiduccia_mattheyses::pass` meets its contract: each call's answer is handed on by a law of `Passing`. Assumes nothing.
-mod Lts
 mod Tie
 use mathlib.Core.Path.{sym, _∙_}
 use Rattle.fiduccia_mattheyses.proofs.Passing.{cut-room, walk-asked, rewind-asked, least-read, least-plain, pass-done}
@@ -7,7 +6,7 @@ use borrow.Author.Needs.{needs}
 use Rattle.fiduccia_mattheyses.proofs.pass.Statement.{statement}
 use Rattle.fiduccia_mattheyses.proofs.pass.Proof.Tie as tie
 use Rattle.fiduccia_mattheyses.proofs.walk.pass.Reads as reads
-use Rattle.fiduccia_mattheyses.proofs.pass.Proof.Lts as lts
+use Rattle.fiduccia_mattheyses.proofs.walk.pass.Lts as lts
 use Rattle.fiduccia_mattheyses.proofs.first_standing.Reads as first-standing-reads
 use Rattle.fiduccia_mattheyses.proofs.pass_answer.Reads as pass-answer-reads
 use Rattle.fiduccia_mattheyses.proofs.walk.rewind.Reads as rewind-reads

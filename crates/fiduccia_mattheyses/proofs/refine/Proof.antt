@@ -1,5 +1,4 @@
 -- `fiduccia_mattheyses::refine` meets its contract: each call's answer is handed on by a law of `Entering`. Assumes nothing.
-mod Lts
 mod Tie
 use mathlib.Core.Path.{sym, _∙_}
 use native.Mathlib.Omega.{arith}

@@ -1,5 +1,4 @@
 -- `fiduccia_mattheyses::rewind` meets its contract: each turn takes one move back, by a law of `Rewinding`. Assumes nothing.
-mod Lts
 mod Tie
 use mathlib.Core.Path.{_≡_, ap, _∙_}
 use Prim.Native.Nat.{_-_, _≤_}

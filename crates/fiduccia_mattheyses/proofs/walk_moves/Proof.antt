@@ -1,5 +1,4 @@
 -- `fiduccia_mattheyses::walk_moves` meets its contract: each turn is a law of `Walking`. Assumes nothing.
-mod Lts
 mod Tie
 use mathlib.Core.Path.{refl, sym, _∙_}
 use Prim.Native.Nat.{_-_}
@@ -11,7 +10,7 @@ use Rattle.fiduccia_mattheyses.proofs.Walking.{Walking, answer, walking
 use Rattle.fiduccia_mattheyses.proofs.walk_moves.Statement.{statement}
 use Rattle.fiduccia_mattheyses.proofs.walk_moves.Proof.Tie as tie
 use Rattle.fiduccia_mattheyses.proofs.walk.walk_moves.Reads as reads
-use Rattle.fiduccia_mattheyses.proofs.walk_moves.Proof.Lts as lts
+use Rattle.fiduccia_mattheyses.proofs.walk.walk_moves.Lts as lts
 use Rattle.fiduccia_mattheyses.proofs.narrow.Reads as narrow-reads
 use Rattle.fiduccia_mattheyses.proofs.walk.put_move.Reads as put-move-reads
 use Rattle.fiduccia_mattheyses_pass.proofs.make_move.Reads as make-move-reads

@@ -1,5 +1,4 @@
 -- The walk of `with_8_moves`, whose every need the call of FM with blank records answers (document 01, "FM"). Assumes nothing.
-mod Lts
 mod Tie
 use borrow.Author.Needs.{needs}
 use Rattle.fiduccia_mattheyses_moves.proofs.Owning.{with-blank}

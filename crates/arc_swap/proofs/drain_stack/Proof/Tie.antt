@@ -2,7 +2,7 @@
 use Rattle.arc_swap.proofs.drain_stack.Code
 use Rattle.arc_swap.proofs.drain_stack.Key
 use Rattle.arc_swap.proofs.walk.drain_stack.Kinds as Kinds
-use Rattle.arc_swap.proofs.drain_stack.Proof.Lts as Lts
+use Rattle.arc_swap.proofs.walk.drain_stack.Lts as Lts
 use Rattle.arc_swap.proofs.walk.drain_stack.Reads as Reads
 use Rattle.arc_swap.proofs.drain_stack.Statement
 use Rattle.arc_swap.proofs.note.Met
@@ -25,63 +25,28 @@ abbrev pub Start : (Inv : InvT-loop) → (μ : MeasureT-loop) → Type 0
 Start = λ Inv μ. Lts.Start (Reads''.Asked, Reads''.Learnt, Reads'.Asked, Reads'.Learnt) Reads.Pre Reads.Post Inv μ
 
 abbrev pub After-shared-slice-known : (Inv : InvT-loop) → (μ : MeasureT-loop) → Type 0
-After-shared-slice-known = λ Inv μ. Lts.After-shared-slice-known (
-  Reads''.Asked,
-  Reads''.Learnt,
-  Reads'.Asked,
-  Reads'.Learnt,
-) Reads.Pre Reads.Post Inv μ
+After-shared-slice-known = λ Inv μ. Lts.After-shared-slice-known (Reads''.Asked, Reads''.Learnt, Reads'.Asked, Reads'.Learnt) Reads.Pre Reads.Post Inv μ
 
 abbrev pub After-shared-slice-known2 : (Inv : InvT-loop) → (μ : MeasureT-loop) → Type 0
-After-shared-slice-known2 = λ Inv μ. Lts.After-shared-slice-known2 (
-  Reads''.Asked,
-  Reads''.Learnt,
-  Reads'.Asked,
-  Reads'.Learnt,
-) Reads.Pre Reads.Post Inv μ
+After-shared-slice-known2 = λ Inv μ. Lts.After-shared-slice-known2 (Reads''.Asked, Reads''.Learnt, Reads'.Asked, Reads'.Learnt) Reads.Pre Reads.Post Inv μ
 
 abbrev pub After-shared-slice-known3 : (Inv : InvT-loop) → (μ : MeasureT-loop) → Type 0
-After-shared-slice-known3 = λ Inv μ. Lts.After-shared-slice-known3 (
-  Reads''.Asked,
-  Reads''.Learnt,
-  Reads'.Asked,
-  Reads'.Learnt,
-) Reads.Pre Reads.Post Inv μ
+After-shared-slice-known3 = λ Inv μ. Lts.After-shared-slice-known3 (Reads''.Asked, Reads''.Learnt, Reads'.Asked, Reads'.Learnt) Reads.Pre Reads.Post Inv μ
 
 abbrev pub After-shared-slice-known4 : (Inv : InvT-loop) → (μ : MeasureT-loop) → Type 0
-After-shared-slice-known4 = λ Inv μ. Lts.After-shared-slice-known4 (
-  Reads''.Asked,
-  Reads''.Learnt,
-  Reads'.Asked,
-  Reads'.Learnt,
-) Reads.Pre Reads.Post Inv μ
+After-shared-slice-known4 = λ Inv μ. Lts.After-shared-slice-known4 (Reads''.Asked, Reads''.Learnt, Reads'.Asked, Reads'.Learnt) Reads.Pre Reads.Post Inv μ
 
 abbrev pub After-slice-known : (Inv : InvT-loop) → (μ : MeasureT-loop) → Type 0
-After-slice-known = λ Inv μ. Lts.After-slice-known (
-  Reads''.Asked,
-  Reads''.Learnt,
-  Reads'.Asked,
-  Reads'.Learnt,
-) Reads.Pre Reads.Post Inv μ
+After-slice-known = λ Inv μ. Lts.After-slice-known (Reads''.Asked, Reads''.Learnt, Reads'.Asked, Reads'.Learnt) Reads.Pre Reads.Post Inv μ
 
 abbrev pub After-slice-known2 : (Inv : InvT-loop) → (μ : MeasureT-loop) → Type 0
-After-slice-known2 = λ Inv μ. Lts.After-slice-known2 (
-  Reads''.Asked,
-  Reads''.Learnt,
-  Reads'.Asked,
-  Reads'.Learnt,
-) Reads.Pre Reads.Post Inv μ
+After-slice-known2 = λ Inv μ. Lts.After-slice-known2 (Reads''.Asked, Reads''.Learnt, Reads'.Asked, Reads'.Learnt) Reads.Pre Reads.Post Inv μ
 
 abbrev pub At-loop : (Inv : InvT-loop) → (μ : MeasureT-loop) → Type 0
 At-loop = λ Inv μ. Lts.At-loop (Reads''.Asked, Reads''.Learnt, Reads'.Asked, Reads'.Learnt) Reads.Pre Reads.Post Inv μ
 
 abbrev pub After-struct-known : (Inv : InvT-loop) → (μ : MeasureT-loop) → Type 0
-After-struct-known = λ Inv μ. Lts.After-struct-known (
-  Reads''.Asked,
-  Reads''.Learnt,
-  Reads'.Asked,
-  Reads'.Learnt,
-) Reads.Pre Reads.Post Inv μ
+After-struct-known = λ Inv μ. Lts.After-struct-known (Reads''.Asked, Reads''.Learnt, Reads'.Asked, Reads'.Learnt) Reads.Pre Reads.Post Inv μ
 
 abbrev pub Then1 : (Inv : InvT-loop) → (μ : MeasureT-loop) → Type 0
 Then1 = λ Inv μ. Lts.Then1 (Reads''.Asked, Reads''.Learnt, Reads'.Asked, Reads'.Learnt) Reads.Pre Reads.Post Inv μ
@@ -90,68 +55,28 @@ abbrev pub Else1 : (Inv : InvT-loop) → (μ : MeasureT-loop) → Type 0
 Else1 = λ Inv μ. Lts.Else1 (Reads''.Asked, Reads''.Learnt, Reads'.Asked, Reads'.Learnt) Reads.Pre Reads.Post Inv μ
 
 abbrev pub After-attempt-arg : (Inv : InvT-loop) → (μ : MeasureT-loop) → Type 0
-After-attempt-arg = λ Inv μ. Lts.After-attempt-arg (
-  Reads''.Asked,
-  Reads''.Learnt,
-  Reads'.Asked,
-  Reads'.Learnt,
-) Reads.Pre Reads.Post Inv μ
+After-attempt-arg = λ Inv μ. Lts.After-attempt-arg (Reads''.Asked, Reads''.Learnt, Reads'.Asked, Reads'.Learnt) Reads.Pre Reads.Post Inv μ
 
 abbrev pub After-attempt-arg2 : (Inv : InvT-loop) → (μ : MeasureT-loop) → Type 0
-After-attempt-arg2 = λ Inv μ. Lts.After-attempt-arg2 (
-  Reads''.Asked,
-  Reads''.Learnt,
-  Reads'.Asked,
-  Reads'.Learnt,
-) Reads.Pre Reads.Post Inv μ
+After-attempt-arg2 = λ Inv μ. Lts.After-attempt-arg2 (Reads''.Asked, Reads''.Learnt, Reads'.Asked, Reads'.Learnt) Reads.Pre Reads.Post Inv μ
 
 abbrev pub After-attempt : (Inv : InvT-loop) → (μ : MeasureT-loop) → Type 0
-After-attempt = λ Inv μ. Lts.After-attempt (
-  Reads''.Asked,
-  Reads''.Learnt,
-  Reads'.Asked,
-  Reads'.Learnt,
-) Reads.Pre Reads.Post Inv μ
+After-attempt = λ Inv μ. Lts.After-attempt (Reads''.Asked, Reads''.Learnt, Reads'.Asked, Reads'.Learnt) Reads.Pre Reads.Post Inv μ
 
 abbrev pub After-labels : (Inv : InvT-loop) → (μ : MeasureT-loop) → Type 0
-After-labels = λ Inv μ. Lts.After-labels (
-  Reads''.Asked,
-  Reads''.Learnt,
-  Reads'.Asked,
-  Reads'.Learnt,
-) Reads.Pre Reads.Post Inv μ
+After-labels = λ Inv μ. Lts.After-labels (Reads''.Asked, Reads''.Learnt, Reads'.Asked, Reads'.Learnt) Reads.Pre Reads.Post Inv μ
 
 abbrev pub After-slice-known3 : (Inv : InvT-loop) → (μ : MeasureT-loop) → Type 0
-After-slice-known3 = λ Inv μ. Lts.After-slice-known3 (
-  Reads''.Asked,
-  Reads''.Learnt,
-  Reads'.Asked,
-  Reads'.Learnt,
-) Reads.Pre Reads.Post Inv μ
+After-slice-known3 = λ Inv μ. Lts.After-slice-known3 (Reads''.Asked, Reads''.Learnt, Reads'.Asked, Reads'.Learnt) Reads.Pre Reads.Post Inv μ
 
 abbrev pub After-stack : (Inv : InvT-loop) → (μ : MeasureT-loop) → Type 0
-After-stack = λ Inv μ. Lts.After-stack (
-  Reads''.Asked,
-  Reads''.Learnt,
-  Reads'.Asked,
-  Reads'.Learnt,
-) Reads.Pre Reads.Post Inv μ
+After-stack = λ Inv μ. Lts.After-stack (Reads''.Asked, Reads''.Learnt, Reads'.Asked, Reads'.Learnt) Reads.Pre Reads.Post Inv μ
 
 abbrev pub After-slice-known4 : (Inv : InvT-loop) → (μ : MeasureT-loop) → Type 0
-After-slice-known4 = λ Inv μ. Lts.After-slice-known4 (
-  Reads''.Asked,
-  Reads''.Learnt,
-  Reads'.Asked,
-  Reads'.Learnt,
-) Reads.Pre Reads.Post Inv μ
+After-slice-known4 = λ Inv μ. Lts.After-slice-known4 (Reads''.Asked, Reads''.Learnt, Reads'.Asked, Reads'.Learnt) Reads.Pre Reads.Post Inv μ
 
 abbrev pub After-note-arg : (Inv : InvT-loop) → (μ : MeasureT-loop) → Type 0
-After-note-arg = λ Inv μ. Lts.After-note-arg (
-  Reads''.Asked,
-  Reads''.Learnt,
-  Reads'.Asked,
-  Reads'.Learnt,
-) Reads.Pre Reads.Post Inv μ
+After-note-arg = λ Inv μ. Lts.After-note-arg (Reads''.Asked, Reads''.Learnt, Reads'.Asked, Reads'.Learnt) Reads.Pre Reads.Post Inv μ
 
 abbrev pub After-note : (Inv : InvT-loop) → (μ : MeasureT-loop) → Type 0
 After-note = λ Inv μ. Lts.After-note (Reads''.Asked, Reads''.Learnt, Reads'.Asked, Reads'.Learnt) Reads.Pre Reads.Post Inv μ
@@ -160,12 +85,7 @@ abbrev pub After-st : (Inv : InvT-loop) → (μ : MeasureT-loop) → Type 0
 After-st = λ Inv μ. Lts.After-st (Reads''.Asked, Reads''.Learnt, Reads'.Asked, Reads'.Learnt) Reads.Pre Reads.Post Inv μ
 
 abbrev pub After-struct-known2 : (Inv : InvT-loop) → (μ : MeasureT-loop) → Type 0
-After-struct-known2 = λ Inv μ. Lts.After-struct-known2 (
-  Reads''.Asked,
-  Reads''.Learnt,
-  Reads'.Asked,
-  Reads'.Learnt,
-) Reads.Pre Reads.Post Inv μ
+After-struct-known2 = λ Inv μ. Lts.After-struct-known2 (Reads''.Asked, Reads''.Learnt, Reads'.Asked, Reads'.Learnt) Reads.Pre Reads.Post Inv μ
 
 abbrev pub Then2 : (Inv : InvT-loop) → (μ : MeasureT-loop) → Type 0
 Then2 = λ Inv μ. Lts.Then2 (Reads''.Asked, Reads''.Learnt, Reads'.Asked, Reads'.Learnt) Reads.Pre Reads.Post Inv μ
@@ -174,92 +94,37 @@ abbrev pub Else2 : (Inv : InvT-loop) → (μ : MeasureT-loop) → Type 0
 Else2 = λ Inv μ. Lts.Else2 (Reads''.Asked, Reads''.Learnt, Reads'.Asked, Reads'.Learnt) Reads.Pre Reads.Post Inv μ
 
 abbrev pub Need-loop-holds : (Inv : InvT-loop) → (μ : MeasureT-loop) → Type 0
-Need-loop-holds = λ Inv μ. Lts.Need-loop-holds (
-  Reads''.Asked,
-  Reads''.Learnt,
-  Reads'.Asked,
-  Reads'.Learnt,
-) Reads.Pre Reads.Post Inv μ
+Need-loop-holds = λ Inv μ. Lts.Need-loop-holds (Reads''.Asked, Reads''.Learnt, Reads'.Asked, Reads'.Learnt) Reads.Pre Reads.Post Inv μ
 
 abbrev pub Need-attempt-requires : (Inv : InvT-loop) → (μ : MeasureT-loop) → Type 0
-Need-attempt-requires = λ Inv μ. Lts.Need-attempt-requires (
-  Reads''.Asked,
-  Reads''.Learnt,
-  Reads'.Asked,
-  Reads'.Learnt,
-) Reads.Pre Reads.Post Inv μ
+Need-attempt-requires = λ Inv μ. Lts.Need-attempt-requires (Reads''.Asked, Reads''.Learnt, Reads'.Asked, Reads'.Learnt) Reads.Pre Reads.Post Inv μ
 
 abbrev pub Need-note-requires : (Inv : InvT-loop) → (μ : MeasureT-loop) → Type 0
-Need-note-requires = λ Inv μ. Lts.Need-note-requires (
-  Reads''.Asked,
-  Reads''.Learnt,
-  Reads'.Asked,
-  Reads'.Learnt,
-) Reads.Pre Reads.Post Inv μ
+Need-note-requires = λ Inv μ. Lts.Need-note-requires (Reads''.Asked, Reads''.Learnt, Reads'.Asked, Reads'.Learnt) Reads.Pre Reads.Post Inv μ
 
 abbrev pub Need-same-length : (Inv : InvT-loop) → (μ : MeasureT-loop) → Type 0
-Need-same-length = λ Inv μ. Lts.Need-same-length (
-  Reads''.Asked,
-  Reads''.Learnt,
-  Reads'.Asked,
-  Reads'.Learnt,
-) Reads.Pre Reads.Post Inv μ
+Need-same-length = λ Inv μ. Lts.Need-same-length (Reads''.Asked, Reads''.Learnt, Reads'.Asked, Reads'.Learnt) Reads.Pre Reads.Post Inv μ
 
 abbrev pub Need-same-length-2 : (Inv : InvT-loop) → (μ : MeasureT-loop) → Type 0
-Need-same-length-2 = λ Inv μ. Lts.Need-same-length-2 (
-  Reads''.Asked,
-  Reads''.Learnt,
-  Reads'.Asked,
-  Reads'.Learnt,
-) Reads.Pre Reads.Post Inv μ
+Need-same-length-2 = λ Inv μ. Lts.Need-same-length-2 (Reads''.Asked, Reads''.Learnt, Reads'.Asked, Reads'.Learnt) Reads.Pre Reads.Post Inv μ
 
 abbrev pub Need-returns : (Inv : InvT-loop) → (μ : MeasureT-loop) → Type 0
-Need-returns = λ Inv μ. Lts.Need-returns (
-  Reads''.Asked,
-  Reads''.Learnt,
-  Reads'.Asked,
-  Reads'.Learnt,
-) Reads.Pre Reads.Post Inv μ
+Need-returns = λ Inv μ. Lts.Need-returns (Reads''.Asked, Reads''.Learnt, Reads'.Asked, Reads'.Learnt) Reads.Pre Reads.Post Inv μ
 
 abbrev pub Need-loop-less : (Inv : InvT-loop) → (μ : MeasureT-loop) → Type 0
-Need-loop-less = λ Inv μ. Lts.Need-loop-less (
-  Reads''.Asked,
-  Reads''.Learnt,
-  Reads'.Asked,
-  Reads'.Learnt,
-) Reads.Pre Reads.Post Inv μ
+Need-loop-less = λ Inv μ. Lts.Need-loop-less (Reads''.Asked, Reads''.Learnt, Reads'.Asked, Reads'.Learnt) Reads.Pre Reads.Post Inv μ
 
 abbrev pub Need-loop-again : (Inv : InvT-loop) → (μ : MeasureT-loop) → Type 0
-Need-loop-again = λ Inv μ. Lts.Need-loop-again (
-  Reads''.Asked,
-  Reads''.Learnt,
-  Reads'.Asked,
-  Reads'.Learnt,
-) Reads.Pre Reads.Post Inv μ
+Need-loop-again = λ Inv μ. Lts.Need-loop-again (Reads''.Asked, Reads''.Learnt, Reads'.Asked, Reads'.Learnt) Reads.Pre Reads.Post Inv μ
 
 abbrev pub Need-same-length-3 : (Inv : InvT-loop) → (μ : MeasureT-loop) → Type 0
-Need-same-length-3 = λ Inv μ. Lts.Need-same-length-3 (
-  Reads''.Asked,
-  Reads''.Learnt,
-  Reads'.Asked,
-  Reads'.Learnt,
-) Reads.Pre Reads.Post Inv μ
+Need-same-length-3 = λ Inv μ. Lts.Need-same-length-3 (Reads''.Asked, Reads''.Learnt, Reads'.Asked, Reads'.Learnt) Reads.Pre Reads.Post Inv μ
 
 abbrev pub Need-same-length-4 : (Inv : InvT-loop) → (μ : MeasureT-loop) → Type 0
-Need-same-length-4 = λ Inv μ. Lts.Need-same-length-4 (
-  Reads''.Asked,
-  Reads''.Learnt,
-  Reads'.Asked,
-  Reads'.Learnt,
-) Reads.Pre Reads.Post Inv μ
+Need-same-length-4 = λ Inv μ. Lts.Need-same-length-4 (Reads''.Asked, Reads''.Learnt, Reads'.Asked, Reads'.Learnt) Reads.Pre Reads.Post Inv μ
 
 abbrev pub Need-returns-2 : (Inv : InvT-loop) → (μ : MeasureT-loop) → Type 0
-Need-returns-2 = λ Inv μ. Lts.Need-returns-2 (
-  Reads''.Asked,
-  Reads''.Learnt,
-  Reads'.Asked,
-  Reads'.Learnt,
-) Reads.Pre Reads.Post Inv μ
+Need-returns-2 = λ Inv μ. Lts.Need-returns-2 (Reads''.Asked, Reads''.Learnt, Reads'.Asked, Reads'.Learnt) Reads.Pre Reads.Post Inv μ
 
 module _ {M : Type 1} where
   pub spec : (Inv : InvT-loop) → (μ : MeasureT-loop) → (answer : Need-loop-holds Inv μ) → (answer : Need-attempt-requires Inv μ) → (answer : Need-note-requires Inv μ) → (answer : Need-same-length Inv μ) → (answer : Need-same-length-2 Inv μ) → (answer : Need-returns Inv μ) → (answer : Need-loop-less Inv μ) → (answer : Need-loop-again Inv μ) → (answer : Need-same-length-3 Inv μ) → (answer : Need-same-length-4 Inv μ) → (answer : Need-returns-2 Inv μ) → Lts.Closed (Reads''.Asked, Reads''.Learnt, Reads'.Asked, Reads'.Learnt) Reads.Pre Reads.Post M

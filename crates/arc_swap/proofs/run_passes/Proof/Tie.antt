@@ -5,7 +5,7 @@ use Rattle.arc_swap.proofs.end_of.Symbol
 use Rattle.arc_swap.proofs.run_passes.Code
 use Rattle.arc_swap.proofs.run_passes.Key
 use Rattle.arc_swap.proofs.walk.run_passes.Kinds as Kinds
-use Rattle.arc_swap.proofs.run_passes.Proof.Lts as Lts
+use Rattle.arc_swap.proofs.walk.run_passes.Lts as Lts
 use Rattle.arc_swap.proofs.walk.run_passes.Reads as Reads'
 use Rattle.arc_swap.proofs.run_passes.Statement
 use Rattle.arc_swap.proofs.sweep_all.Met as Met'
@@ -25,122 +25,52 @@ abbrev pub Start : (Inv : InvT-loop) → (μ : MeasureT-loop) → Type 0
 Start = λ Inv μ. Lts.Start (Reads''.Asked, Reads''.Learnt, Reads.Asked, Reads.Learnt) Reads'.Pre Reads'.Post Inv μ
 
 abbrev pub After-shared-slice-known : (Inv : InvT-loop) → (μ : MeasureT-loop) → Type 0
-After-shared-slice-known = λ Inv μ. Lts.After-shared-slice-known (
-  Reads''.Asked,
-  Reads''.Learnt,
-  Reads.Asked,
-  Reads.Learnt,
-) Reads'.Pre Reads'.Post Inv μ
+After-shared-slice-known = λ Inv μ. Lts.After-shared-slice-known (Reads''.Asked, Reads''.Learnt, Reads.Asked, Reads.Learnt) Reads'.Pre Reads'.Post Inv μ
 
 abbrev pub After-shared-slice-known2 : (Inv : InvT-loop) → (μ : MeasureT-loop) → Type 0
-After-shared-slice-known2 = λ Inv μ. Lts.After-shared-slice-known2 (
-  Reads''.Asked,
-  Reads''.Learnt,
-  Reads.Asked,
-  Reads.Learnt,
-) Reads'.Pre Reads'.Post Inv μ
+After-shared-slice-known2 = λ Inv μ. Lts.After-shared-slice-known2 (Reads''.Asked, Reads''.Learnt, Reads.Asked, Reads.Learnt) Reads'.Pre Reads'.Post Inv μ
 
 abbrev pub After-shared-slice-known3 : (Inv : InvT-loop) → (μ : MeasureT-loop) → Type 0
-After-shared-slice-known3 = λ Inv μ. Lts.After-shared-slice-known3 (
-  Reads''.Asked,
-  Reads''.Learnt,
-  Reads.Asked,
-  Reads.Learnt,
-) Reads'.Pre Reads'.Post Inv μ
+After-shared-slice-known3 = λ Inv μ. Lts.After-shared-slice-known3 (Reads''.Asked, Reads''.Learnt, Reads.Asked, Reads.Learnt) Reads'.Pre Reads'.Post Inv μ
 
 abbrev pub After-shared-slice-known4 : (Inv : InvT-loop) → (μ : MeasureT-loop) → Type 0
-After-shared-slice-known4 = λ Inv μ. Lts.After-shared-slice-known4 (
-  Reads''.Asked,
-  Reads''.Learnt,
-  Reads.Asked,
-  Reads.Learnt,
-) Reads'.Pre Reads'.Post Inv μ
+After-shared-slice-known4 = λ Inv μ. Lts.After-shared-slice-known4 (Reads''.Asked, Reads''.Learnt, Reads.Asked, Reads.Learnt) Reads'.Pre Reads'.Post Inv μ
 
 abbrev pub After-slice-known : (Inv : InvT-loop) → (μ : MeasureT-loop) → Type 0
-After-slice-known = λ Inv μ. Lts.After-slice-known (
-  Reads''.Asked,
-  Reads''.Learnt,
-  Reads.Asked,
-  Reads.Learnt,
-) Reads'.Pre Reads'.Post Inv μ
+After-slice-known = λ Inv μ. Lts.After-slice-known (Reads''.Asked, Reads''.Learnt, Reads.Asked, Reads.Learnt) Reads'.Pre Reads'.Post Inv μ
 
 abbrev pub After-slice-known2 : (Inv : InvT-loop) → (μ : MeasureT-loop) → Type 0
-After-slice-known2 = λ Inv μ. Lts.After-slice-known2 (
-  Reads''.Asked,
-  Reads''.Learnt,
-  Reads.Asked,
-  Reads.Learnt,
-) Reads'.Pre Reads'.Post Inv μ
+After-slice-known2 = λ Inv μ. Lts.After-slice-known2 (Reads''.Asked, Reads''.Learnt, Reads.Asked, Reads.Learnt) Reads'.Pre Reads'.Post Inv μ
 
 abbrev pub At-loop : (Inv : InvT-loop) → (μ : MeasureT-loop) → Type 0
 At-loop = λ Inv μ. Lts.At-loop (Reads''.Asked, Reads''.Learnt, Reads.Asked, Reads.Learnt) Reads'.Pre Reads'.Post Inv μ
 
 abbrev pub After-sweep-all-arg : (Inv : InvT-loop) → (μ : MeasureT-loop) → Type 0
-After-sweep-all-arg = λ Inv μ. Lts.After-sweep-all-arg (
-  Reads''.Asked,
-  Reads''.Learnt,
-  Reads.Asked,
-  Reads.Learnt,
-) Reads'.Pre Reads'.Post Inv μ
+After-sweep-all-arg = λ Inv μ. Lts.After-sweep-all-arg (Reads''.Asked, Reads''.Learnt, Reads.Asked, Reads.Learnt) Reads'.Pre Reads'.Post Inv μ
 
 abbrev pub After-sweep-all-arg2 : (Inv : InvT-loop) → (μ : MeasureT-loop) → Type 0
-After-sweep-all-arg2 = λ Inv μ. Lts.After-sweep-all-arg2 (
-  Reads''.Asked,
-  Reads''.Learnt,
-  Reads.Asked,
-  Reads.Learnt,
-) Reads'.Pre Reads'.Post Inv μ
+After-sweep-all-arg2 = λ Inv μ. Lts.After-sweep-all-arg2 (Reads''.Asked, Reads''.Learnt, Reads.Asked, Reads.Learnt) Reads'.Pre Reads'.Post Inv μ
 
 abbrev pub After-sweep-all-arg3 : (Inv : InvT-loop) → (μ : MeasureT-loop) → Type 0
-After-sweep-all-arg3 = λ Inv μ. Lts.After-sweep-all-arg3 (
-  Reads''.Asked,
-  Reads''.Learnt,
-  Reads.Asked,
-  Reads.Learnt,
-) Reads'.Pre Reads'.Post Inv μ
+After-sweep-all-arg3 = λ Inv μ. Lts.After-sweep-all-arg3 (Reads''.Asked, Reads''.Learnt, Reads.Asked, Reads.Learnt) Reads'.Pre Reads'.Post Inv μ
 
 abbrev pub After-sweep-all : (Inv : InvT-loop) → (μ : MeasureT-loop) → Type 0
-After-sweep-all = λ Inv μ. Lts.After-sweep-all (
-  Reads''.Asked,
-  Reads''.Learnt,
-  Reads.Asked,
-  Reads.Learnt,
-) Reads'.Pre Reads'.Post Inv μ
+After-sweep-all = λ Inv μ. Lts.After-sweep-all (Reads''.Asked, Reads''.Learnt, Reads.Asked, Reads.Learnt) Reads'.Pre Reads'.Post Inv μ
 
 abbrev pub After-labels : (Inv : InvT-loop) → (μ : MeasureT-loop) → Type 0
-After-labels = λ Inv μ. Lts.After-labels (
-  Reads''.Asked,
-  Reads''.Learnt,
-  Reads.Asked,
-  Reads.Learnt,
-) Reads'.Pre Reads'.Post Inv μ
+After-labels = λ Inv μ. Lts.After-labels (Reads''.Asked, Reads''.Learnt, Reads.Asked, Reads.Learnt) Reads'.Pre Reads'.Post Inv μ
 
 abbrev pub After-slice-known3 : (Inv : InvT-loop) → (μ : MeasureT-loop) → Type 0
-After-slice-known3 = λ Inv μ. Lts.After-slice-known3 (
-  Reads''.Asked,
-  Reads''.Learnt,
-  Reads.Asked,
-  Reads.Learnt,
-) Reads'.Pre Reads'.Post Inv μ
+After-slice-known3 = λ Inv μ. Lts.After-slice-known3 (Reads''.Asked, Reads''.Learnt, Reads.Asked, Reads.Learnt) Reads'.Pre Reads'.Post Inv μ
 
 abbrev pub After-stack : (Inv : InvT-loop) → (μ : MeasureT-loop) → Type 0
 After-stack = λ Inv μ. Lts.After-stack (Reads''.Asked, Reads''.Learnt, Reads.Asked, Reads.Learnt) Reads'.Pre Reads'.Post Inv μ
 
 abbrev pub After-slice-known4 : (Inv : InvT-loop) → (μ : MeasureT-loop) → Type 0
-After-slice-known4 = λ Inv μ. Lts.After-slice-known4 (
-  Reads''.Asked,
-  Reads''.Learnt,
-  Reads.Asked,
-  Reads.Learnt,
-) Reads'.Pre Reads'.Post Inv μ
+After-slice-known4 = λ Inv μ. Lts.After-slice-known4 (Reads''.Asked, Reads''.Learnt, Reads.Asked, Reads.Learnt) Reads'.Pre Reads'.Post Inv μ
 
 abbrev pub After-end-of : (Inv : InvT-loop) → (μ : MeasureT-loop) → Type 0
-After-end-of = λ Inv μ. Lts.After-end-of (
-  Reads''.Asked,
-  Reads''.Learnt,
-  Reads.Asked,
-  Reads.Learnt,
-) Reads'.Pre Reads'.Post Inv μ
+After-end-of = λ Inv μ. Lts.After-end-of (Reads''.Asked, Reads''.Learnt, Reads.Asked, Reads.Learnt) Reads'.Pre Reads'.Post Inv μ
 
 abbrev pub Then1 : (Inv : InvT-loop) → (μ : MeasureT-loop) → Type 0
 Then1 = λ Inv μ. Lts.Then1 (Reads''.Asked, Reads''.Learnt, Reads.Asked, Reads.Learnt) Reads'.Pre Reads'.Post Inv μ
@@ -149,76 +79,31 @@ abbrev pub Else1 : (Inv : InvT-loop) → (μ : MeasureT-loop) → Type 0
 Else1 = λ Inv μ. Lts.Else1 (Reads''.Asked, Reads''.Learnt, Reads.Asked, Reads.Learnt) Reads'.Pre Reads'.Post Inv μ
 
 abbrev pub Need-loop-holds : (Inv : InvT-loop) → (μ : MeasureT-loop) → Type 0
-Need-loop-holds = λ Inv μ. Lts.Need-loop-holds (
-  Reads''.Asked,
-  Reads''.Learnt,
-  Reads.Asked,
-  Reads.Learnt,
-) Reads'.Pre Reads'.Post Inv μ
+Need-loop-holds = λ Inv μ. Lts.Need-loop-holds (Reads''.Asked, Reads''.Learnt, Reads.Asked, Reads.Learnt) Reads'.Pre Reads'.Post Inv μ
 
 abbrev pub Need-sweep-all-requires : (Inv : InvT-loop) → (μ : MeasureT-loop) → Type 0
-Need-sweep-all-requires = λ Inv μ. Lts.Need-sweep-all-requires (
-  Reads''.Asked,
-  Reads''.Learnt,
-  Reads.Asked,
-  Reads.Learnt,
-) Reads'.Pre Reads'.Post Inv μ
+Need-sweep-all-requires = λ Inv μ. Lts.Need-sweep-all-requires (Reads''.Asked, Reads''.Learnt, Reads.Asked, Reads.Learnt) Reads'.Pre Reads'.Post Inv μ
 
 abbrev pub Need-add-passes : (Inv : InvT-loop) → (μ : MeasureT-loop) → Type 0
-Need-add-passes = λ Inv μ. Lts.Need-add-passes (
-  Reads''.Asked,
-  Reads''.Learnt,
-  Reads.Asked,
-  Reads.Learnt,
-) Reads'.Pre Reads'.Post Inv μ
+Need-add-passes = λ Inv μ. Lts.Need-add-passes (Reads''.Asked, Reads''.Learnt, Reads.Asked, Reads.Learnt) Reads'.Pre Reads'.Post Inv μ
 
 abbrev pub Need-end-of-requires : (Inv : InvT-loop) → (μ : MeasureT-loop) → Type 0
-Need-end-of-requires = λ Inv μ. Lts.Need-end-of-requires (
-  Reads''.Asked,
-  Reads''.Learnt,
-  Reads.Asked,
-  Reads.Learnt,
-) Reads'.Pre Reads'.Post Inv μ
+Need-end-of-requires = λ Inv μ. Lts.Need-end-of-requires (Reads''.Asked, Reads''.Learnt, Reads.Asked, Reads.Learnt) Reads'.Pre Reads'.Post Inv μ
 
 abbrev pub Need-same-length : (Inv : InvT-loop) → (μ : MeasureT-loop) → Type 0
-Need-same-length = λ Inv μ. Lts.Need-same-length (
-  Reads''.Asked,
-  Reads''.Learnt,
-  Reads.Asked,
-  Reads.Learnt,
-) Reads'.Pre Reads'.Post Inv μ
+Need-same-length = λ Inv μ. Lts.Need-same-length (Reads''.Asked, Reads''.Learnt, Reads.Asked, Reads.Learnt) Reads'.Pre Reads'.Post Inv μ
 
 abbrev pub Need-same-length-2 : (Inv : InvT-loop) → (μ : MeasureT-loop) → Type 0
-Need-same-length-2 = λ Inv μ. Lts.Need-same-length-2 (
-  Reads''.Asked,
-  Reads''.Learnt,
-  Reads.Asked,
-  Reads.Learnt,
-) Reads'.Pre Reads'.Post Inv μ
+Need-same-length-2 = λ Inv μ. Lts.Need-same-length-2 (Reads''.Asked, Reads''.Learnt, Reads.Asked, Reads.Learnt) Reads'.Pre Reads'.Post Inv μ
 
 abbrev pub Need-returns : (Inv : InvT-loop) → (μ : MeasureT-loop) → Type 0
-Need-returns = λ Inv μ. Lts.Need-returns (
-  Reads''.Asked,
-  Reads''.Learnt,
-  Reads.Asked,
-  Reads.Learnt,
-) Reads'.Pre Reads'.Post Inv μ
+Need-returns = λ Inv μ. Lts.Need-returns (Reads''.Asked, Reads''.Learnt, Reads.Asked, Reads.Learnt) Reads'.Pre Reads'.Post Inv μ
 
 abbrev pub Need-loop-less : (Inv : InvT-loop) → (μ : MeasureT-loop) → Type 0
-Need-loop-less = λ Inv μ. Lts.Need-loop-less (
-  Reads''.Asked,
-  Reads''.Learnt,
-  Reads.Asked,
-  Reads.Learnt,
-) Reads'.Pre Reads'.Post Inv μ
+Need-loop-less = λ Inv μ. Lts.Need-loop-less (Reads''.Asked, Reads''.Learnt, Reads.Asked, Reads.Learnt) Reads'.Pre Reads'.Post Inv μ
 
 abbrev pub Need-loop-again : (Inv : InvT-loop) → (μ : MeasureT-loop) → Type 0
-Need-loop-again = λ Inv μ. Lts.Need-loop-again (
-  Reads''.Asked,
-  Reads''.Learnt,
-  Reads.Asked,
-  Reads.Learnt,
-) Reads'.Pre Reads'.Post Inv μ
+Need-loop-again = λ Inv μ. Lts.Need-loop-again (Reads''.Asked, Reads''.Learnt, Reads.Asked, Reads.Learnt) Reads'.Pre Reads'.Post Inv μ
 
 module _ {M : Type 1} where
   pub spec : (Inv : InvT-loop) → (μ : MeasureT-loop) → (answer : Need-loop-holds Inv μ) → (answer : Need-sweep-all-requires Inv μ) → (answer : Need-add-passes Inv μ) → (answer : Need-end-of-requires Inv μ) → (answer : Need-same-length Inv μ) → (answer : Need-same-length-2 Inv μ) → (answer : Need-returns Inv μ) → (answer : Need-loop-less Inv μ) → (answer : Need-loop-again Inv μ) → Lts.Closed (Reads''.Asked, Reads''.Learnt, Reads.Asked, Reads.Learnt) Reads'.Pre Reads'.Post M

@@ -1,5 +1,5 @@
 -- Made by tools/walkgen.py: do not edit.
-use Rattle.arc_swap.proofs.RunRecordTy
+use Rattle.arc_swap.proofs.walk.RunRecordTy
 use borrow.Fn.Kinds
 use denote.Signed
 use mathlib.Core.List

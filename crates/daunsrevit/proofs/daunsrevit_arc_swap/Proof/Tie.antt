@@ -5,7 +5,7 @@ use Rattle.arc_swap.proofs.arc_swap.Symbol
 use Rattle.daunsrevit.proofs.daunsrevit_arc_swap.Code
 use Rattle.daunsrevit.proofs.daunsrevit_arc_swap.Key
 use Rattle.daunsrevit.proofs.walk.daunsrevit_arc_swap.Kinds as Kinds
-use Rattle.daunsrevit.proofs.daunsrevit_arc_swap.Proof.Lts as Lts
+use Rattle.daunsrevit.proofs.walk.daunsrevit_arc_swap.Lts as Lts
 use Rattle.daunsrevit.proofs.walk.daunsrevit_arc_swap.Reads as Reads'
 use Rattle.daunsrevit.proofs.daunsrevit_arc_swap.Statement
 use borrow.Fn.Run

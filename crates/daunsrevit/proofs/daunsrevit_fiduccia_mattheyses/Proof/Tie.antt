@@ -2,7 +2,7 @@
 use Rattle.daunsrevit.proofs.daunsrevit_fiduccia_mattheyses.Code
 use Rattle.daunsrevit.proofs.daunsrevit_fiduccia_mattheyses.Key
 use Rattle.daunsrevit.proofs.walk.daunsrevit_fiduccia_mattheyses.Kinds as Kinds
-use Rattle.daunsrevit.proofs.daunsrevit_fiduccia_mattheyses.Proof.Lts as Lts
+use Rattle.daunsrevit.proofs.walk.daunsrevit_fiduccia_mattheyses.Lts as Lts
 use Rattle.daunsrevit.proofs.walk.daunsrevit_fiduccia_mattheyses.Reads as Reads
 use Rattle.daunsrevit.proofs.daunsrevit_fiduccia_mattheyses.Statement
 use Rattle.fiduccia_mattheyses.proofs.fiduccia_mattheyses.Met
@@ -79,10 +79,7 @@ abbrev pub After-slice-known6 : Type 0
 After-slice-known6 = Lts.After-slice-known6 (Reads'.Asked, Reads'.Learnt) Reads.Pre Reads.Post
 
 abbrev pub Need-fiduccia-mattheyses-requires : Type 0
-Need-fiduccia-mattheyses-requires = Lts.Need-fiduccia-mattheyses-requires (
-  Reads'.Asked,
-  Reads'.Learnt,
-) Reads.Pre Reads.Post
+Need-fiduccia-mattheyses-requires = Lts.Need-fiduccia-mattheyses-requires (Reads'.Asked, Reads'.Learnt) Reads.Pre Reads.Post
 
 abbrev pub Need-same-length : Type 0
 Need-same-length = Lts.Need-same-length (Reads'.Asked, Reads'.Learnt) Reads.Pre Reads.Post
@@ -104,10 +101,7 @@ Need-returns = Lts.Need-returns (Reads'.Asked, Reads'.Learnt) Reads.Pre Reads.Po
 
 module _ {M : Type 1} where
   pub spec : (answer : Need-fiduccia-mattheyses-requires) → (answer : Need-same-length) → (answer : Need-same-length-2) → (answer : Need-same-length-3) → (answer : Need-same-length-4) → (answer : Need-same-length-5) → (answer : Need-returns) → Lts.Closed (Reads'.Asked, Reads'.Learnt) Reads.Pre Reads.Post M
-  spec = λ answer answer' answer'' answer'3 answer'4 answer'5 answer'6. Lts.spec (
-    Reads'.Asked,
-    Reads'.Learnt,
-  ) Reads.Pre Reads.Post answer answer' answer'' answer'3 answer'4 answer'5 answer'6
+  spec = λ answer answer' answer'' answer'3 answer'4 answer'5 answer'6. Lts.spec (Reads'.Asked, Reads'.Learnt) Reads.Pre Reads.Post answer answer' answer'' answer'3 answer'4 answer'5 answer'6
 
   pub close : Lts.Closed (Reads'.Asked, Reads'.Learnt) Reads.Pre Reads.Post M → Statement.statement M
   unfolding Code.routine Running.tablesOf

@@ -5,7 +5,7 @@ use Rattle.fiduccia_mattheyses.proofs.move_at.Symbol
 use Rattle.fiduccia_mattheyses.proofs.rewind.Code
 use Rattle.fiduccia_mattheyses.proofs.rewind.Key
 use Rattle.fiduccia_mattheyses.proofs.walk.rewind.Kinds as Kinds
-use Rattle.fiduccia_mattheyses.proofs.rewind.Proof.Lts as Lts
+use Rattle.fiduccia_mattheyses.proofs.walk.rewind.Lts as Lts
 use Rattle.fiduccia_mattheyses.proofs.walk.rewind.Reads as Reads'
 use Rattle.fiduccia_mattheyses.proofs.rewind.Statement
 use Rattle.fiduccia_mattheyses.proofs.undo_move.Met as Met'
@@ -25,20 +25,10 @@ abbrev pub Start : (Inv : InvT-loop) → (μ : MeasureT-loop) → Type 0
 Start = λ Inv μ. Lts.Start (Reads.Asked, Reads.Learnt, Reads''.Asked, Reads''.Learnt) Reads'.Pre Reads'.Post Inv μ
 
 abbrev pub After-shared-slice-known : (Inv : InvT-loop) → (μ : MeasureT-loop) → Type 0
-After-shared-slice-known = λ Inv μ. Lts.After-shared-slice-known (
-  Reads.Asked,
-  Reads.Learnt,
-  Reads''.Asked,
-  Reads''.Learnt,
-) Reads'.Pre Reads'.Post Inv μ
+After-shared-slice-known = λ Inv μ. Lts.After-shared-slice-known (Reads.Asked, Reads.Learnt, Reads''.Asked, Reads''.Learnt) Reads'.Pre Reads'.Post Inv μ
 
 abbrev pub After-slice-known : (Inv : InvT-loop) → (μ : MeasureT-loop) → Type 0
-After-slice-known = λ Inv μ. Lts.After-slice-known (
-  Reads.Asked,
-  Reads.Learnt,
-  Reads''.Asked,
-  Reads''.Learnt,
-) Reads'.Pre Reads'.Post Inv μ
+After-slice-known = λ Inv μ. Lts.After-slice-known (Reads.Asked, Reads.Learnt, Reads''.Asked, Reads''.Learnt) Reads'.Pre Reads'.Post Inv μ
 
 abbrev pub At-loop : (Inv : InvT-loop) → (μ : MeasureT-loop) → Type 0
 At-loop = λ Inv μ. Lts.At-loop (Reads.Asked, Reads.Learnt, Reads''.Asked, Reads''.Learnt) Reads'.Pre Reads'.Post Inv μ
@@ -50,112 +40,47 @@ abbrev pub After-loop : (Inv : InvT-loop) → (μ : MeasureT-loop) → Type 0
 After-loop = λ Inv μ. Lts.After-loop (Reads.Asked, Reads.Learnt, Reads''.Asked, Reads''.Learnt) Reads'.Pre Reads'.Post Inv μ
 
 abbrev pub After-move-at : (Inv : InvT-loop) → (μ : MeasureT-loop) → Type 0
-After-move-at = λ Inv μ. Lts.After-move-at (
-  Reads.Asked,
-  Reads.Learnt,
-  Reads''.Asked,
-  Reads''.Learnt,
-) Reads'.Pre Reads'.Post Inv μ
+After-move-at = λ Inv μ. Lts.After-move-at (Reads.Asked, Reads.Learnt, Reads''.Asked, Reads''.Learnt) Reads'.Pre Reads'.Post Inv μ
 
 abbrev pub After-undo-move-arg : (Inv : InvT-loop) → (μ : MeasureT-loop) → Type 0
-After-undo-move-arg = λ Inv μ. Lts.After-undo-move-arg (
-  Reads.Asked,
-  Reads.Learnt,
-  Reads''.Asked,
-  Reads''.Learnt,
-) Reads'.Pre Reads'.Post Inv μ
+After-undo-move-arg = λ Inv μ. Lts.After-undo-move-arg (Reads.Asked, Reads.Learnt, Reads''.Asked, Reads''.Learnt) Reads'.Pre Reads'.Post Inv μ
 
 abbrev pub After-undo-move : (Inv : InvT-loop) → (μ : MeasureT-loop) → Type 0
-After-undo-move = λ Inv μ. Lts.After-undo-move (
-  Reads.Asked,
-  Reads.Learnt,
-  Reads''.Asked,
-  Reads''.Learnt,
-) Reads'.Pre Reads'.Post Inv μ
+After-undo-move = λ Inv μ. Lts.After-undo-move (Reads.Asked, Reads.Learnt, Reads''.Asked, Reads''.Learnt) Reads'.Pre Reads'.Post Inv μ
 
 abbrev pub After-labels : (Inv : InvT-loop) → (μ : MeasureT-loop) → Type 0
-After-labels = λ Inv μ. Lts.After-labels (
-  Reads.Asked,
-  Reads.Learnt,
-  Reads''.Asked,
-  Reads''.Learnt,
-) Reads'.Pre Reads'.Post Inv μ
+After-labels = λ Inv μ. Lts.After-labels (Reads.Asked, Reads.Learnt, Reads''.Asked, Reads''.Learnt) Reads'.Pre Reads'.Post Inv μ
 
 abbrev pub After-slice-known2 : (Inv : InvT-loop) → (μ : MeasureT-loop) → Type 0
-After-slice-known2 = λ Inv μ. Lts.After-slice-known2 (
-  Reads.Asked,
-  Reads.Learnt,
-  Reads''.Asked,
-  Reads''.Learnt,
-) Reads'.Pre Reads'.Post Inv μ
+After-slice-known2 = λ Inv μ. Lts.After-slice-known2 (Reads.Asked, Reads.Learnt, Reads''.Asked, Reads''.Learnt) Reads'.Pre Reads'.Post Inv μ
 
 abbrev pub Need-loop-holds : (Inv : InvT-loop) → (μ : MeasureT-loop) → Type 0
-Need-loop-holds = λ Inv μ. Lts.Need-loop-holds (
-  Reads.Asked,
-  Reads.Learnt,
-  Reads''.Asked,
-  Reads''.Learnt,
-) Reads'.Pre Reads'.Post Inv μ
+Need-loop-holds = λ Inv μ. Lts.Need-loop-holds (Reads.Asked, Reads.Learnt, Reads''.Asked, Reads''.Learnt) Reads'.Pre Reads'.Post Inv μ
 
 abbrev pub Need-move-at-requires : (Inv : InvT-loop) → (μ : MeasureT-loop) → Type 0
-Need-move-at-requires = λ Inv μ. Lts.Need-move-at-requires (
-  Reads.Asked,
-  Reads.Learnt,
-  Reads''.Asked,
-  Reads''.Learnt,
-) Reads'.Pre Reads'.Post Inv μ
+Need-move-at-requires = λ Inv μ. Lts.Need-move-at-requires (Reads.Asked, Reads.Learnt, Reads''.Asked, Reads''.Learnt) Reads'.Pre Reads'.Post Inv μ
 
 abbrev pub Need-undo-move-requires : (Inv : InvT-loop) → (μ : MeasureT-loop) → Type 0
-Need-undo-move-requires = λ Inv μ. Lts.Need-undo-move-requires (
-  Reads.Asked,
-  Reads.Learnt,
-  Reads''.Asked,
-  Reads''.Learnt,
-) Reads'.Pre Reads'.Post Inv μ
+Need-undo-move-requires = λ Inv μ. Lts.Need-undo-move-requires (Reads.Asked, Reads.Learnt, Reads''.Asked, Reads''.Learnt) Reads'.Pre Reads'.Post Inv μ
 
 abbrev pub Need-add-at : (Inv : InvT-loop) → (μ : MeasureT-loop) → Type 0
 Need-add-at = λ Inv μ. Lts.Need-add-at (Reads.Asked, Reads.Learnt, Reads''.Asked, Reads''.Learnt) Reads'.Pre Reads'.Post Inv μ
 
 abbrev pub Need-loop-less : (Inv : InvT-loop) → (μ : MeasureT-loop) → Type 0
-Need-loop-less = λ Inv μ. Lts.Need-loop-less (
-  Reads.Asked,
-  Reads.Learnt,
-  Reads''.Asked,
-  Reads''.Learnt,
-) Reads'.Pre Reads'.Post Inv μ
+Need-loop-less = λ Inv μ. Lts.Need-loop-less (Reads.Asked, Reads.Learnt, Reads''.Asked, Reads''.Learnt) Reads'.Pre Reads'.Post Inv μ
 
 abbrev pub Need-loop-again : (Inv : InvT-loop) → (μ : MeasureT-loop) → Type 0
-Need-loop-again = λ Inv μ. Lts.Need-loop-again (
-  Reads.Asked,
-  Reads.Learnt,
-  Reads''.Asked,
-  Reads''.Learnt,
-) Reads'.Pre Reads'.Post Inv μ
+Need-loop-again = λ Inv μ. Lts.Need-loop-again (Reads.Asked, Reads.Learnt, Reads''.Asked, Reads''.Learnt) Reads'.Pre Reads'.Post Inv μ
 
 abbrev pub Need-same-length : (Inv : InvT-loop) → (μ : MeasureT-loop) → Type 0
-Need-same-length = λ Inv μ. Lts.Need-same-length (
-  Reads.Asked,
-  Reads.Learnt,
-  Reads''.Asked,
-  Reads''.Learnt,
-) Reads'.Pre Reads'.Post Inv μ
+Need-same-length = λ Inv μ. Lts.Need-same-length (Reads.Asked, Reads.Learnt, Reads''.Asked, Reads''.Learnt) Reads'.Pre Reads'.Post Inv μ
 
 abbrev pub Need-returns : (Inv : InvT-loop) → (μ : MeasureT-loop) → Type 0
-Need-returns = λ Inv μ. Lts.Need-returns (
-  Reads.Asked,
-  Reads.Learnt,
-  Reads''.Asked,
-  Reads''.Learnt,
-) Reads'.Pre Reads'.Post Inv μ
+Need-returns = λ Inv μ. Lts.Need-returns (Reads.Asked, Reads.Learnt, Reads''.Asked, Reads''.Learnt) Reads'.Pre Reads'.Post Inv μ
 
 module _ {M : Type 1} where
   pub spec : (Inv : InvT-loop) → (μ : MeasureT-loop) → (answer : Need-loop-holds Inv μ) → (answer : Need-move-at-requires Inv μ) → (answer : Need-undo-move-requires Inv μ) → (answer : Need-add-at Inv μ) → (answer : Need-loop-less Inv μ) → (answer : Need-loop-again Inv μ) → (answer : Need-same-length Inv μ) → (answer : Need-returns Inv μ) → Lts.Closed (Reads.Asked, Reads.Learnt, Reads''.Asked, Reads''.Learnt) Reads'.Pre Reads'.Post M
-  spec = λ Inv μ answer answer' answer'' answer'3 answer'4 answer'5 answer'6 answer'7. Lts.spec (
-    Reads.Asked,
-    Reads.Learnt,
-    Reads''.Asked,
-    Reads''.Learnt,
-  ) Reads'.Pre Reads'.Post Inv μ answer answer' answer'' answer'3 answer'4 answer'5 answer'6 answer'7
+  spec = λ Inv μ answer answer' answer'' answer'3 answer'4 answer'5 answer'6 answer'7. Lts.spec (Reads.Asked, Reads.Learnt, Reads''.Asked, Reads''.Learnt) Reads'.Pre Reads'.Post Inv μ answer answer' answer'' answer'3 answer'4 answer'5 answer'6 answer'7
 
   pub close : Lts.Closed (Reads.Asked, Reads.Learnt, Reads''.Asked, Reads''.Learnt) Reads'.Pre Reads'.Post M → Statement.statement M
   unfolding Code.routine Running.tablesOf

@@ -1,5 +1,5 @@
 -- Made by tools/walkgen.py: do not edit.
-use Rattle.fiduccia_mattheyses.proofs.MoveTy
+use Rattle.fiduccia_mattheyses.proofs.walk.MoveTy
 use borrow.Fn.Kinds
 use borrow.Kind.MutSlice
 use denote.Signed

@@ -1,0 +1,2 @@
+-- Made by tools/walkgen.py: do not edit.
+pub mod Lts
