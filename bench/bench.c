@@ -134,7 +134,7 @@ static char details[4096];
 
 static void fm(uint32_t bad)
 {
-    struct daunsrevit_fiduccia_mattheyses_settings s = {.passes = FM_PASSES, .moves = graph.n, .bad = bad,
+    struct daunsrevit_fiduccia_mattheyses_settings s = {.pass_limit = FM_PASSES, .move_limit = graph.n, .bad_limit = bad,
         .choice = DAUNSREVIT_IMBALANCE, .imbalance = IMBALANCE};
     struct daunsrevit_fiduccia_mattheyses_report from_plain, from_port;
     struct reference_run unchanged, lowest;
@@ -142,12 +142,12 @@ static void fm(uint32_t bad)
     static uint32_t plain_made[FM_PASSES], plain_rewound[FM_PASSES];
     for (int i = 0; i < UNCHANGED_RUNS; i++) {
         widen_labels();
-        COUNT(count, unchanged = reference_fm(&rust, wide_labels, s.passes, s.moves, s.bad, IMBALANCE));
+        COUNT(count, unchanged = reference_fm(&rust, wide_labels, s.pass_limit, s.move_limit, s.bad_limit, IMBALANCE));
         total += count;
         made += unchanged.counts[0];
     }
     widen_labels();
-    COUNT(lowest_count, lowest = reference_fm_lowest(&rust, wide_labels, s.passes, s.moves, s.bad, IMBALANCE));
+    COUNT(lowest_count, lowest = reference_fm_lowest(&rust, wide_labels, s.pass_limit, s.move_limit, s.bad_limit, IMBALANCE));
     lend();
     COUNT(plain_count, from_plain = plain_fm(&graph, labels, gains, moves, plain_made, plain_rewound, s));
     expect(from_plain.number == 0 && labels_like_rust(), "labels, plain C and Rust");
@@ -187,12 +187,12 @@ static void fm_bad_n(void)
 /* The Rust panics where a part has no vertex left, so the swap limit is cut to the smaller part. */
 static void kl(void)
 {
-    struct daunsrevit_kernighan_lin_settings s = {.passes = KL_PASSES, .bad = 1,
-        .swaps = smaller_part < KL_SWAPS ? smaller_part : KL_SWAPS};
+    struct daunsrevit_kernighan_lin_settings s = {.pass_limit = KL_PASSES, .bad_limit = 1,
+        .swap_limit = smaller_part < KL_SWAPS ? smaller_part : KL_SWAPS};
     struct daunsrevit_kernighan_lin_report from_plain, from_port;
     uint64_t rust_count, plain_count, port_count;
     widen_labels();
-    COUNT(rust_count, reference_kl(&rust, wide_labels, s.passes, s.swaps, s.bad));
+    COUNT(rust_count, reference_kl(&rust, wide_labels, s.pass_limit, s.swap_limit, s.bad_limit));
     lend();
     COUNT(plain_count, from_plain = plain_kl(&graph, labels, gains, locks, swaps, s));
     expect(from_plain.number == 0 && labels_like_rust(), "labels, plain C and Rust");
@@ -304,13 +304,13 @@ static const struct {
  * ceiling can end the pass before the limit, so the moves made are what counts. */
 static void scan(uint32_t ceiling, uint32_t most_moves)
 {
-    struct daunsrevit_fiduccia_mattheyses_settings s = {.passes = 1, .bad = graph.n, .choice = ceiling, .imbalance = IMBALANCE};
+    struct daunsrevit_fiduccia_mattheyses_settings s = {.pass_limit = 1, .bad_limit = graph.n, .choice = ceiling, .imbalance = IMBALANCE};
     struct daunsrevit_fiduccia_mattheyses_report from_plain, from_port;
     static uint32_t plain_labels[MOST_N];
     uint64_t plain_count[2], port_count[2];
     uint32_t made, rewound;
     for (int i = 0; i < 2; i++) {
-        s.moves = i == 0 ? 0 : most_moves;
+        s.move_limit = i == 0 ? 0 : most_moves;
         lend();
         COUNT(plain_count[i], from_plain = plain_fm(&graph, labels, gains, moves, &made, &rewound, s));
         memcpy(plain_labels, labels, sizeof labels);
@@ -318,7 +318,7 @@ static void scan(uint32_t ceiling, uint32_t most_moves)
         COUNT(port_count[i], from_port = port_fm(s));
         expect(from_plain.number == 0 && from_port.number == 0 && rows_made[0] == made && rows_rewound[0] == rewound &&
             from_port.last == from_plain.last && !memcmp(labels, plain_labels, graph.n * sizeof *labels), "port and plain C");
-        expect(made <= s.moves && (made > 0) == (s.moves > 0), "moves");
+        expect(made <= s.move_limit && (made > 0) == (s.move_limit > 0), "moves");
     }
     double looked_at = (double)made * graph.n;
     printf("| %s | %s | %s | %.2f | %.2f |\n", now.name, grouped(graph.n), grouped(made),

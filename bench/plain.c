@@ -199,7 +199,7 @@ struct daunsrevit_fiduccia_mattheyses_report plain_fm(const struct graph *g, uin
         return r;
     }
     r.number = graph_number(g, labels, 1);
-    if (r.number == 0 && (s.passes > DAUNSREVIT_MOST_PASSES || ceiling_wrong(s.choice, s.imbalance)))
+    if (r.number == 0 && (s.pass_limit > DAUNSREVIT_MOST_PASSES || ceiling_wrong(s.choice, s.imbalance)))
         r.number = 7;
     if (r.number != 0)
         return r;
@@ -207,19 +207,19 @@ struct daunsrevit_fiduccia_mattheyses_report plain_fm(const struct graph *g, uin
     uint64_t ceiling = ceiling_of(s.choice, s.whole, s.imbalance, &r.loads, 2);
     r.first = cut_of(g, labels);
     int64_t least = (int64_t)r.first;
-    while (r.passes < s.passes) {
+    while (r.passes < s.pass_limit) {
         int64_t cut = least, start = least;
         uint32_t count = 0, kept = 0, bad = 0;
         for (uint32_t v = 0; v < g->n; v++)
             gains[v] = gain_to_other(g, labels, v);
-        while (count < s.moves) {
+        while (count < s.move_limit) {
             uint32_t v = choose(g, labels, gains, &r.loads, ceiling);
             if (v == g->n)
                 break;
             int64_t gain = gains[v];
             if (gain > 0)
                 bad = 0;
-            else if (bad++ >= s.bad)
+            else if (bad++ >= s.bad_limit)
                 break;
             uint32_t before = labels[v];
             gains[v] = LOCKED;
@@ -297,13 +297,13 @@ struct daunsrevit_kernighan_lin_report plain_kl(const struct graph *g, uint32_t 
     two_labels(g, labels, &first, &second);
     if (first == second)
         r.number = 6;
-    else if (s.passes > DAUNSREVIT_MOST_PASSES)
+    else if (s.pass_limit > DAUNSREVIT_MOST_PASSES)
         r.number = 7;
     if (r.number != 0)
         return r;
-    uint32_t limit = g->n / 2 < s.swaps ? g->n / 2 : s.swaps;
+    uint32_t limit = g->n / 2 < s.swap_limit ? g->n / 2 : s.swap_limit;
     uint64_t cut = r.first = cut_of(g, labels);
-    while (r.passes < s.passes) {
+    while (r.passes < s.pass_limit) {
         uint64_t start = cut, least = cut;
         uint32_t count = 0, kept = 0;
         memset(gains, 0, g->n * sizeof *gains);
@@ -320,7 +320,7 @@ struct daunsrevit_kernighan_lin_report plain_kl(const struct graph *g, uint32_t 
                 gains[g->neighbours[e]] += labels[g->neighbours[e]] == first ? twice : -twice;
             }
             uint32_t v = last_largest(g, labels, gains, locks, second);
-            if (v == g->n || (u_gain + gains[v] <= 0 && s.bad == 0))
+            if (v == g->n || (u_gain + gains[v] <= 0 && s.bad_limit == 0))
                 break;
             locks[u] = locks[v] = 1;
             labels[u] = second;

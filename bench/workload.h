@@ -234,7 +234,7 @@ static inline struct daunsrevit_cut_answer port_lambda_cut(void)
 static inline struct daunsrevit_fiduccia_mattheyses_report port_fm(struct daunsrevit_fiduccia_mattheyses_settings s)
 {
     return daunsrevit_fiduccia_mattheyses(starts, graph.n + 1, neighbours, graph.a, arc_weights, graph.a, weights, graph.n,
-        labels, graph.n, gains, graph.n, moves, graph.n, rows_made, s.passes, rows_rewound, s.passes, s);
+        labels, graph.n, gains, graph.n, moves, graph.n, rows_made, s.pass_limit, rows_rewound, s.pass_limit, s);
 }
 
 static inline struct daunsrevit_kernighan_lin_report port_kl(struct daunsrevit_kernighan_lin_settings s)

@@ -24,22 +24,22 @@
  * STACK. Nothing is on the heap. The most stack that a call takes below the caller's frame, in bytes, measured (docs/SPEED.md):
  *
  *     loads 304, edge cut 256, lambda cut 272, FM 1,024, KL 464, arc-swap 1,152, reading a plan 112, writing one 112,
- *     self-test 2,160
+ *     self-test 2,176
  *
  * TIME. Every call ends. The checks walk each list a fixed number of times and look for each arc's opposite by halving a row. Beyond
  * them:
  *
- *     FM           passes: at most settings.passes, and at most the first cut + 1; moves in a pass: at most settings.moves, and at most
- *                  n; before each move, a look at every vertex
- *     KL           passes: at most settings.passes; swaps in a pass: at most settings.swaps, and at most n / 2; for each swap, walks of
- *                  all rows
+ *     FM           passes: at most settings.pass_limit, and at most the first cut + 1; moves in a pass: at most settings.move_limit,
+ *                  and at most n; before each move, a look at every vertex
+ *     KL           passes: at most settings.pass_limit; swaps in a pass: at most settings.swap_limit, and at most n / 2; for each swap,
+ *                  walks of all rows
  *     arc-swap     passes: at most the first cut + 1; moves: at most the first cut, as each lowers the cut; attempts: at most n in each
  *                  pass, and for each move at most the length of the moved vertex's row
  *
  * The longest calls measured, at 4,096 vertices, in instructions (docs/SPEED.md has their graphs and settings); longer ones are
  * possible within the bounds above:
  *
- *     loads 71,778, edge cut 2,896,528, lambda cut 2,855,432, FM 528,351,549 with 36,864 moves, KL 78,769,588, arc-swap 19,732,519
+ *     loads 71,778, edge cut 2,896,528, lambda cut 2,855,432, FM 530,946,630 with 36,864 moves, KL 78,769,588, arc-swap 19,732,521
  *
  * THREADS. The library keeps no state of its own, so it may be called from several threads at once, each with lent lists of its own.
  *
@@ -126,7 +126,7 @@ extern "C" {
  *      5  scale the weights, or the arc weights, down until they sum to at most DAUNSREVIT_MOST_WEIGHT
  *      6  name the parts by numbers below 16; for FM by 0 and 1; for KL by exactly two different numbers
  *      7  take a pass limit of at most DAUNSREVIT_MOST_PASSES, a choice of 0, 1 or 2, and an e from 0.0 to 64.0
- *      8  lend lists of the lengths that the call needs: n, n / 2 or settings.passes, as its comment says
+ *      8  lend lists of the lengths that the call needs: n, n / 2 or settings.pass_limit, as its comment says
  *      9  pass the whole file: a plan is one block of 512 bytes or more, and nothing after them
  *     10  fetch the file again: some of its bytes are not those that were written
  *     11  pass a plan from its first byte on: the first block is of kind 1 with 3 records, and its unused places are zero
@@ -196,9 +196,9 @@ struct daunsrevit_move {
 
 /* The most passes, moves in a pass, and moves of gain 0 or less in a row; then the ceiling's choice and its two values. */
 struct daunsrevit_fiduccia_mattheyses_settings {
-    uint32_t passes;
-    uint32_t moves;
-    uint32_t bad;
+    uint32_t pass_limit;
+    uint32_t move_limit;
+    uint32_t bad_limit;
     uint32_t choice;
     uint32_t whole;
     double imbalance;
@@ -216,9 +216,9 @@ struct daunsrevit_fiduccia_mattheyses_report {
 
 /* The most passes and swaps in a pass. A bad limit of 0 ends a pass at a pair whose gains sum to 0 or less; any other does not. */
 struct daunsrevit_kernighan_lin_settings {
-    uint32_t passes;
-    uint32_t swaps;
-    uint32_t bad;
+    uint32_t pass_limit;
+    uint32_t swap_limit;
+    uint32_t bad_limit;
 };
 
 /* The number; where it is 0 the run's end, its passes, and the cut before and after. */
@@ -277,7 +277,7 @@ struct daunsrevit_write_answer {
  *
  *     labels                      n elements
  *     gains, moves                n elements or more: working lists
- *     rows_made, rows_rewound     settings.passes elements or more
+ *     rows_made, rows_rewound     settings.pass_limit elements or more
  *
  * Done: number 0, and the labels are refined:
  *   - On a symmetric graph without loops, which number 0 says it is, with whole weights within the limits, the run leaves the labels of

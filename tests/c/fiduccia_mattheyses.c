@@ -26,7 +26,7 @@ static struct daunsrevit_fiduccia_mattheyses_report run(void)
 /* The lists just as long as is needed, or by `extra` longer, all painted. */
 static void lend(uint32_t passes, size_t extra)
 {
-    c.s.passes = passes;
+    c.s.pass_limit = passes;
     c.gains_count = c.moves_count = c.l.labels_count + extra;
     c.made_count = c.rewound_count = passes + extra;
 }
@@ -37,8 +37,8 @@ static void set_up(uint32_t passes, uint32_t moves, uint32_t bad)
     memset(c.moves, 0xa5, sizeof c.moves);
     memset(c.made, 0xa5, sizeof c.made);
     memset(c.rewound, 0xa5, sizeof c.rewound);
-    c.s.moves = moves;
-    c.s.bad = bad;
+    c.s.move_limit = moves;
+    c.s.bad_limit = bad;
     c.s.choice = DAUNSREVIT_IMBALANCE;
     c.s.whole = 0xa5a5a5a5u;
     c.s.imbalance = 0.25;
@@ -209,7 +209,7 @@ static void no_vertices(void)
     check_bare(DAUNSREVIT_DONE, DAUNSREVIT_EMPTY, __LINE__);
     on_path(5);
     c.l.labels_count = 0;
-    c.s.passes = 1025;
+    c.s.pass_limit = 1025;
     c.s.choice = 3;
     check_bare(DAUNSREVIT_DONE, DAUNSREVIT_EMPTY, __LINE__);
     struct daunsrevit_fiduccia_mattheyses_report r =
@@ -238,7 +238,7 @@ static void at_the_limits(void)
     for (int v = 0; v < 4096; v++)
         c.l.labels[v] = labels[v] = 0;
     c.s.imbalance = 64.0;
-    c.s.bad = 100;
+    c.s.bad_limit = 100;
     check_run(labels, DAUNSREVIT_GAINLESS, 1, ROWS_OF({100, 100}), 0, 0, 4096, 0, __LINE__);
     for (int sign = 0; sign <= 1; sign++) {
         on_grid(a, 64, 8, 0);

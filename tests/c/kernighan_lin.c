@@ -31,9 +31,9 @@ static void set_up(uint32_t passes, uint32_t swaps, uint32_t bad)
     memset(c.swaps, 0xa5, sizeof c.swaps);
     c.gains_count = c.locks_count = c.l.labels_count;
     c.swaps_count = c.l.labels_count / 2;
-    c.s.passes = passes;
-    c.s.swaps = swaps;
-    c.s.bad = bad;
+    c.s.pass_limit = passes;
+    c.s.swap_limit = swaps;
+    c.s.bad_limit = bad;
 }
 
 static void on_grid(const uint32_t *labels, uint32_t passes, uint32_t swaps, uint32_t bad)
@@ -177,8 +177,8 @@ static void refusals(void)
     AFTER((c.l.labels[1] = c.l.labels[3] = 16), 6);
     AFTER(c.l.labels[4] = 2, 6);
     AFTER((c.l.labels[1] = c.l.labels[3] = 0), 6);
-    AFTER(c.s.passes = 1025, 7);
-    AFTER(c.s.passes = 4294967295u, 7);
+    AFTER(c.s.pass_limit = 1025, 7);
+    AFTER(c.s.pass_limit = 4294967295u, 7);
     AFTER(c.gains_count--, 8);
     AFTER(c.locks_count--, 8);
     AFTER(c.swaps_count--, 8);
@@ -191,7 +191,7 @@ static void own_faults(unsigned faults)
     if (has(faults, 6))
         c.l.labels[2] = 2;
     if (has(faults, 7))
-        c.s.passes = 1025;
+        c.s.pass_limit = 1025;
     if (has(faults, 8))
         c.swaps_count--;
 }

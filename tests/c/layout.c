@@ -56,9 +56,9 @@ static void sizes(void)
     CHECK(OFFSET(daunsrevit_move, vertex) == 0);
     CHECK(OFFSET(daunsrevit_move, part) == 4);
     CHECK(sizeof(struct daunsrevit_fiduccia_mattheyses_settings) == 32);
-    CHECK(OFFSET(daunsrevit_fiduccia_mattheyses_settings, passes) == 0);
-    CHECK(OFFSET(daunsrevit_fiduccia_mattheyses_settings, moves) == 4);
-    CHECK(OFFSET(daunsrevit_fiduccia_mattheyses_settings, bad) == 8);
+    CHECK(OFFSET(daunsrevit_fiduccia_mattheyses_settings, pass_limit) == 0);
+    CHECK(OFFSET(daunsrevit_fiduccia_mattheyses_settings, move_limit) == 4);
+    CHECK(OFFSET(daunsrevit_fiduccia_mattheyses_settings, bad_limit) == 8);
     CHECK(OFFSET(daunsrevit_fiduccia_mattheyses_settings, choice) == 12);
     CHECK(OFFSET(daunsrevit_fiduccia_mattheyses_settings, whole) == 16);
     CHECK(OFFSET(daunsrevit_fiduccia_mattheyses_settings, imbalance) == 24);
@@ -70,9 +70,9 @@ static void sizes(void)
     CHECK(OFFSET(daunsrevit_fiduccia_mattheyses_report, last) == 24);
     CHECK(OFFSET(daunsrevit_fiduccia_mattheyses_report, loads) == 32);
     CHECK(sizeof(struct daunsrevit_kernighan_lin_settings) == 12);
-    CHECK(OFFSET(daunsrevit_kernighan_lin_settings, passes) == 0);
-    CHECK(OFFSET(daunsrevit_kernighan_lin_settings, swaps) == 4);
-    CHECK(OFFSET(daunsrevit_kernighan_lin_settings, bad) == 8);
+    CHECK(OFFSET(daunsrevit_kernighan_lin_settings, pass_limit) == 0);
+    CHECK(OFFSET(daunsrevit_kernighan_lin_settings, swap_limit) == 4);
+    CHECK(OFFSET(daunsrevit_kernighan_lin_settings, bad_limit) == 8);
     CHECK(sizeof(struct daunsrevit_kernighan_lin_report) == 32);
     CHECK(OFFSET(daunsrevit_kernighan_lin_report, number) == 0);
     CHECK(OFFSET(daunsrevit_kernighan_lin_report, end) == 4);

@@ -30,7 +30,7 @@ static struct daunsrevit_fiduccia_mattheyses_report by_moves(double e)
     static int64_t gains[3];
     static struct daunsrevit_move moves[3];
     static uint32_t made[4], rewound[4];
-    struct daunsrevit_fiduccia_mattheyses_settings s = {.passes = 4, .moves = 3, .bad = 0, .choice = DAUNSREVIT_IMBALANCE, .imbalance = e};
+    struct daunsrevit_fiduccia_mattheyses_settings s = {.pass_limit = 4, .move_limit = 3, .bad_limit = 0, .choice = DAUNSREVIT_IMBALANCE, .imbalance = e};
     reset();
     return daunsrevit_fiduccia_mattheyses(starts, 4, neighbours, 2, arc_weights, 2, weights, 3, labels, 3, gains, 3, moves, 3, made, 4, rewound, 4, s);
 }

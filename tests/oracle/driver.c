@@ -74,13 +74,13 @@ static void print_labels(void)
 static int fiduccia_mattheyses(void)
 {
     struct daunsrevit_fiduccia_mattheyses_settings s;
-    s.passes = (uint32_t)read_number();
-    s.moves = (uint32_t)read_number();
-    s.bad = (uint32_t)read_number();
+    s.pass_limit = (uint32_t)read_number();
+    s.move_limit = (uint32_t)read_number();
+    s.bad_limit = (uint32_t)read_number();
     s.choice = (uint32_t)read_number();
     s.whole = (uint32_t)read_number();
     s.imbalance = of_bits(read_number());
-    if (!read_graph() || s.passes > DAUNSREVIT_MOST_PASSES)
+    if (!read_graph() || s.pass_limit > DAUNSREVIT_MOST_PASSES)
         return 0;
     size_t n = l.labels_count;
     memset(gains, 0xa5, sizeof gains);
@@ -89,7 +89,7 @@ static int fiduccia_mattheyses(void)
     memset(rewound, 0xa5, sizeof rewound);
     struct daunsrevit_fiduccia_mattheyses_report r = daunsrevit_fiduccia_mattheyses(l.starts, l.starts_count,
         l.neighbours, l.neighbours_count, l.arc_weights, l.arc_weights_count, l.weights, l.weights_count,
-        l.labels, l.labels_count, gains, n, moves, n, made, s.passes, rewound, s.passes, s);
+        l.labels, l.labels_count, gains, n, moves, n, made, s.pass_limit, rewound, s.pass_limit, s);
     printf("number=%u end=%u passes=%u cut=%lu,%lu", r.number, r.end, r.passes, r.first, r.last);
     print_labels();
     printf(" loads=%lu,%lu rows=", r.loads.at[0], r.loads.at[1]);
@@ -102,9 +102,9 @@ static int fiduccia_mattheyses(void)
 static int kernighan_lin(void)
 {
     struct daunsrevit_kernighan_lin_settings s;
-    s.passes = (uint32_t)read_number();
-    s.swaps = (uint32_t)read_number();
-    s.bad = (uint32_t)read_number();
+    s.pass_limit = (uint32_t)read_number();
+    s.swap_limit = (uint32_t)read_number();
+    s.bad_limit = (uint32_t)read_number();
     if (!read_graph())
         return 0;
     size_t n = l.labels_count;
