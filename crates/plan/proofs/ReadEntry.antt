@@ -1,18 +1,13 @@
 -- The promise of `read_plan` in its two cases, and the header that it hands over. Assumes nothing.
 use mathlib.Core.Path.{_≡_, refl, sym, ap, _∙_}
-use mathlib.Core.Bool.{false, cond}
 use mathlib.Core.List.{List}
-use Prim.Native.Nat.{ℕ, _+_, _*_}
-use lib.Dec.{eqb}
-use lib.Ieee.{Float, binary64, ofBits}
+use Prim.Native.Nat.{ℕ}
 use borrow.Author.Tests.{eq-eqb, ne-eqb}
-use Rattle.imbalance.specs.Ceiling.{zero64}
-use Rattle.plan_blocks.specs.Word.{wrap, word, over}
-use Rattle.plan_blocks.specs.Plan.{unfitValue}
-use Rattle.plan_blocks.specs.Decode.{planOf, fileNumber}
-use Rattle.plan_blocks.proofs.Accepts.{accepts}
+use Rattle.plan_blocks.specs.declared.header.Header.{Header}
+use Rattle.plan_blocks.specs.Word.{word, over}
+use Rattle.plan_blocks.specs.Decode.{headerAt, planOf}
 use Rattle.plan.specs.declared.ReadAnswer.{ReadAnswer}
-use Rattle.plan.specs.Read.{Targets, readNumber, startsOf, headerOf, refusalOf, handed, readAnswer, readLeft, Read}
+use Rattle.plan.specs.Read.{Targets, readNumber, startsOf, headerAnswer, headerOf, refusalOf, handed, readAnswer, readLeft, Read}
 
 -- two lots of targets are equal where each list is
 pub same-targets : {t u : Targets} → t .labels ≡ u .labels → t .weights ≡ u .weights → t .starts ≡ u .starts → t .neighbours ≡ u .neighbours → t .arcWeights ≡ u .arcWeights → t ≡ u
@@ -42,13 +37,7 @@ read-done s t u r m e z q a b c d g =
     let f = eq-eqb (readNumber s t) 0 (sym e ∙ z) in
     promised s t u r (rw f q) (rw f (same-targets a b c d g))
 
--- the value of an accepted file fits its choice
-pub value-fits : (s : List ℕ) (choice value : ℕ) → fileNumber s ≡ 0 → choice ≡ word s 4 → value ≡ word s 5 + wrap * word s 6 → unfitValue choice value ≡ false
-value-fits s choice value h ec ev = rw (ec, ev) (accepts s h .fit)
-
-pub header-is : (s : List ℕ) (n a k choice value whole : ℕ) (e : Float) → n ≡ word s 1 → a ≡ word s 2 → k ≡ word s 3 → choice ≡ word s 4 → value ≡ word s 5 + wrap * word s 6
-    → whole ≡ cond (eqb choice 1) value 0 → e ≡ cond (eqb choice 2) (ofBits binary64 value) zero64
-    → record { number = 0; n = n; a = a; k = k; choice = choice; whole = whole; imbalance = e } ≡ headerOf (planOf s)
+-- the header that is handed over is that of the plan in the file
+pub header-handed : (s : List ℕ) (header : Header) (r : ReadAnswer) → header ≡ headerAt s → r ≡ headerAnswer header → r ≡ headerOf (planOf s)
 unfolding headerOf planOf
-header-is s n a k choice value whole e en ea ek ec ev ew ee =
-    rw (ew, ee, en, ea, ek, ec, ev)
+header-handed s header r e q = q ∙ ap headerAnswer e

@@ -2,10 +2,9 @@
 use mathlib.Core.Path.{_≡_, refl, sym, ap, ap₂, _∙_}
 use mathlib.Core.Bool.{Bool, true, false, not, cond, _&&_, _||_}
 use mathlib.Core.List.{List, _++_}
-use Prim.Native.Nat.{ℕ, zero, suc, _+_, _-_, _*_, _/_, _%_, _≤_, _<_}
+use Prim.Native.Nat.{ℕ, zero, suc, _+_, _*_, _/_, _%_, _≤_, _<_}
 use native.Mathlib.Omega.{arith}
-use lib.ListN.{length, getD, set, take, drop, length-set, length-drop}
-use lib.Seq.{length-take-le}
+use lib.ListN.{length, getD, set, drop, length-set}
 use lib.Dec.{ltb, eqb}
 use borrow.Author.Tests.{eq-eqb, ne-eqb, lt-ltb, le-ltb, eqb-true, eqb-false, not-false, ltb-false}
 use Rattle.lists.specs.Sum.{sum}
@@ -18,36 +17,23 @@ use Rattle.lists.proofs.Totals.{sum-ext, sum-grows}
 use Rattle.lists.proofs.Alls.{all-more, all-fails, from-fails, from-more}
 use Rattle.lists.proofs.Tables.{length-table, table-at, table-ext, written-table}
 use Rattle.lists.proofs.Fills.{written-none, written-more}
+use Rattle.plan_blocks.specs.declared.header.Header.{Header}
 use Rattle.plan_blocks.specs.Word.{wrap, word, over}
 use Rattle.plan_blocks.specs.Block.{opening, checks, laidOut, blocksFor, blocksOf, kindAt, countAt}
-use Rattle.plan_blocks.specs.Plan.{outOfRange, unfitValue}
-use Rattle.plan_blocks.specs.Decode.{inBlock, blocksIn, vertexAt, arcAt, labelAt, degreeAt, badLength, badCheck, badNumbers, laterLaid, badLater, labelled, badRecords, planOf, fileNumber}
-use Rattle.plan_blocks.proofs.WordLaws.{word-part}
-use Rattle.plan_blocks.proofs.Accepts.{InRange, in-range, accepts}
+use Rattle.plan_blocks.specs.Decode.{inBlock, blocksIn, vertexAt, arcAt, labelAt, degreeAt, headerAt, badLength, badCheck, badHeader, badNumbers, laterLaid, badLater, labelled, badRecords, planOf, fileNumber}
+use Rattle.plan_blocks.proofs.Accepts.{in-range, not-given, counted, accepts}
 use Rattle.plan.specs.Read.{startsOf, short, numberFor}
+use Rattle.plan.specs.inner.Reading.{frameNumber, planNumber}
 
--- block b as a part of the file
-abbrev pub part : List ℕ → ℕ → List ℕ
-part s b = take (512 * b + 512 - 512 * b) (drop (512 * b) s)
-
-pub length-part : (s : List ℕ) (b : ℕ) → 512 * b + 512 ≤ length s → length (part s b) ≡ 512
-length-part s b h =
-    let e : 512 * b + 512 - 512 * b ≡ 512 = omega arith in
-    let d = length-drop (512 * b) s in
-    rw e (length-take-le 512 (drop (512 * b) s) (omega arith))
-
--- number 10, block by block: r is the sum of block b's words, as summed over that part of the file
-module _ (s : List ℕ) (must b r : ℕ) (summed : r ≡ sum 128 (word (part s b)) % wrap) where
-  block-sum : sum 128 (inBlock s b) % wrap ≡ r
-  block-sum = ap (λ (x : ℕ). x % wrap) (sum-ext 128 (inBlock s b) (word (part s b)) (λ j l. sym (word-part s b j (512 * b + 512 - 512 * b) (512 * b) (omega arith) refl l))) ∙ sym summed
-
+-- number 10, block by block: r is the sum of block b's words
+module _ (s : List ℕ) (must b r : ℕ) (summed : r ≡ sum 128 (inBlock s b) % wrap) where
   pub check-more : all b (λ b. checks must (inBlock s b)) ≡ true → r ≡ must → all (b + 1) (λ b. checks must (inBlock s b)) ≡ true
   unfolding checks
-  check-more h e = all-more b (λ b. checks must (inBlock s b)) h (eq-eqb (sum 128 (inBlock s b) % wrap) must (block-sum ∙ e))
+  check-more h e = all-more b (λ b. checks must (inBlock s b)) h (eq-eqb (sum 128 (inBlock s b) % wrap) must (sym summed ∙ e))
 
   pub check-fails : b < blocksIn s → (r ≡ must → ⊥) → true ≡ badCheck must s
   unfolding checks badCheck
-  check-fails l ne = sym (ap not (all-fails (blocksIn s) b (λ b. checks must (inBlock s b)) l (ne-eqb (sum 128 (inBlock s b) % wrap) must (λ e. ne (sym block-sum ∙ e)))))
+  check-fails l ne = sym (ap not (all-fails (blocksIn s) b (λ b. checks must (inBlock s b)) l (ne-eqb (sum 128 (inBlock s b) % wrap) must (λ e. ne (summed ∙ e)))))
 
 pub check-all : (s : List ℕ) (must b : ℕ) → b ≡ blocksIn s → all b (λ b. checks must (inBlock s b)) ≡ true → false ≡ badCheck must s
 unfolding badCheck
@@ -99,36 +85,35 @@ pub record Passed (s : List ℕ) (n k sum′ v : ℕ) : Type 0 where
   pub small : sum′ ≤ 65535 * v
   pub labels : all v (λ u. ltb (labelAt s u) k) ≡ true
 
-module _ (s : List ℕ) (n k t v x at : ℕ) (place : at ≡ vertexAt v) (read : x ≡ word s (at + 1)) where
+module _ (s : List ℕ) (header : Header) (t v x at : ℕ) (place : at ≡ vertexAt v) (read : x ≡ word s (at + 1)) where
   is-second : x ≡ word s (vertexAt v + 1)
   is-second = read ∙ ap (λ (y : ℕ). word s (y + 1)) place
 
-  pub pass-more : Passed s n k t v → v < n → x < wrap → x % 65536 < k → Passed s n k (t + x / 65536) (v + 1)
-  pass-more h l f m =
-      let e = h .degrees in
+  pub pass-more : (degree : ℕ) → degree ≡ x / 65536 → Passed s (header .n) (header .k) t v → v < header .n → x < wrap → x % 65536 < header .k → Passed s (header .n) (header .k) (t + degree) (v + 1)
+  pass-more degree d h l f m =
       let b = h .small in
       record {
         within = omega arith;
-        degrees = sum-step v t (x / 65536) (degreeAt s) (h .degrees) (ap (λ (y : ℕ). y / 65536) is-second);
+        degrees = sum-step v t degree (degreeAt s) (h .degrees) (d ∙ ap (λ (y : ℕ). y / 65536) is-second);
         small = omega arith;
-        labels = all-more v (λ u. ltb (labelAt s u) k) (h .labels) (lt-ltb (labelAt s v) k (rw is-second at m));
+        labels = all-more v (λ u. ltb (labelAt s u) (header .k)) (h .labels) (lt-ltb (labelAt s v) (header .k) (rw is-second at m));
       }
 
-  pub label-fails : n ≡ word s 1 → k ≡ word s 3 → v < n → k ≤ x % 65536 → true ≡ badRecords s
+  pub label-fails : v < header .n → header .k ≤ x % 65536 → true ≡ badRecords header s
   unfolding badRecords labelled
-  label-fails en ek l m =
-      let f = all-fails (word s 1) v (λ u. ltb (labelAt s u) (word s 3)) (rw en at l) (le-ltb (labelAt s v) (word s 3) (rw (is-second, ek) at m)) in
-      sym (ap (λ (t : Bool). not (eqb (sum (word s 1) (degreeAt s)) (word s 2)) || not t) f ∙ or-true (not (eqb (sum (word s 1) (degreeAt s)) (word s 2))))
+  label-fails l m =
+      let f = all-fails (header .n) v (λ u. ltb (labelAt s u) (header .k)) l (le-ltb (labelAt s v) (header .k) (rw is-second at m)) in
+      let differ = not (eqb (sum (header .n) (degreeAt s)) (header .a)) in
+      sym (ap (λ (t : Bool). differ || not t) f ∙ or-true differ)
 
-pub records-judged : (s : List ℕ) (n k t v a : ℕ) → n ≡ word s 1 → k ≡ word s 3 → a ≡ word s 2 → v ≡ n → Passed s n k t v → not (eqb t a) ≡ badRecords s
+pub records-judged : (s : List ℕ) (header : Header) (t v : ℕ) → v ≡ header .n → Passed s (header .n) (header .k) t v → not (eqb t (header .a)) ≡ badRecords header s
 unfolding badRecords labelled
-records-judged s n k t v a en ek ea ev h =
-    let u : v ≡ word s 1 = ev ∙ en in
-    let d : t ≡ sum (word s 1) (degreeAt s) = rw u at (h .degrees) in
-    let f : all (word s 1) (λ u. ltb (labelAt s u) (word s 3)) ≡ true = rw (u, ek) at (h .labels) in
-    rw (d, ea, f) (sym (or-none (not (eqb (sum (word s 1) (degreeAt s)) (word s 2)))))
+records-judged s header t v ev h =
+    let d : t ≡ sum (header .n) (degreeAt s) = rw ev at (h .degrees) in
+    let f : all (header .n) (λ u. ltb (labelAt s u) (header .k)) ≡ true = rw ev at (h .labels) in
+    rw (d, f) (sym (or-none (not (eqb (sum (header .n) (degreeAt s)) (header .a)))))
 
--- numbers 9, 12 and 13, as far as the later tests lean on them
+-- numbers 9 and 13, as far as the later tests lean on them
 pub long-enough : (s : List ℕ) → badLength s ≡ false → 512 ≤ length s
 unfolding badLength
 long-enough s h =
@@ -137,28 +122,11 @@ long-enough s h =
     let r = eqb-true (length s % 512) 0 (not-false (eqb (length s % 512) 0) (p .1)) in
     omega (arith, z)
 
-pub in-numbers : (s : List ℕ) → badNumbers s ≡ false → InRange (word s 1) (word s 2) (word s 3)
-unfolding badNumbers
-in-numbers s h = in-range (word s 1) (word s 2) (word s 3) (or-false (outOfRange (word s 1) (word s 2) (word s 3)) (unfitValue (word s 4) (word s 5 + wrap * word s 6)) h .0)
-
-pub sized-by : (s : List ℕ) (second : ℕ) → badLength s ≡ false → badLater second s ≡ false → length s ≡ 512 * blocksOf (word s 1) (word s 2)
-unfolding badLength badLater
-sized-by s second h l =
-    let p = or-false (eqb (length s) 0) (not (eqb (length s % 512) 0)) h in
-    let r = eqb-true (length s % 512) 0 (not-false (eqb (length s % 512) 0) (p .1)) in
-    let q = or-false (not (eqb (blocksIn s) (blocksOf (word s 1) (word s 2)))) (not (laterLaid second (word s 1) (word s 2) s)) l in
-    let b = eqb-true (blocksIn s) (blocksOf (word s 1) (word s 2)) (not-false (eqb (blocksIn s) (blocksOf (word s 1) (word s 2))) (q .0)) in
-    omega arith
-
--- number 12, by its two tests
-module _ (s : List ℕ) (n a k : ℕ) (r : Bool) (en : n ≡ word s 1) (ea : a ≡ word s 2) (ek : k ≡ word s 3) (er : r ≡ outOfRange n a k) where
-  pub numbers-out : r ≡ true → true ≡ badNumbers s
-  unfolding badNumbers
-  numbers-out t = sym (rw (← en, ← ea, ← ek, ← er, t))
-
-  pub numbers-judged : (u : Bool) (choice value : ℕ) → r ≡ false → choice ≡ word s 4 → value ≡ word s 5 + wrap * word s 6 → u ≡ unfitValue choice value → u ≡ badNumbers s
-  unfolding badNumbers
-  numbers-judged u choice value f ec ev eu = eu ∙ sym (rw (← en, ← ea, ← ek, ← er, f, ← ec, ← ev))
+pub sized-by : (s : List ℕ) (header : Header) (second : ℕ) → badLength s ≡ false → badLater second header s ≡ false → length s ≡ 512 * blocksOf (header .n) (header .a)
+unfolding badLater
+sized-by s header second h l =
+    let q = or-false (not (eqb (blocksIn s) (blocksOf (header .n) (header .a)))) (not (laterLaid second (header .n) (header .a) s)) l in
+    counted s _ h (eqb-true _ _ (not-false _ (q .0)))
 
 -- number 13, block by block
 abbrev pub laterTo : List ℕ → ℕ → ℕ → ℕ → ℕ → Bool
@@ -180,25 +148,41 @@ unfolding laterLaid
 later-all s second n a b e h = sym (rw e at h)
 
 -- number 13, by its two tests
-module _ (s : List ℕ) (second n a m : ℕ) (en : n ≡ word s 1) (ea : a ≡ word s 2) (em : m ≡ blocksOf n a) where
-  pub blocks-differ : (blocksIn s ≡ m → ⊥) → true ≡ badLater second s
+module _ (s : List ℕ) (second m : ℕ) (header : Header) (em : m ≡ blocksOf (header .n) (header .a)) where
+  pub blocks-differ : (blocksIn s ≡ m → ⊥) → true ≡ badLater second header s
   unfolding badLater
-  blocks-differ ne = sym (rw (← en, ← ea, ← em, ne-eqb (blocksIn s) m ne))
+  blocks-differ ne = sym (rw (← em, ne-eqb (blocksIn s) m ne))
 
-  pub later-judged : (r : Bool) → blocksIn s ≡ m → r ≡ laterLaid second n a s → not r ≡ badLater second s
+  pub later-judged : (r : Bool) → blocksIn s ≡ m → r ≡ laterLaid second (header .n) (header .a) s → not r ≡ badLater second header s
   unfolding badLater
-  later-judged r e er = sym (rw (← en, ← ea, ← em, eq-eqb (blocksIn s) m e, ← er))
+  later-judged r e er = sym (rw (← em, eq-eqb (blocksIn s) m e, ← er))
 
--- the reader's number, by its parts
+-- the reader's number is that of the frame, or else that of the plan
 module _ (s : List ℕ) (labels weights starts neighbours arcWeights : ℕ) where
-  pub number-first : (m : ℕ) → m ≡ fileNumber s → (m ≡ 0 → ⊥) → m ≡ numberFor s labels weights starts neighbours arcWeights
-  unfolding numberFor
-  number-first zero e ne = absurd (ne refl)
-  number-first (suc m) e ne = rw (← e)
+  in-two : numberFor s labels weights starts neighbours arcWeights ≡ orElse (frameNumber s) (planNumber (headerAt s) s labels weights starts neighbours arcWeights)
+  unfolding numberFor fileNumber frameNumber planNumber planOf
+  in-two = go (badLength s) (badCheck 0 s) (badHeader 0 s) (badNumbers (headerAt s)) (badLater 0 (headerAt s) s) (badRecords (headerAt s) s) _
+    where
+      go : (a b c d e f : Bool) (m : ℕ) → orElse (cond a 9 (cond b 10 (cond c 11 (cond d 12 (cond e 13 (cond f 14 0)))))) m ≡ orElse (cond a 9 (cond b 10 (cond c 11 0))) (cond d 12 (cond e 13 (cond f 14 m)))
+      go true b c d e f m = refl
+      go false true c d e f m = refl
+      go false false true d e f m = refl
+      go false false false true e f m = refl
+      go false false false false true f m = refl
+      go false false false false false true m = refl
+      go false false false false false false m = refl
 
-  pub number-room : (n a m : ℕ) (r : Bool) → fileNumber s ≡ 0 → n ≡ word s 1 → a ≡ word s 2 → r ≡ short n a labels weights starts neighbours arcWeights → m ≡ cond r 15 0 → m ≡ numberFor s labels weights starts neighbours arcWeights
-  unfolding numberFor planOf
-  number-room n a m r e en ea er em = em ∙ sym (rw (e, ← en, ← ea, ← er))
+  pub by-frame : (m : ℕ) → m ≡ frameNumber s → (m ≡ 0 → ⊥) → m ≡ numberFor s labels weights starts neighbours arcWeights
+  by-frame zero e ne = absurd (ne refl)
+  by-frame (suc m) e ne = sym (in-two ∙ rw (← e))
+
+  pub by-plan : (m k : ℕ) (header : Header) → m ≡ frameNumber s → m ≡ 0 → header ≡ headerAt s → k ≡ planNumber header s labels weights starts neighbours arcWeights → k ≡ numberFor s labels weights starts neighbours arcWeights
+  by-plan m k header e z h q = q ∙ ap (λ (x : Header). planNumber x s labels weights starts neighbours arcWeights) h ∙ sym (in-two ∙ rw (← e, z))
+
+-- a frame that is not refused has whole blocks
+pub whole-blocks : (s : List ℕ) (m : ℕ) → m ≡ frameNumber s → m ≡ 0 → badLength s ≡ false
+unfolding frameNumber
+whole-blocks s m e z = not-given (badLength s) 9 _ (omega arith) (sym e ∙ z) .0
 
 -- where the reader's number is 0, the file is accepted and the targets are long enough
 pub record Room (s : List ℕ) (l w t n a : ℕ) : Type 0 where
@@ -233,6 +217,15 @@ module _ (s : List ℕ) (l w t n a : ℕ) where
       go : (m : ℕ) → fileNumber s ≡ m → orElse m (cond (ltb l (word s 1) || (ltb w (word s 1) || (ltb t (word s 1 + 1) || (ltb n (word s 2) || ltb a (word s 2))))) 15 0) ≡ 0 → Room s l w t n a
       go zero e z = fits _ refl z e
       go (suc m) e z = absurd (omega arith)
+
+-- the same, by the reader's two numbers
+module _ (s : List ℕ) (l w t n a m k : ℕ) (header : Header) (decoded : header ≡ headerAt s) (framed : m ≡ frameNumber s) (planned : k ≡ planNumber header s l w t n a) where
+  pub opened : m ≡ 0 → k ≡ 0 → Room s l w t n a
+  opened y z = room s l w t n a (sym (by-plan s l w t n a m k header framed y decoded planned) ∙ z)
+
+  pub ranged : k ≡ 0 → badNumbers header ≡ false
+  unfolding planNumber
+  ranged z = not-given (badNumbers header) 12 _ (omega arith) (sym planned ∙ z) .0
 
 -- the vertices' records, vertex by vertex
 pub record VerticesTo (s labels₀ weights₀ starts₀ : List ℕ) (n : ℕ) (labels weights starts : List ℕ) (row v : ℕ) : Type 0 where

@@ -1,6 +1,6 @@
 -- The promise of `write_plan` in its two cases, and what number 0 tells. Assumes nothing.
 use mathlib.Core.Path.{_≡_, refl, sym, _∙_}
-use mathlib.Core.Bool.{Bool, true, false, not, cond, _||_}
+use mathlib.Core.Bool.{false, not, _||_}
 use mathlib.Core.List.{List}
 use Prim.Native.Nat.{ℕ, zero, suc, _+_, _-_, _≤_, _<_}
 use native.Mathlib.Omega.{arith}
@@ -14,13 +14,9 @@ use Rattle.imbalance.specs.Ceiling.{unfitChoice}
 use Rattle.plan_blocks.specs.Word.{over}
 use Rattle.plan_blocks.specs.Plan.{outOfRange, valueOf}
 use Rattle.plan_blocks.specs.Encode.{encode}
-use Rattle.plan_blocks.proofs.Accepts.{InRange, in-range}
-use Rattle.plan.specs.Write.{Given, planWith, vertices, arcs, unfit, miscounted, rising, badStarts, badLabels, sizeOf, writeNumber, writeAnswer, writeLeft, Writable, Written}
-
--- a number that is not given leaves the next
-not-given : (t : Bool) (c x : ℕ) → 0 < c → cond t c x ≡ 0 → (t ≡ false) × (x ≡ 0)
-not-given true c x l e = absurd (omega arith)
-not-given false c x l e = (refl, e)
+use Rattle.plan_blocks.proofs.Accepts.{InRange, in-range, not-given}
+use Rattle.plan.specs.Write.{Given, planWith, vertices, arcs, unfit, miscounted, rising, badStarts, badLabels, sizeOf, writeNumber, writeAnswer, writeLeft, Written}
+use Rattle.plan.specs.inner.Writing.{Writable}
 
 -- what number 0 says of what is given and of the target's length
 pub record Fits (g : Given) (room : ℕ) : Type 0 where

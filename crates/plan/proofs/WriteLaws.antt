@@ -7,7 +7,7 @@ use native.Mathlib.Omega.{arith}
 use lib.ListN.{length, getD}
 use lib.Dec.{leb, ltb, eqb}
 use lib.Ieee.{Float}
-use borrow.Author.Tests.{eq-eqb, ne-eqb, le-ltb, lt-leb, le-leb, eqb-true, eqb-false}
+use borrow.Author.Tests.{eq-eqb, ne-eqb, le-ltb, lt-leb, le-leb, eqb-true, eqb-false, not-false}
 use Rattle.lists.specs.Sum.{sum}
 use Rattle.lists.specs.All.{all}
 use Rattle.lists.specs.Fill.{written}
@@ -24,7 +24,8 @@ use Rattle.plan_blocks.specs.Encode.{headerWord, vertexWord, arcWord, recordWor
 use Rattle.plan_blocks.proofs.WordLaws.{wrap-step, byteIn, written-word, written-bytes}
 use Rattle.plan_blocks.proofs.Places.{held-in, vertex-block, arc-block}
 use Rattle.plan_blocks.proofs.Accepts.{in-range}
-use Rattle.plan.specs.Write.{planWith, rising, badStarts, badLabels, sizeOf, summed, Writable}
+use Rattle.plan.specs.Write.{planWith, rising, badStarts, badLabels, sizeOf}
+use Rattle.plan.specs.inner.Writing.{summed, Writable}
 
 -- number 14, label by label
 module _ (k : ℕ) (labels : List ℕ) (v : ℕ) where
@@ -212,6 +213,12 @@ module _ (p : Plan) (target₀ : List ℕ) (words : ℕ) where
   pub words-size : (target : List ℕ) (s w : ℕ) → WordsTo p target₀ words target s w → 4 * words ≡ sizeOf (p .n) (p .a)
   unfolding sizeOf
   words-size target s w h = let e = h .all in omega arith
+
+-- there are n + 1 starts where number 1's test fails
+pub counted : (n a weights starts arcWeights : ℕ) → (not (eqb weights n) || (not (eqb starts (n + 1)) || not (eqb a arcWeights))) ≡ false → starts ≡ n + 1
+counted n a weights starts arcWeights h =
+    let p = or-false (not (eqb weights n)) (not (eqb starts (n + 1)) || not (eqb a arcWeights)) h in
+    eqb-true starts (n + 1) (not-false _ (or-false (not (eqb starts (n + 1))) (not (eqb a arcWeights)) (p .1) .0))
 
 -- n and a are small where number 12's test fails
 pub small-counts : (n a k choice : ℕ) (e : Float) → (outOfRange n a k || unfitChoice choice e) ≡ false → (n ≤ 4096) × (a ≤ 65535)

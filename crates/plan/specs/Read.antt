@@ -12,7 +12,8 @@ use Rattle.lists.specs.Number.{orElse}
 use Rattle.imbalance.specs.Ceiling.{zero64}
 use Rattle.plan.specs.declared.ReadAnswer.{ReadAnswer}
 use Rattle.plan_blocks.specs.Word.{over}
-use Rattle.plan_blocks.specs.Plan.{Plan}
+use Rattle.plan_blocks.specs.declared.header.Header.{Header}
+use Rattle.plan_blocks.specs.Plan.{Plan, headerIn}
 use Rattle.plan_blocks.specs.Decode.{planOf, fileNumber}
 
 -- the five lent lists
@@ -42,17 +43,20 @@ unfoldable pub startsOf : ℕ → List ℕ → List ℕ
 startsOf n degrees = table (n + 1) (λ v. sum v (λ u. getD degrees u 0))
 
 -- the header, as the reader hands it over: it "gives 0 for a ceiling value the choice does not use"
-unfoldable pub headerOf : Plan → ReadAnswer
-headerOf p =
+abbrev pub headerAnswer : Header → ReadAnswer
+headerAnswer header =
     record {
       number = 0;
-      n = p .n;
-      a = p .a;
-      k = p .k;
-      choice = p .choice;
-      whole = cond (eqb (p .choice) 1) (p .value) 0;
-      imbalance = cond (eqb (p .choice) 2) (ofBits binary64 (p .value)) zero64;
+      n = header .n;
+      a = header .a;
+      k = header .k;
+      choice = header .choice;
+      whole = cond (eqb (header .choice) 1) (header .value) 0;
+      imbalance = cond (eqb (header .choice) 2) (ofBits binary64 (header .value)) zero64;
     }
+
+unfoldable pub headerOf : Plan → ReadAnswer
+headerOf p = headerAnswer (headerIn p)
 
 -- a refusal: the number, and zero in every other field
 abbrev pub refusalOf : ℕ → ReadAnswer

@@ -2,20 +2,18 @@
 use mathlib.Core.Path.{_≡_}
 use mathlib.Core.Bool.{Bool, not, cond, _||_}
 use mathlib.Core.List.{List}
-use Prim.Native.Nat.{ℕ, _+_, _-_, _*_, _/_, _%_, _≤_, _<_}
+use Prim.Native.Nat.{ℕ, _+_, _-_, _*_}
 use lib.ListN.{length, getD}
 use lib.Dec.{leb, ltb, eqb}
 use lib.Ieee.{Float}
-use Rattle.lists.specs.Sum.{sum}
 use Rattle.lists.specs.All.{all}
 use Rattle.lists.specs.Fill.{table}
 use Rattle.imbalance.specs.Ceiling.{unfitChoice}
-use Rattle.imbalance.specs.Limit.{mostVertices, mostArcs}
 use Rattle.plan.specs.declared.WriteAnswer.{WriteAnswer}
-use Rattle.plan_blocks.specs.Word.{wrap, over}
+use Rattle.plan_blocks.specs.Word.{over}
 use Rattle.plan_blocks.specs.Block.{blocksOf}
 use Rattle.plan_blocks.specs.Plan.{Plan, outOfRange, valueOf}
-use Rattle.plan_blocks.specs.Encode.{bodyWord, encode}
+use Rattle.plan_blocks.specs.Encode.{encode}
 
 -- what the writer is given
 pub record Given : Type 0 where
@@ -102,21 +100,6 @@ writeAnswer g target =
 -- THE TARGET: the plan's file, and what stood past its end; a refusal writes nothing
 unfoldable pub writeLeft : Given → List ℕ → List ℕ
 writeLeft g target = cond (eqb (writeNumber g (length target)) 0) (over (encode (planFrom g)) target) target
-
--- the words of its block before word w of the file, summed, wrapping
-unfoldable pub summed : Plan → ℕ → ℕ
-summed p w = sum (w % 128) (bodyWord 0 p (w / 128)) % wrap
-
--- What the writer's inner functions ask of the lists: their counts, starts in order, and labels that two bytes hold.
-pub record Writable (labels weights starts neighbours arcWeights : List ℕ) : Type 0 where
-  pub few : length labels ≤ mostVertices
-  pub fewArcs : length neighbours ≤ mostArcs
-  pub weighed : length weights ≡ length labels
-  pub started : length starts ≡ length labels + 1
-  pub paired : length arcWeights ≡ length neighbours
-  pub rises : (v : ℕ) → v < length labels → getD starts v 0 ≤ getD starts (v + 1) 0
-  pub within : (v : ℕ) → v ≤ length labels → getD starts v 0 ≤ mostArcs
-  pub named : (v : ℕ) → v < length labels → getD labels v 0 < 65536
 
 -- THE PROMISE: of what is given, the target t at entry, an answer r and the target u at exit
 pub record Written (g : Given) (t : List ℕ) (r : WriteAnswer) (u : List ℕ) : Type 0 where

@@ -39,8 +39,14 @@ pub fn read_plan(
         r
         (record { labels = now (labels .exit); weights = now (weights .exit); starts = now (starts .exit); neighbours = now (neighbours .exit); arcWeights = now («arc_weights» .exit) }) ⌝ }
 {
-    let number = reader::read_number(
+    let framed = reader::frame_number(bytes);
+    if framed != 0 {
+        return reader::refusal(framed);
+    }
+    let header = plan_blocks::header::header_of(bytes);
+    let number = reader::plan_number(
         bytes,
+        header,
         labels.len(),
         weights.len(),
         starts.len(),
@@ -50,9 +56,9 @@ pub fn read_plan(
     if number != 0 {
         return reader::refusal(number);
     }
-    reader::read_vertices(bytes, labels, weights, starts);
-    reader::read_arcs(bytes, neighbours, arc_weights);
-    reader::header(bytes)
+    reader::read_vertices(bytes, header.n, labels, weights, starts);
+    reader::read_arcs(bytes, header.n, header.a, neighbours, arc_weights);
+    reader::read_header(header)
 }
 
 // Writes a plan into the target. A refusal writes nothing; the target keeps what stood past the plan's end.

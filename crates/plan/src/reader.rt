@@ -1,17 +1,19 @@
 // The reader: the numbers that refuse a file, and the records of one that is accepted.
 use crate::ReadAnswer;
 use plan_blocks::ceiling;
+use plan_blocks::header;
+use plan_blocks::header::Header;
 use plan_blocks::layout;
 use plan_blocks::words;
 ghost use mathlib.Core.Path.{_≡_};
 ghost use mathlib.Core.Bool.{true, false};
 ghost use Prim.Native.Nat.{_+_, _*_, _/_, _≤_, _<_};
 ghost use lib.ListN.{length};
-ghost use Rattle.lists.specs.Sum.{sum};
-ghost use Rattle.plan_blocks.specs.Word.{word, over};
+ghost use Rattle.plan_blocks.specs.Word.{over};
 ghost use Rattle.plan_blocks.specs.Block.{laidOut, blocksOf};
-ghost use Rattle.plan_blocks.specs.Decode.{inBlock, blocksIn, badLength, badCheck, badNumbers, laterLaid, badLater, badRecords, planOf, fileNumber};
-ghost use Rattle.plan.specs.Read.{short, numberFor, startsOf, headerOf, refusalOf};
+ghost use Rattle.plan_blocks.specs.Decode.{inBlock, blocksIn, headerAt, badLength, badCheck, badNumbers, laterLaid, badLater, badRecords, planOf, fileNumber};
+ghost use Rattle.plan.specs.Read.{short, startsOf, headerAnswer, refusalOf};
+ghost use Rattle.plan.specs.inner.Reading.{frameNumber, planNumber};
 
 // Number 9's test.
 fn bad_length(bytes: &[u8]) -> bool
@@ -30,9 +32,7 @@ fn bad_check(bytes: &[u8], must: u32) -> bool
     let blocks = bytes.len() / 512;
     let mut b: usize = 0;
     while b < blocks {
-        let at = 512 * b;
-        let end = at + 512;
-        if words::block_sum(&bytes[at..end]) != must {
+        if words::words_sum(bytes, 128 * b, 128) != must {
             return true;
         }
         b += 1;
@@ -59,21 +59,6 @@ fn laid_out(bytes: &[u8], b: usize, second: usize, kind: usize, count: usize) ->
     true
 }
 
-// Number 12's test.
-fn bad_numbers(bytes: &[u8]) -> bool
-    requires { ⌜ 512 ≤ length (now bytes) ⌝ }
-    ensures { λ r. ⌜ r ≡ badNumbers (now (bytes .entry)) ⌝ }
-{
-    let n = words::word_at(bytes, 1);
-    let a = words::word_at(bytes, 2);
-    let k = words::word_at(bytes, 3);
-    if layout::out_of_range(lists::index(n), lists::index(a), k) {
-        return true;
-    }
-    let value = ceiling::paired(words::word_at(bytes, 5), words::word_at(bytes, 6));
-    ceiling::unfit_value(words::word_at(bytes, 4), value)
-}
-
 // Whether each later block is laid out as n and a ask.
 fn later_laid(bytes: &[u8], second: usize, n: usize, a: usize) -> bool
     requires { ⌜ (second < 256) × (n ≤ 65535) × (a ≤ 65535) × (blocksIn (now bytes) ≡ blocksOf n a) ⌝ }
@@ -93,44 +78,42 @@ fn later_laid(bytes: &[u8], second: usize, n: usize, a: usize) -> bool
 }
 
 // Number 13's test.
-fn bad_later(bytes: &[u8], second: usize) -> bool
-    requires { ⌜ (512 ≤ length (now bytes)) × (badNumbers (now bytes) ≡ false) × (second < 256) ⌝ }
-    ensures { λ r. ⌜ r ≡ badLater second (now (bytes .entry)) ⌝ }
+fn bad_later(bytes: &[u8], second: usize, header: Header) -> bool
+    requires { ⌜ (badNumbers header ≡ false) × (second < 256) ⌝ }
+    ensures { λ r. ⌜ r ≡ badLater second header (now (bytes .entry)) ⌝ }
 {
-    let n = lists::index(words::word_at(bytes, 1));
-    let a = lists::index(words::word_at(bytes, 2));
-    if bytes.len() / 512 != layout::blocks_of(n, a) {
+    if bytes.len() / 512 != layout::blocks_of(header.n, header.a) {
         return true;
     }
-    if later_laid(bytes, second, n, a) {
+    if later_laid(bytes, second, header.n, header.a) {
         return false;
     }
     true
 }
 
 // Number 14's test: one walk over the vertices' records.
-fn bad_records(bytes: &[u8]) -> bool
-    requires { ⌜ (length (now bytes) ≡ 512 * blocksOf (word (now bytes) 1) (word (now bytes) 2)) × (word (now bytes) 1 ≤ 4096) ⌝ }
-    ensures { λ r. ⌜ r ≡ badRecords (now (bytes .entry)) ⌝ }
+fn bad_records(bytes: &[u8], header: Header) -> bool
+    requires { ⌜ (badNumbers header ≡ false) × (512 * blocksOf (header .n) (header .a) ≤ length (now bytes)) ⌝ }
+    ensures { λ r. ⌜ r ≡ badRecords header (now (bytes .entry)) ⌝ }
 {
-    let n = lists::index(words::word_at(bytes, 1));
-    let k = words::word_at(bytes, 3);
-    let mut sum: u32 = 0;
+    let n = header.n;
+    let k = header.k;
+    let mut sum: usize = 0;
     let mut v: usize = 0;
     while v < n {
         let x = words::word_at(bytes, layout::place(1, v) + 1);
         if x % 65536 >= k {
             return true;
         }
-        sum += x / 65536;
+        sum += lists::index(x / 65536);
         v += 1;
     }
-    sum != words::word_at(bytes, 2)
+    sum != header.a
 }
 
-// The smallest of 9 to 14 that applies, 0 if none does.
-fn file_number(bytes: &[u8]) -> u32
-    ensures { λ r. ⌜ r ≡ fileNumber (now (bytes .entry)) ⌝ }
+// The smallest of 9 to 11 that applies, 0 if none does: what the bytes show before the header is decoded.
+pub(crate) fn frame_number(bytes: &[u8]) -> u32
+    ensures { λ r. ⌜ r ≡ frameNumber (now (bytes .entry)) ⌝ }
 {
     if bad_length(bytes) {
         return 9;
@@ -140,15 +123,6 @@ fn file_number(bytes: &[u8]) -> u32
     }
     if !laid_out(bytes, 0, 0, 1, 3) {
         return 11;
-    }
-    if bad_numbers(bytes) {
-        return 12;
-    }
-    if bad_later(bytes, 0) {
-        return 13;
-    }
-    if bad_records(bytes) {
-        return 14;
     }
     0
 }
@@ -181,24 +155,37 @@ fn short_of(
     arc_weights < a
 }
 
-// The number of a call of the reader.
-pub(crate) fn read_number(
+// The smallest of 12 to 15 that applies, 0 if none does: what the decoded header shows of the file and of the targets' lengths.
+pub(crate) fn plan_number(
     bytes: &[u8],
+    header: Header,
     labels: usize,
     weights: usize,
     starts: usize,
     neighbours: usize,
     arc_weights: usize,
 ) -> u32
-    ensures { λ r. ⌜ r ≡ numberFor (now (bytes .entry)) labels weights starts neighbours «arc_weights» ⌝ }
+    requires { ⌜ badLength (now bytes) ≡ false ⌝ }
+    ensures { λ r. ⌜ r ≡ planNumber header (now (bytes .entry)) labels weights starts neighbours «arc_weights» ⌝ }
 {
-    let number = file_number(bytes);
-    if number != 0 {
-        return number;
+    if header::bad_numbers(header) {
+        return 12;
     }
-    let n = lists::index(words::word_at(bytes, 1));
-    let a = lists::index(words::word_at(bytes, 2));
-    if short_of(n, a, labels, weights, starts, neighbours, arc_weights) {
+    if bad_later(bytes, 0, header) {
+        return 13;
+    }
+    if bad_records(bytes, header) {
+        return 14;
+    }
+    if short_of(
+        header.n,
+        header.a,
+        labels,
+        weights,
+        starts,
+        neighbours,
+        arc_weights,
+    ) {
         return 15;
     }
     0
@@ -219,24 +206,21 @@ pub(crate) fn refusal(number: u32) -> ReadAnswer
     }
 }
 
-// The header of an accepted file.
-pub(crate) fn header(bytes: &[u8]) -> ReadAnswer
-    requires { ⌜ fileNumber (now bytes) ≡ 0 ⌝ }
-    ensures { λ r. ⌜ r ≡ headerOf (planOf (now (bytes .entry))) ⌝ }
+// The header, as the reader hands it over.
+pub(crate) fn read_header(header: Header) -> ReadAnswer
+    requires { ⌜ badNumbers header ≡ false ⌝ }
+    ensures { λ r. ⌜ r ≡ headerAnswer header ⌝ }
 {
-    let n = words::word_at(bytes, 1);
-    let a = words::word_at(bytes, 2);
-    let k = words::word_at(bytes, 3);
-    let choice = words::word_at(bytes, 4);
-    let value = ceiling::paired(words::word_at(bytes, 5), words::word_at(bytes, 6));
-    let whole = ceiling::whole_of(choice, value);
-    let imbalance = ceiling::imbalance_of(choice, value);
+    let n = words::narrow(header.n);
+    let a = words::narrow(header.a);
+    let whole = ceiling::whole_of(header.choice, header.value);
+    let imbalance = ceiling::imbalance_of(header.choice, header.value);
     ReadAnswer {
         number: 0,
         n,
         a,
-        k,
-        choice,
+        k: header.k,
+        choice: header.choice,
         whole,
         imbalance,
     }
@@ -245,19 +229,20 @@ pub(crate) fn header(bytes: &[u8]) -> ReadAnswer
 // The records of the vertices: degrees become starts.
 pub(crate) fn read_vertices(
     bytes: &[u8],
+    n: usize,
     labels: &mut [u32],
     weights: &mut [u32],
     starts: &mut [u32],
 )
     requires { ⌜ (fileNumber (now bytes) ≡ 0)
-        × (word (now bytes) 1 ≤ length (now labels))
-        × (word (now bytes) 1 ≤ length (now weights))
-        × (word (now bytes) 1 + 1 ≤ length (now starts)) ⌝ }
+        × (n ≡ headerAt (now bytes) .n)
+        × (n ≤ length (now labels))
+        × (n ≤ length (now weights))
+        × (n + 1 ≤ length (now starts)) ⌝ }
     ensures { λ _. ⌜ (now (labels .exit) ≡ over (planOf (now (bytes .entry)) .labels) (now (labels .entry)))
         × (now (weights .exit) ≡ over (planOf (now (bytes .entry)) .weights) (now (weights .entry)))
-        × (now (starts .exit) ≡ over (startsOf (word (now (bytes .entry)) 1) (planOf (now (bytes .entry)) .degrees)) (now (starts .entry))) ⌝ }
+        × (now (starts .exit) ≡ over (startsOf (headerAt (now (bytes .entry)) .n) (planOf (now (bytes .entry)) .degrees)) (now (starts .entry))) ⌝ }
 {
-    let n = lists::index(words::word_at(bytes, 1));
     let mut row: u32 = 0;
     let mut v: usize = 0;
     while v < n {
@@ -272,16 +257,23 @@ pub(crate) fn read_vertices(
     starts[n] = row;
 }
 
-// The records of the arcs.
-pub(crate) fn read_arcs(bytes: &[u8], neighbours: &mut [u32], arc_weights: &mut [u32])
+// The records of the arcs, which stand after those of n vertices.
+pub(crate) fn read_arcs(
+    bytes: &[u8],
+    n: usize,
+    a: usize,
+    neighbours: &mut [u32],
+    arc_weights: &mut [u32],
+)
     requires { ⌜ (fileNumber (now bytes) ≡ 0)
-        × (word (now bytes) 2 ≤ length (now neighbours))
-        × (word (now bytes) 2 ≤ length (now «arc_weights»)) ⌝ }
+        × (n ≡ headerAt (now bytes) .n)
+        × (a ≡ headerAt (now bytes) .a)
+        × (a ≤ length (now neighbours))
+        × (a ≤ length (now «arc_weights»)) ⌝ }
     ensures { λ _. ⌜ (now (neighbours .exit) ≡ over (planOf (now (bytes .entry)) .neighbours) (now (neighbours .entry)))
         × (now («arc_weights» .exit) ≡ over (planOf (now (bytes .entry)) .arcWeights) (now («arc_weights» .entry))) ⌝ }
 {
-    let a = lists::index(words::word_at(bytes, 2));
-    let first = 1 + layout::blocks_for(lists::index(words::word_at(bytes, 1)));
+    let first = 1 + layout::blocks_for(n);
     let mut e: usize = 0;
     while e < a {
         let at = layout::place(first, e);

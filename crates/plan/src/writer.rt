@@ -3,7 +3,7 @@ use plan_blocks::ceiling;
 use plan_blocks::layout;
 use plan_blocks::words;
 ghost use mathlib.Core.Path.{_≡_};
-ghost use mathlib.Core.Bool.{cond, _||_};
+ghost use mathlib.Core.Bool.{not, cond, _||_};
 ghost use lib.Dec.{eqb};
 ghost use mathlib.Core.List.{[], _∷_};
 ghost use Prim.Native.Nat.{_+_, _*_, _/_, _%_, _≤_, _<_};
@@ -13,7 +13,8 @@ ghost use Rattle.plan_blocks.specs.Word.{wrap, over};
 ghost use Rattle.plan_blocks.specs.Block.{blocksOf, countAt};
 ghost use Rattle.plan_blocks.specs.Plan.{outOfRange};
 ghost use Rattle.plan_blocks.specs.Encode.{vertexWord, arcWord, recordWord, bodyWord, fileWord, encode};
-ghost use Rattle.plan.specs.Write.{planWith, badStarts, badLabels, sizeOf, writeNumber, summed, Writable};
+ghost use Rattle.plan.specs.Write.{planWith, badStarts, badLabels, sizeOf, writeNumber};
+ghost use Rattle.plan.specs.inner.Writing.{summed, Writable};
 
 // Number 12's test.
 fn unfit(n: usize, a: usize, k: u32, choice: u32, e: f64) -> bool
@@ -23,6 +24,20 @@ fn unfit(n: usize, a: usize, k: u32, choice: u32, e: f64) -> bool
         return true;
     }
     imbalance::unfit_choice(choice, e)
+}
+
+// Number 1's test, on the lists' lengths.
+fn miscounted(n: usize, a: usize, weights: usize, starts: usize, arc_weights: usize) -> bool
+    requires { ⌜ n ≤ 4096 ⌝ }
+    ensures { λ r. ⌜ r ≡ (not (eqb weights n) || (not (eqb starts (n + 1)) || not (eqb a «arc_weights»))) ⌝ }
+{
+    if weights != n {
+        return true;
+    }
+    if starts != n + 1 {
+        return true;
+    }
+    a != arc_weights
 }
 
 // Number 3's test, starts only.
@@ -81,13 +96,7 @@ pub(crate) fn write_number(
     if unfit(n, a, k, choice, e) {
         return 12;
     }
-    if weights.len() != n {
-        return 1;
-    }
-    if starts.len() != n + 1 {
-        return 1;
-    }
-    if a != arc_weights.len() {
+    if miscounted(n, a, weights.len(), starts.len(), arc_weights.len()) {
         return 1;
     }
     if bad_starts(starts, n, a) {
@@ -102,14 +111,6 @@ pub(crate) fn write_number(
     0
 }
 
-// A count as a word.
-fn narrow(x: usize) -> u32
-    requires { ⌜ x < wrap ⌝ }
-    ensures { λ r. ⌜ r ≡ x ⌝ }
-{
-    x as u32
-}
-
 // Word r of the header's records.
 fn header_word(n: usize, a: usize, k: u32, choice: u32, value: u64, r: usize) -> u32
     requires { ⌜ (n < wrap) × (a < wrap) × (r < 6) ⌝ }
@@ -117,7 +118,7 @@ fn header_word(n: usize, a: usize, k: u32, choice: u32, value: u64, r: usize) ->
 {
     let low = ceiling::low_word(value);
     let high = ceiling::high_word(value);
-    let at = [narrow(n), narrow(a), k, choice, low, high];
+    let at = [words::narrow(n), words::narrow(a), k, choice, low, high];
     at[r]
 }
 
@@ -201,10 +202,9 @@ fn body_word(
         b j ⌝ }
 {
     let n = labels.len();
-    let a = neighbours.len();
-    let count = layout::count_at(n, a, b);
+    let count = layout::count_at(n, neighbours.len(), b);
     if j == 0 {
-        return narrow(layout::kind_at(n, b) + 65536 * count);
+        return words::narrow(layout::kind_at(n, b) + 65536 * count);
     }
     if j <= 2 * count {
         return record_word(

@@ -14,7 +14,7 @@ use Rattle.imbalance.specs.Limit.{mostVertices, mostArcs}
 use Rattle.plan_blocks.specs.Word.{wrap, word}
 use Rattle.plan_blocks.specs.Block.{checks, laidOut, blocksOf}
 use Rattle.plan_blocks.specs.Plan.{outOfRange, unfitValue}
-use Rattle.plan_blocks.specs.Decode.{inBlock, blocksIn, degreeAt, badLength, badCheck, badHeader, badNumbers, laterLaid, badLater, labelled, badRecords, fileNumber}
+use Rattle.plan_blocks.specs.Decode.{inBlock, blocksIn, degreeAt, badLength, badCheck, badHeader, badNumbers, laterLaid, badLater, labelled, badRecords, headerAt, fileNumber}
 
 -- what an accepted file is, where its header says n, a, k, the choice and the value
 pub record Accepted (s : List ℕ) (n a k choice value : ℕ) : Type 0 where
@@ -52,12 +52,12 @@ in-range n a k h =
     }
 
 -- a number that is not given leaves the next
-not-given : (t : Bool) (c x : ℕ) → 0 < c → cond t c x ≡ 0 → (t ≡ false) × (x ≡ 0)
+pub not-given : (t : Bool) (c x : ℕ) → 0 < c → cond t c x ≡ 0 → (t ≡ false) × (x ≡ 0)
 not-given true c x l e = absurd (omega arith)
 not-given false c x l e = (refl, e)
 
 -- the counts of blocks and of bytes
-counted : (s : List ℕ) (m : ℕ) → badLength s ≡ false → blocksIn s ≡ m → length s ≡ 512 * m
+pub counted : (s : List ℕ) (m : ℕ) → badLength s ≡ false → blocksIn s ≡ m → length s ≡ 512 * m
 unfolding badLength
 counted s m h e =
     let r = eqb-true (length s % 512) 0 (not-false (eqb (length s % 512) 0) (or-false (eqb (length s) 0) (not (eqb (length s % 512) 0)) h .1)) in
@@ -74,9 +74,9 @@ module _ (s : List ℕ) where
       let p = not-given (badLength s) 9 _ (omega arith) h in
       let q = not-given (badCheck 0 s) 10 _ (omega arith) (p .1) in
       let r = not-given (badHeader 0 s) 11 _ (omega arith) (q .1) in
-      let t = not-given (badNumbers s) 12 _ (omega arith) (r .1) in
-      let u = not-given (badLater 0 s) 13 _ (omega arith) (t .1) in
-      let v = not-given (badRecords s) 14 0 (omega arith) (u .1) in
+      let t = not-given (badNumbers (headerAt s)) 12 _ (omega arith) (r .1) in
+      let u = not-given (badLater 0 (headerAt s) s) 13 _ (omega arith) (t .1) in
+      let v = not-given (badRecords (headerAt s) s) 14 0 (omega arith) (u .1) in
       let numbers = or-false (outOfRange (word s 1) (word s 2) (word s 3)) (unfitValue (word s 4) (word s 5 + wrap * word s 6)) (t .0) in
       let later = or-false (not (eqb (blocksIn s) (blocksOf (word s 1) (word s 2)))) (not (laterLaid 0 (word s 1) (word s 2) s)) (u .0) in
       let records = or-false (not (eqb (sum (word s 1) (degreeAt s)) (word s 2))) (not (labelled (word s 1) (word s 3) s)) (v .0) in

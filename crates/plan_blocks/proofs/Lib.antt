@@ -3,6 +3,7 @@ pub mod Bits
 pub mod WordLaws
 pub mod Places
 pub mod Accepts
+pub mod Headers
 pub mod Rewritten
 pub mod Reread
 pub mod Changed

@@ -1,6 +1,6 @@
 -- The file of a legal plan is accepted, and holds that plan. Assumes nothing.
 use mathlib.Core.Path.{_≡_, refl, sym, ap, ap₂, _∙_}
-use mathlib.Core.Logic.{_⊎_, ⊎-elim}
+use mathlib.Core.Logic.{⊎-elim}
 use mathlib.Core.Bool.{Bool, true, false, cond}
 use mathlib.Core.List.{List}
 use Prim.Native.Nat.{ℕ, zero, suc, _+_, _-_, _*_, _/_, _%_, _≤_, _<_}
@@ -19,7 +19,7 @@ use Rattle.lists.proofs.Alls.{all-every, from-every}
 use Rattle.lists.proofs.Tables.{length-table, table-at}
 use Rattle.plan_blocks.specs.Word.{wrap, word}
 use Rattle.plan_blocks.specs.Block.{opening, checks, laidOut, checkWord, blocksFor, blocksOf, heldBy, kindAt, countAt}
-use Rattle.plan_blocks.specs.Plan.{Plan, Legal, unfitValue}
+use Rattle.plan_blocks.specs.Plan.{Plan, headerIn, Legal, unfitValue}
 use Rattle.plan_blocks.specs.Encode.{headerWord, vertexWord, arcWord, recordWord, bodyWord, fileWord, encode}
 use Rattle.plan_blocks.specs.Decode.{inBlock, blocksIn, vertexAt, arcAt, labelAt, degreeAt, laterLaid, labelled, planOf, fileNumber}
 use Rattle.plan_blocks.proofs.WordLaws.{word-bytes, length-bytes}
@@ -55,7 +55,7 @@ module _ (p : Plan) (g : Legal p) where
   degree-most v l = let s = sum-holds (p .n) v (λ u. getD (p .degrees) u 0) l in let e = g .degreesSum in omega arith
 
   -- every word fits
-  header-fits : (r : ℕ) → headerWord p r < wrap
+  header-fits : (r : ℕ) → headerWord (headerIn p) r < wrap
   unfolding headerWord
   header-fits zero = let i = inside in omega arith
   header-fits (suc zero) = let i = inside in omega arith
@@ -139,12 +139,12 @@ module _ (p : Plan) (g : Legal p) where
   body-is : (b j : ℕ) → b < blocksOf (p .n) (p .a) → j < 127 → inBlock (encode p) b j ≡ bodyWord 0 p b j
   body-is b j l m = word-is (128 * b + j) (omega arith) ∙ file-body 0 0 p b j m
 
-  header-is : (r : ℕ) → r < 6 → word (encode p) (r + 1) ≡ headerWord p r
+  header-is : (r : ℕ) → r < 6 → word (encode p) (r + 1) ≡ headerWord (headerIn p) r
   unfolding countAt recordWord blocksOf
   header-is r l =
       let q : r + 1 - 1 ≡ r = omega arith in
       let z : 128 * 0 + (r + 1) ≡ r + 1 = omega arith in
-      ap (word (encode p)) (sym z) ∙ body-is 0 (r + 1) (omega arith) (omega arith) ∙ body-record 0 0 p 0 (r + 1) (omega arith) (omega arith) ∙ ap (headerWord p) q
+      ap (word (encode p)) (sym z) ∙ body-is 0 (r + 1) (omega arith) (omega arith) ∙ body-record 0 0 p 0 (r + 1) (omega arith) (omega arith) ∙ ap (headerWord (headerIn p)) q
 
   -- the two words of a record
   vertex-is : (v t : ℕ) → v < p .n → t < 2 → word (encode p) (vertexAt v + t) ≡ vertexWord p (2 * v + t)

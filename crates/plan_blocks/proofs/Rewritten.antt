@@ -1,6 +1,6 @@
 -- An accepted file is the file of the plan that it holds: each of its words is the plan's. Assumes nothing.
 use mathlib.Core.Path.{_≡_, refl, sym, ap, ap₂, _∙_}
-use mathlib.Core.Logic.{_⊎_, ⊎-elim}
+use mathlib.Core.Logic.{⊎-elim}
 use mathlib.Core.Bool.{Bool, true, false, cond}
 use mathlib.Core.List.{List}
 use Prim.Native.Nat.{ℕ, zero, suc, _+_, _-_, _*_, _/_, _%_, _<_}
@@ -18,7 +18,7 @@ use Rattle.lists.proofs.Tables.{table-at}
 use Rattle.plan_blocks.specs.Word.{wrap, word}
 use Rattle.plan_blocks.specs.Block.{opening, checks, laidOut, checkWord, blocksFor, blocksOf, heldBy, kindAt, countAt}
 use Rattle.plan_blocks.specs.Encode.{headerWord, vertexWord, arcWord, recordWord, bodyWord, fileWord, encode}
-use Rattle.plan_blocks.specs.Decode.{inBlock, blocksIn, vertexAt, arcAt, labelAt, degreeAt, laterLaid, planOf}
+use Rattle.plan_blocks.specs.Decode.{inBlock, blocksIn, vertexAt, arcAt, labelAt, degreeAt, laterLaid, headerAt, planOf}
 use Rattle.plan_blocks.proofs.WordLaws.{Bytes, word-below, bytes-ext, bytes-word}
 use Rattle.plan_blocks.proofs.Places.{held-in, count-most, placed, halves, file-body, file-check, body-record, body-rest, vertex-block, arc-block, vertex-record, arc-record, by-kind}
 use Rattle.plan_blocks.proofs.Accepts.{Accepted}
@@ -39,8 +39,8 @@ check-is s x l e = omega arith
 
 module _ (s : List ℕ) (h : Bytes s) where
   -- the words of the header's records
-  header-word : (r : ℕ) → r < 6 → headerWord (planOf s) r ≡ word s (r + 1)
-  unfolding headerWord planOf
+  header-word : (r : ℕ) → r < 6 → headerWord (headerAt s) r ≡ word s (r + 1)
+  unfolding headerWord
   header-word zero l = refl
   header-word (suc zero) l = refl
   header-word (suc (suc zero)) l = refl
@@ -84,7 +84,7 @@ module _ (s : List ℕ) (h : Bytes s) (g : Accepted s (word s 1) (word s 2) (wor
       from-at 1 (blocksIn s) (λ b. laidOut 0 (kindAt (word s 1) b) (countAt (word s 1) (word s 2) b) (inBlock s b)) (suc b) (g .later) (omega arith) (let z = g .sized in omega arith)
 
   first-record : (r : ℕ) → r < 2 * countAt (word s 1) (word s 2) 0 → recordWord (planOf s) 0 r ≡ word s (128 * 0 + (r + 1))
-  unfolding recordWord countAt
+  unfolding recordWord countAt planOf
   first-record r m = header-word s h r m ∙ ap (word s) (sym (zero-add (r + 1)))
 
   opens : (b : ℕ) → b < blocksOf (word s 1) (word s 2) → bodyWord 0 (planOf s) b 0 ≡ word s (128 * b + 0)

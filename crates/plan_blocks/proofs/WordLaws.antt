@@ -2,13 +2,13 @@
 use mathlib.Core.Path.{_≡_, refl, sym, ap, ap₂, _∙_}
 use mathlib.Core.Bool.{Bool, true, false}
 use mathlib.Core.List.{List}
-use Prim.Native.Nat.{ℕ, zero, suc, _+_, _-_, _*_, _/_, _%_, _^_, _≤_, _<_}
+use Prim.Native.Nat.{ℕ, zero, suc, _+_, _*_, _/_, _%_, _^_, _≤_, _<_}
 use native.Mathlib.Omega.{arith}
 use native.Mathlib.Nat.{mod-add-mod, mod-lt, div-div-eq-div-mul}
 use lib.Dec.{ltb}
 use borrow.Author.Tests.{ltb-true, ltb-false}
-use lib.ListN.{length, getD, set, take, drop, List·getD-eq-default}
-use lib.Seq.{ext-getD, getD-take, getD-drop}
+use lib.ListN.{length, getD, set, List·getD-eq-default}
+use lib.Seq.{ext-getD}
 use Rattle.lists.specs.Sum.{sum}
 use Rattle.lists.specs.Fill.{written, table}
 use Rattle.lists.proofs.Sums.{sum-more}
@@ -115,19 +115,6 @@ pub word-below : (s : List ℕ) → Bytes s → (w : ℕ) → word s w < wrap
 unfolding word
 word-below s h w =
     let a = h (4 * w) in let b = h (4 * w + 1) in let c = h (4 * w + 2) in let d = h (4 * w + 3) in omega arith
-
--- word j of the part of a file that is block b
-pub word-part : (s : List ℕ) (b j n at : ℕ) → n ≡ 512 → at ≡ 512 * b → j < 128 → word (take n (drop at s)) j ≡ word s (128 * b + j)
-unfolding word
-word-part s b j n at e q l =
-    let z : 4 * j + 0 ≡ 4 * j = omega arith in
-    let y : 4 * (128 * b + j) + 0 ≡ 4 * (128 * b + j) = omega arith in
-    rw (rw (z, y) at (one 0 (omega arith)), one 1 (omega arith), one 2 (omega arith), one 3 (omega arith))
-  where
-    one : (i : ℕ) → i < 4 → getD (take n (drop at s)) (4 * j + i) 0 ≡ getD s (4 * (128 * b + j) + i) 0
-    one i k =
-        let r : at + (4 * j + i) ≡ 4 * (128 * b + j) + i = omega arith in
-        getD-take n (drop at s) (4 * j + i) 0 (omega arith) ∙ getD-drop at s (4 * j + i) 0 ∙ ap (λ (x : ℕ). getD s x 0) r
 
 -- the four stores of a word
 pub stored : (s : List ℕ) (w x a b c d : ℕ) → a ≡ x % 256 → b ≡ x / 256 % 256 → c ≡ x / 65536 % 256 → d ≡ x / 16777216 % 256

@@ -7,6 +7,7 @@ use lib.Dec.{ltb, eqb}
 use Rattle.lists.specs.Sum.{sum}
 use Rattle.lists.specs.All.{all, allFrom}
 use Rattle.lists.specs.Fill.{table}
+use Rattle.plan_blocks.specs.declared.header.Header.{Header}
 use Rattle.plan_blocks.specs.Word.{wrap, word}
 use Rattle.plan_blocks.specs.Block.{checks, laidOut, blocksFor, blocksOf, kindAt, countAt}
 use Rattle.plan_blocks.specs.Plan.{Plan, Decoded, accepted, refused, outOfRange, unfitValue}
@@ -18,6 +19,11 @@ inBlock s b j = word s (128 * b + j)
 -- the file's blocks
 abbrev pub blocksIn : List ℕ → ℕ
 blocksIn s = length s / 512
+
+-- "n and a; k and ceiling choice; ceiling value as 8 bytes": the header's numbers
+abbrev pub headerAt : List ℕ → Header
+headerAt s =
+    record { n = word s 1; a = word s 2; k = word s 3; choice = word s 4; value = word s 5 + wrap * word s 6 }
 
 -- the first word of vertex v's record: vertices stand 63 to a block, from block 1 on
 abbrev pub vertexAt : ℕ → ℕ
@@ -63,24 +69,26 @@ unfoldable pub badHeader : ℕ → List ℕ → Bool
 badHeader second s = not (laidOut second 1 3 (inBlock s 0))
 
 -- 12: "a header number out of range"
-unfoldable pub badNumbers : List ℕ → Bool
-badNumbers s = outOfRange (word s 1) (word s 2) (word s 3) || unfitValue (word s 4) (word s 5 + wrap * word s 6)
+unfoldable pub badNumbers : Header → Bool
+badNumbers header = outOfRange (header .n) (header .a) (header .k) || unfitValue (header .choice) (header .value)
 
 -- each later block is laid out as n and a ask
 unfoldable pub laterLaid : ℕ → ℕ → ℕ → List ℕ → Bool
 laterLaid second n a s = allFrom 1 (blocksIn s) (λ b. laidOut second (kindAt n b) (countAt n a b) (inBlock s b))
 
 -- 13: "a later block laid out wrongly, or block count wrong"
-unfoldable pub badLater : ℕ → List ℕ → Bool
-badLater second s = not (eqb (blocksIn s) (blocksOf (word s 1) (word s 2))) || not (laterLaid second (word s 1) (word s 2) s)
+unfoldable pub badLater : ℕ → Header → List ℕ → Bool
+badLater second header s =
+    not (eqb (blocksIn s) (blocksOf (header .n) (header .a))) || not (laterLaid second (header .n) (header .a) s)
 
 -- every vertex's label is below k
 unfoldable pub labelled : ℕ → ℕ → List ℕ → Bool
 labelled n k s = all n (λ v. ltb (labelAt s v) k)
 
 -- 14: "degrees do not sum to a, or a label is not below k"
-unfoldable pub badRecords : List ℕ → Bool
-badRecords s = not (eqb (sum (word s 1) (degreeAt s)) (word s 2)) || not (labelled (word s 1) (word s 3) s)
+unfoldable pub badRecords : Header → List ℕ → Bool
+badRecords header s =
+    not (eqb (sum (header .n) (degreeAt s)) (header .a)) || not (labelled (header .n) (header .k) s)
 
 -- the smallest number that applies, 0 if none does
 unfoldable pub fileNumber : List ℕ → ℕ
@@ -88,9 +96,9 @@ fileNumber s =
     cond (badLength s) 9
     (cond (badCheck 0 s) 10
     (cond (badHeader 0 s) 11
-    (cond (badNumbers s) 12
-    (cond (badLater 0 s) 13
-    (cond (badRecords s) 14 0)))))
+    (cond (badNumbers (headerAt s)) 12
+    (cond (badLater 0 (headerAt s) s) 13
+    (cond (badRecords (headerAt s) s) 14 0)))))
 
 -- THE PLAN of a file
 unfoldable pub decode : List ℕ → Decoded

@@ -4,13 +4,15 @@ use mathlib.Core.List.{List, [], _∷_}
 use Prim.Native.Nat.{ℕ, _+_, _-_, _*_, _/_, _%_}
 use lib.ListN.{getD}
 use lib.Dec.{leb, eqb}
+use Rattle.plan_blocks.specs.declared.header.Header.{Header}
 use Rattle.plan_blocks.specs.Word.{wrap, bytes}
 use Rattle.plan_blocks.specs.Block.{opening, checkWord, blocksFor, blocksOf, kindAt, countAt}
-use Rattle.plan_blocks.specs.Plan.{Plan}
+use Rattle.plan_blocks.specs.Plan.{Plan, headerIn}
 
 -- "n and a; k and ceiling choice; ceiling value as 8 bytes": word r of the header's records
-unfoldable pub headerWord : Plan → ℕ → ℕ
-headerWord p r = getD (p .n ∷ p .a ∷ p .k ∷ p .choice ∷ p .value % wrap ∷ p .value / wrap ∷ []) r 0
+unfoldable pub headerWord : Header → ℕ → ℕ
+headerWord header r =
+    getD (header .n ∷ header .a ∷ header .k ∷ header .choice ∷ header .value % wrap ∷ header .value / wrap ∷ []) r 0
 
 -- "weight u32, label u16, degree u16, by vertex": word r of all records of kind 2
 unfoldable pub vertexWord : Plan → ℕ → ℕ
@@ -24,7 +26,7 @@ arcWord p r = cond (eqb (r % 2) 0) (getD (p .neighbours) (r / 2) 0) (getD (p .ar
 -- word r of the records of block b; a block of a later kind has 126 words of records before it for each earlier block of its kind
 unfoldable pub recordWord : Plan → ℕ → ℕ → ℕ
 recordWord p b r =
-    cond (eqb b 0) (headerWord p r)
+    cond (eqb b 0) (headerWord (headerIn p) r)
     (cond (leb b (blocksFor (p .n))) (vertexWord p (126 * (b - 1) + r))
     (arcWord p (126 * (b - 1 - blocksFor (p .n)) + r)))
 

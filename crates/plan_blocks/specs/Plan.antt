@@ -9,6 +9,7 @@ use lib.Ieee.{Float, binary64, ofBits, toBits}
 use Rattle.lists.specs.Sum.{sum}
 use Rattle.imbalance.specs.Ceiling.{legalE}
 use Rattle.imbalance.specs.Limit.{mostVertices, mostArcs}
+use Rattle.plan_blocks.specs.declared.header.Header.{Header}
 use Rattle.plan_blocks.specs.Word.{wrap}
 
 -- n vertices, a arcs, k parts; the ceiling's choice and its value, a number of 8 bytes ("0, a whole u32, or the bits of e");
@@ -24,6 +25,10 @@ pub record Plan : Type 0 where
   pub degrees : List ℕ
   pub neighbours : List ℕ
   pub arcWeights : List ℕ
+
+-- a plan's header
+abbrev pub headerIn : Plan → Header
+headerIn p = record { n = p .n; a = p .a; k = p .k; choice = p .choice; value = p .value }
 
 -- what a file is: a plan, or refused with a number
 pub data Decoded : Type 0 where

@@ -21,6 +21,14 @@ pub fn word_at(s: &[u8], w: usize) -> u32
     joined(s[at], s[at + 1], s[at + 2], s[at + 3])
 }
 
+// A count as a word.
+pub fn narrow(x: usize) -> u32
+    requires { ⌜ x < wrap ⌝ }
+    ensures { λ r. ⌜ r ≡ x ⌝ }
+{
+    x as u32
+}
+
 // The lowest byte of a number.
 fn low_byte(x: u32) -> u8
     ensures { λ r. ⌜ r ≡ x % 256 ⌝ }
@@ -40,15 +48,15 @@ pub fn put_word(s: &mut [u8], w: usize, x: u32)
     s[at + 3] = low_byte(x / 16777216);
 }
 
-// The sum of a block's 128 words, wrapping.
-pub fn block_sum(block: &[u8]) -> u32
-    requires { ⌜ length (now block) ≡ 512 ⌝ }
-    ensures { λ r. ⌜ r ≡ sum 128 (word (now (block .entry))) % wrap ⌝ }
+// The sum of `count` words, wrapping, from word `first` on.
+pub fn words_sum(s: &[u8], first: usize, count: usize) -> u32
+    requires { ⌜ 4 * (first + count) ≤ length (now s) ⌝ }
+    ensures { λ r. ⌜ r ≡ sum count (λ j. word (now (s .entry)) (first + j)) % wrap ⌝ }
 {
     let mut sum: u32 = 0;
     let mut j: usize = 0;
-    while j < 128 {
-        sum = std::num::wrapping_add_u32(sum, word_at(block, j));
+    while j < count {
+        sum = std::num::wrapping_add_u32(sum, word_at(s, first + j));
         j += 1;
     }
     sum

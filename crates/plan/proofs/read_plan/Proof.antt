@@ -1,32 +1,76 @@
 -- `plan::read_plan` meets its contract: a refusal writes nothing, and an accepted file's records and header are handed over. Assumes nothing.
-use Rattle.plan.proofs.ReadEntry.{read-refused, read-done}
-use Rattle.plan.proofs.ReadLaws.{room}
-use mathlib.Core.Path.{sym, _∙_}
+use Rattle.plan.proofs.ReadEntry.{read-refused, read-done, header-handed}
+use Rattle.plan.proofs.ReadLaws.{long-enough, whole-blocks, by-frame, by-plan, opened, ranged}
+use Rattle.plan_blocks.specs.declared.header.Header.{Header}
+use native.Mathlib.Omega.{arith}
+use mathlib.Core.Path.{ap}
 use borrow.Author.Needs.{needs}
 use Rattle.plan.proofs.read_plan.Statement.{statement}
 use Rattle.plan.proofs.read_plan.Tie as tie
 
-read-number-requires : tie.Need-read-number-requires
-read-number-requires c κs = search needs
+-- ---- the stations: the two numbers, and the header between them
+abbrev planned : tie.After-read-vertices → tie.Else2
+planned vertices = search needs
+
+abbrev decoded : tie.Else2 → tie.After-header-of
+decoded plan = search needs
+
+abbrev framed : tie.After-header-of → tie.Else1
+framed header = search needs
+
+frame-number-requires : tie.Need-frame-number-requires
+frame-number-requires c κs = search needs
 
 refusal-requires : tie.Need-refusal-requires
 refusal-requires c κs = search needs
 
 returns : tie.Need-returns
-returns c = read-refused _ _ _ _ (c .before .before .read-number .ensures) (c .before .if1 .taken) (c .refusal .ensures)
+returns c =
+    let frame : tie.After-frame-number = search needs in
+    read-refused _ _ _ _ (by-frame _ _ _ _ _ _ _ (frame .frame-number .ensures) (c .before .if1 .taken)) (c .before .if1 .taken) (c .refusal .ensures)
+
+header-of-requires : tie.Need-header-of-requires
+header-of-requires c κs = long-enough _ (whole-blocks _ _ (c .before .frame-number .ensures) (c .if1 .left))
+
+plan-number-requires : tie.Need-plan-number-requires
+plan-number-requires c κs = whole-blocks _ _ (c .before .before .frame-number .ensures) (c .before .if1 .left)
+
+refusal-requires-2 : tie.Need-refusal-requires-2
+refusal-requires-2 c κs = search needs
+
+returns-2 : tie.Need-returns-2
+returns-2 c =
+    let header : tie.After-header-of = search needs in
+    let plan : tie.After-plan-number = search needs in
+    let frame = framed header in
+    read-refused _ _ _ _ (by-plan _ _ _ _ _ _ _ _ _ (frame .before .frame-number .ensures) (frame .if1 .left) (header .header-of .ensures) (plan .plan-number .ensures)) (c .before .if2 .taken) (c .refusal2 .ensures)
 
 read-vertices-requires : tie.Need-read-vertices-requires
 read-vertices-requires c κs =
-    let r = room _ _ _ _ _ _ (sym (c .before .before .before .before .read-number .ensures) ∙ c .before .before .before .if1 .left) in
-    (r .accepted, r .labels, r .weights, r .starts)
+    let plan : tie.Else2 = search needs in
+    let header = decoded plan in
+    let frame = framed header in
+    let r = opened _ _ _ _ _ _ _ _ _ (header .header-of .ensures) (frame .before .frame-number .ensures) (plan .before .plan-number .ensures) (frame .if1 .left) (plan .if2 .left) in
+    let n = ap (λ (h : Header). h .n) (header .header-of .ensures) in
+    (r .accepted, n, omega arith, omega arith, omega arith)
 
 read-arcs-requires : tie.Need-read-arcs-requires
 read-arcs-requires c κs =
-    let r = room _ _ _ _ _ _ (sym (c .before .before .before .before .before .before .before .before .before .before .before .before .before .read-number .ensures) ∙ c .before .before .before .before .before .before .before .before .before .before .before .before .if1 .left) in
-    (r .accepted, r .neighbours, r .arcWeights)
+    let plan : tie.Else2 = search needs in
+    let header = decoded plan in
+    let frame = framed header in
+    let r = opened _ _ _ _ _ _ _ _ _ (header .header-of .ensures) (frame .before .frame-number .ensures) (plan .before .plan-number .ensures) (frame .if1 .left) (plan .if2 .left) in
+    let n = ap (λ (h : Header). h .n) (header .header-of .ensures) in
+    let a = ap (λ (h : Header). h .a) (header .header-of .ensures) in
+    (r .accepted, n, a, omega arith, omega arith)
 
-header-requires : tie.Need-header-requires
-header-requires c κs = room _ _ _ _ _ _ (sym (c .before .before .before .before .before .before .before .before .before .before .before .before .before .before .before .before .before .before .read-number .ensures) ∙ c .before .before .before .before .before .before .before .before .before .before .before .before .before .before .before .before .before .if1 .left) .accepted
+read-header-requires : tie.Need-read-header-requires
+read-header-requires c κs =
+    let vertices : tie.After-read-vertices = search needs in
+    let plan = planned vertices in
+    let header = decoded plan in
+    let frame = framed header in
+    ranged _ _ _ _ _ _ _ _ _ (header .header-of .ensures) (frame .before .frame-number .ensures) (plan .before .plan-number .ensures) (plan .if2 .left)
 
 same-length : tie.Need-same-length
 same-length c = search needs
@@ -43,25 +87,34 @@ same-length-4 c = search needs
 same-length-5 : tie.Need-same-length-5
 same-length-5 c = search needs
 
-returns-2 : tie.Need-returns-2
-returns-2 c =
-    let v = c .before .before .before .before .before .before .before .before .before .before .before .before .before .before .read-vertices .ensures in
-    let a = c .before .before .before .before .before .read-arcs .ensures in
-    read-done _ _ _ _ _ (c .before .before .before .before .before .before .before .before .before .before .before .before .before .before .before .before .before .before .before .read-number .ensures) (c .before .before .before .before .before .before .before .before .before .before .before .before .before .before .before .before .before .before .if1 .left) (c .header .ensures) (v .0) (v .1) (v .2) (a .0) (a .1)
+returns-3 : tie.Need-returns-3
+returns-3 c =
+    let vertices : tie.After-read-vertices = search needs in
+    let arcs : tie.After-read-arcs = search needs in
+    let plan = planned vertices in
+    let header = decoded plan in
+    let frame = framed header in
+    let v = vertices .read-vertices .ensures in
+    let a = arcs .read-arcs .ensures in
+    read-done _ _ _ _ _ (by-plan _ _ _ _ _ _ _ _ _ (frame .before .frame-number .ensures) (frame .if1 .left) (header .header-of .ensures) (plan .before .plan-number .ensures)) (plan .if2 .left) (header-handed _ _ _ (header .header-of .ensures) (c .read-header .ensures)) (v .0) (v .1) (v .2) (a .0) (a .1)
 
 pub read-plan-spec : {M : Type 1} → statement M
 read-plan-spec =
     tie.close
     (tie.spec
-    read-number-requires
+    frame-number-requires
     refusal-requires
     returns
+    header-of-requires
+    plan-number-requires
+    refusal-requires-2
+    returns-2
     read-vertices-requires
     read-arcs-requires
-    header-requires
+    read-header-requires
     same-length
     same-length-2
     same-length-3
     same-length-4
     same-length-5
-    returns-2)
+    returns-3)

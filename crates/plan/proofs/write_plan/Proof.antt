@@ -16,7 +16,8 @@ value-of-requires c κs = fits _ _ (sym (c .before .write-number .ensures) ∙ c
 
 write-words-requires : tie.Need-write-words-requires
 write-words-requires c κs =
-    let f = fits _ _ (sym (c .before .before .before .write-number .ensures) ∙ c .before .before .if1 .left) in
+    let after-write-number : tie.After-write-number = search needs in
+    let f = fits _ _ (sym (after-write-number .write-number .ensures) ∙ c .before .before .if1 .left) in
     (writable _ _ f, f .roomy)
 
 same-length : tie.Need-same-length
@@ -24,8 +25,11 @@ same-length c = c .before .before .write-words .kept .1 .1 .1 .1 .1 .1 .1 .1 .0
 
 returns-2 : tie.Need-returns-2
 returns-2 c =
+    let after-write-number : tie.After-write-number = search needs in
+    let past-if1 : tie.Else1 = search needs in
+    let after-value-of : tie.After-value-of = search needs in
     let w = c .before .before .write-words .ensures in
-    write-done _ _ _ _ (c .before .before .before .before .before .before .write-number .ensures ∙ whole-unseen _ _ _ _ _ _ _ _ 0 _ _) _ _ (c .before .before .before .before .before .if1 .left) (c .before .before .before .before .value-of .ensures) (w .0) (w .1)
+    write-done _ _ _ _ (after-write-number .write-number .ensures ∙ whole-unseen _ _ _ _ _ _ _ _ 0 _ _) _ _ (past-if1 .if1 .left) (after-value-of .value-of .ensures) (w .0) (w .1)
 
 pub write-plan-spec : {M : Type 1} → statement M
 write-plan-spec =

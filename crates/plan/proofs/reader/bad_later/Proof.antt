@@ -1,5 +1,6 @@
 -- `reader::bad_later` meets its contract: by its two tests. Assumes nothing.
-use Rattle.plan.proofs.ReadLaws.{in-numbers, blocks-differ, later-judged}
+use Rattle.plan.proofs.ReadLaws.{blocks-differ, later-judged}
+use Rattle.plan_blocks.proofs.Headers.{numbers-in}
 use native.Mathlib.Omega.{arith}
 use mathlib.Core.Bool.{not}
 use mathlib.Core.Path.{sym, ap, _∙_}
@@ -7,53 +8,30 @@ use borrow.Author.Needs.{needs}
 use Rattle.plan.proofs.reader.bad_later.Statement.{statement}
 use Rattle.plan.proofs.reader.bad_later.Tie as tie
 
-word-at-requires : tie.Need-word-at-requires
-word-at-requires c κs = search needs
-
-index-requires : tie.Need-index-requires
-index-requires c κs = search needs
-
-word-at-requires-2 : tie.Need-word-at-requires-2
-word-at-requires-2 c κs = search needs
-
-index-requires-2 : tie.Need-index-requires-2
-index-requires-2 c κs = search needs
-
 blocks-of-requires : tie.Need-blocks-of-requires
 blocks-of-requires c κs =
-    let i = in-numbers (c .before .before .before .before .before .args .bytes .now) (c .before .before .before .before .before .pre .1) in
-    let n = c .before .before .index .ensures ∙ c .before .before .before .word-at .ensures in
-    let a = c .index2 .ensures ∙ c .before .word-at2 .ensures in
+    let i = numbers-in _ (c .before .pre .0) in
     omega arith
 
 returns : tie.Need-returns
-returns c = blocks-differ _ _ _ _ _ (c .before .before .before .before .index .ensures ∙ c .before .before .before .before .before .word-at .ensures) (c .before .before .index2 .ensures ∙ c .before .before .before .word-at2 .ensures) (c .before .blocks-of .ensures) (c .if1 .taken)
+returns c = blocks-differ _ _ _ _ (c .before .blocks-of .ensures) (c .if1 .taken)
 
 later-laid-requires : tie.Need-later-laid-requires
 later-laid-requires c κs =
-    let i = in-numbers (c .before .before .before .before .before .before .before .args .bytes .now) (c .before .before .before .before .before .before .before .pre .1) in
-    let n = c .before .before .before .before .index .ensures ∙ c .before .before .before .before .before .word-at .ensures in
-    let a = c .before .before .index2 .ensures ∙ c .before .before .before .word-at2 .ensures in
+    let start : tie.Start = search needs in
+    let i = numbers-in _ (start .pre .0) in
     (search needs, omega arith, omega arith, c .if1 .left ∙ c .before .blocks-of .ensures)
 
 returns-2 : tie.Need-returns-2
 returns-2 c =
-    sym (ap not (c .if2 .taken)) ∙ later-judged _ _ _ _ _ (c .before .before .before .before .before .before .index .ensures ∙ c .before .before .before .before .before .before .before .word-at .ensures) (c .before .before .before .before .index2 .ensures ∙ c .before .before .before .before .before .word-at2 .ensures) (c .before .before .before .blocks-of .ensures) _ (c .before .before .if1 .left) (c .before .later-laid .ensures)
+    let counted : tie.Else1 = search needs in
+    sym (ap not (c .if2 .taken)) ∙ later-judged _ _ _ _ (counted .before .blocks-of .ensures) _ (counted .if1 .left) (c .before .later-laid .ensures)
 
 returns-3 : tie.Need-returns-3
 returns-3 c =
-    sym (ap not (c .if2 .left)) ∙ later-judged _ _ _ _ _ (c .before .before .before .before .before .before .index .ensures ∙ c .before .before .before .before .before .before .before .word-at .ensures) (c .before .before .before .before .index2 .ensures ∙ c .before .before .before .before .before .word-at2 .ensures) (c .before .before .before .blocks-of .ensures) _ (c .before .before .if1 .left) (c .before .later-laid .ensures)
+    let counted : tie.Else1 = search needs in
+    sym (ap not (c .if2 .left)) ∙ later-judged _ _ _ _ (counted .before .blocks-of .ensures) _ (counted .if1 .left) (c .before .later-laid .ensures)
 
 pub bad-later-spec : {M : Type 1} → statement M
 bad-later-spec =
-    tie.close
-    (tie.spec
-    word-at-requires
-    index-requires
-    word-at-requires-2
-    index-requires-2
-    blocks-of-requires
-    returns
-    later-laid-requires
-    returns-2
-    returns-3)
+    tie.close (tie.spec blocks-of-requires returns later-laid-requires returns-2 returns-3)

@@ -65,11 +65,14 @@ loop-less c = search needs
 
 loop-again : tie.Need-loop-again Inv-loop μ-loop
 loop-again c =
-    (search needs, search needs, rest-more _ _ _ _ _ (search needs) (c .before .word-at2 .ensures) (c .if2 .left) (c .before .before .before .loop .inv .2))
+    let at : tie.At-loop Inv-loop μ-loop = search needs in
+    (search needs, search needs, rest-more _ _ _ _ _ (search needs) (c .before .word-at2 .ensures) (c .if2 .left) (at .loop .inv .2))
 
 returns-3 : tie.Need-returns-3 Inv-loop μ-loop
 returns-3 c =
-    laid-whole _ _ _ _ _ _ _ _ (c .before .before .before .before .word-at .ensures) (c .before .before .before .index .ensures) (c .before .before .if1 .left) (omega arith) (c .before .loop .inv .2)
+    let after-word-at : tie.After-word-at Inv-loop μ-loop = search needs in
+    let after-index : tie.After-index Inv-loop μ-loop = search needs in
+    laid-whole _ _ _ _ _ _ _ _ (after-word-at .word-at .ensures) (after-index .index .ensures) (c .before .before .if1 .left) (omega arith) (c .before .loop .inv .2)
 
 pub laid-out-spec : {M : Type 1} → statement M
 laid-out-spec =

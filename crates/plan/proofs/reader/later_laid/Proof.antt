@@ -30,17 +30,21 @@ count-at-requires c κs = search needs
 
 laid-out-requires : tie.Need-laid-out-requires Inv-loop μ-loop
 laid-out-requires c κs =
-    let a = c .before .before .before .before .before .args in
-    let k = kind-most (a .n) (c .before .before .before .loop .b) in
-    let m = count-most (a .n) (a .a) (c .before .before .before .loop .b) in
+    let start : tie.Start Inv-loop μ-loop = search needs in
+    let at : tie.At-loop Inv-loop μ-loop = search needs in
+    let a = start .args in
+    let k = kind-most (a .n) (at .loop .b) in
+    let m = count-most (a .n) (a .a) (at .loop .b) in
     let e = c .before .kind-at .ensures in
     let f = c .count-at .ensures in
-    let p = c .before .before .before .before .before .pre in
+    let p = start .pre in
     let l = c .before .before .loop-test .taken in
     omega arith
 
 returns : tie.Need-returns Inv-loop μ-loop
-returns c = later-fails _ _ _ _ _ _ _ _ (c .before .before .before .kind-at .ensures) (c .before .before .count-at .ensures) (c .before .laid-out .ensures) (search needs) (search needs) (not-true _ (c .if1 .taken))
+returns c =
+    let after-kind-at : tie.After-kind-at Inv-loop μ-loop = search needs in
+    later-fails _ _ _ _ _ _ _ _ (after-kind-at .kind-at .ensures) (c .before .before .count-at .ensures) (c .before .laid-out .ensures) (search needs) (search needs) (not-true _ (c .if1 .taken))
 
 add-b : tie.Need-add-b Inv-loop μ-loop
 add-b c = search needs
@@ -50,7 +54,9 @@ loop-less c = search needs
 
 loop-again : tie.Need-loop-again Inv-loop μ-loop
 loop-again c =
-    (search needs, search needs, later-more _ _ _ _ _ _ _ _ (c .before .before .before .kind-at .ensures) (c .before .before .count-at .ensures) (c .before .laid-out .ensures) (search needs) (not-false _ (c .if1 .left)) (c .before .before .before .before .before .loop .inv .2))
+    let after-kind-at : tie.After-kind-at Inv-loop μ-loop = search needs in
+    let at : tie.At-loop Inv-loop μ-loop = search needs in
+    (search needs, search needs, later-more _ _ _ _ _ _ _ _ (after-kind-at .kind-at .ensures) (c .before .before .count-at .ensures) (c .before .laid-out .ensures) (search needs) (not-false _ (c .if1 .left)) (at .loop .inv .2))
 
 returns-2 : tie.Need-returns-2 Inv-loop μ-loop
 returns-2 c = later-all _ _ _ _ _ (omega arith) (c .before .loop .inv .2)

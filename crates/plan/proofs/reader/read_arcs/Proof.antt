@@ -9,70 +9,84 @@ use Rattle.plan.proofs.reader.read_arcs.Statement.{statement}
 use Rattle.plan.proofs.reader.read_arcs.Tie as tie
 
 abbrev Inv-loop : tie.InvT-loop
-Inv-loop bytes neighbours₀ arc-weights₀ a first e₀ neighbours arc-weights e = ArcsTo bytes neighbours₀ arc-weights₀ a first neighbours arc-weights e
+Inv-loop bytes n a neighbours₀ arc-weights₀ first e₀ neighbours arc-weights e = ArcsTo bytes neighbours₀ arc-weights₀ a first neighbours arc-weights e
 
 abbrev μ-loop : tie.MeasureT-loop
-μ-loop bytes neighbours₀ arc-weights₀ a first e₀ neighbours arc-weights e = a - e
-
-word-at-requires : tie.Need-word-at-requires Inv-loop μ-loop
-word-at-requires c κs = let f = fine (c .before .before .before .args .bytes .now) (c .before .before .before .pre .0) in omega arith
-
-index-requires : tie.Need-index-requires Inv-loop μ-loop
-index-requires c κs = search needs
-
-word-at-requires-2 : tie.Need-word-at-requires-2 Inv-loop μ-loop
-word-at-requires-2 c κs = let f = fine (c .before .before .before .before .before .args .bytes .now) (c .before .before .before .before .before .pre .0) in omega arith
-
-index-requires-2 : tie.Need-index-requires-2 Inv-loop μ-loop
-index-requires-2 c κs = search needs
+μ-loop bytes n a neighbours₀ arc-weights₀ first e₀ neighbours arc-weights e = a - e
 
 blocks-for-requires : tie.Need-blocks-for-requires Inv-loop μ-loop
 blocks-for-requires c κs =
-    let f = fine (c .before .before .before .before .before .before .before .args .bytes .now) (c .before .before .before .before .before .before .before .pre .0) in
-    let e = c .index2 .ensures ∙ c .before .word-at2 .ensures in
+    let start : tie.Start Inv-loop μ-loop = search needs in
+    let f = fine _ (start .pre .0) in
+    let n = start .pre .1 in
     omega arith
 
 add-first : tie.Need-add-first Inv-loop μ-loop
 unfolding blocksFor
 add-first c =
-    let f = fine (c .before .before .before .before .before .before .before .before .args .bytes .now) (c .before .before .before .before .before .before .before .before .pre .0) in
-    let e = c .before .index2 .ensures ∙ c .before .before .word-at2 .ensures in
+    let start : tie.Start Inv-loop μ-loop = search needs in
+    let f = fine _ (start .pre .0) in
+    let n = start .pre .1 in
     let g = c .blocks-for .ensures in
     omega arith
 
 loop-holds : tie.Need-loop-holds Inv-loop μ-loop
 loop-holds c =
-    let p = c .before .before .before .before .before .before .before .before .pre in
-    let e = c .before .before .before .index .ensures ∙ c .before .before .before .before .word-at .ensures in
-    arcs-none _ _ _ _ _ (fine _ (p .0)) e (ap (λ (x : ℕ). 1 + x) (c .blocks-for .ensures ∙ ap blocksFor (c .before .index2 .ensures ∙ c .before .before .word-at2 .ensures))) (omega arith) (omega arith)
+    let start : tie.Start Inv-loop μ-loop = search needs in
+    let p = start .pre in
+    arcs-none _ _ _ _ _ (fine _ (p .0)) (p .2) (ap (λ (x : ℕ). 1 + x) (c .blocks-for .ensures ∙ ap blocksFor (p .1))) (p .3) (p .4)
 
 place-requires : tie.Need-place-requires Inv-loop μ-loop
 unfolding blocksFor
-place-requires c κs = let h = c .before .loop .inv in let f = h .file in omega arith
+place-requires c κs =
+    let h = c .before .loop .inv in
+    let f = h .file in
+    omega arith
 
-word-at-requires-3 : tie.Need-word-at-requires-3 Inv-loop μ-loop
+word-at-requires : tie.Need-word-at-requires Inv-loop μ-loop
 unfolding blocksFor
-word-at-requires-3 c κs = let h = c .before .before .loop .inv in let f = h .file in let e = c .place .ensures in omega arith
+word-at-requires c κs =
+    let at : tie.At-loop Inv-loop μ-loop = search needs in
+    let h = at .loop .inv in
+    let f = h .file in
+    let e = c .place .ensures in
+    omega arith
 
 mul-neighbours : tie.Need-mul-neighbours Inv-loop μ-loop
 mul-neighbours c = search needs
 
 slice-write-neighbours : tie.Need-slice-write-neighbours Inv-loop μ-loop
-slice-write-neighbours c = let h = c .before .before .before .loop .inv in omega arith
+slice-write-neighbours c =
+    let at : tie.At-loop Inv-loop μ-loop = search needs in
+    let h = at .loop .inv in
+    omega arith
 
 add-word-at : tie.Need-add-word-at Inv-loop μ-loop
 unfolding blocksFor
-add-word-at c = let h = c .before .before .before .loop .inv in let f = h .file in let e = c .before .place .ensures in omega arith
+add-word-at c =
+    let at : tie.At-loop Inv-loop μ-loop = search needs in
+    let h = at .loop .inv in
+    let f = h .file in
+    let e = c .before .place .ensures in
+    omega arith
 
-word-at-requires-4 : tie.Need-word-at-requires-4 Inv-loop μ-loop
+word-at-requires-2 : tie.Need-word-at-requires-2 Inv-loop μ-loop
 unfolding blocksFor
-word-at-requires-4 c κs = let h = c .before .before .before .loop .inv in let f = h .file in let e = c .before .place .ensures in omega arith
+word-at-requires-2 c κs =
+    let at : tie.At-loop Inv-loop μ-loop = search needs in
+    let h = at .loop .inv in
+    let f = h .file in
+    let e = c .before .place .ensures in
+    omega arith
 
 mul-arc-weights : tie.Need-mul-arc-weights Inv-loop μ-loop
 mul-arc-weights c = search needs
 
 slice-write-arc-weights : tie.Need-slice-write-arc-weights Inv-loop μ-loop
-slice-write-arc-weights c = let h = c .before .before .before .before .loop .inv in omega arith
+slice-write-arc-weights c =
+    let at : tie.At-loop Inv-loop μ-loop = search needs in
+    let h = at .loop .inv in
+    omega arith
 
 add-e : tie.Need-add-e Inv-loop μ-loop
 add-e c = search needs
@@ -82,7 +96,9 @@ loop-less c = search needs
 
 loop-again : tie.Need-loop-again Inv-loop μ-loop
 loop-again c =
-    arcs-more _ _ _ _ _ _ _ _ (c .before .before .before .before .loop .inv) (c .before .before .before .loop-test .taken) _ _ _ (c .before .before .place .ensures) (c .before .word-at3 .ensures) (c .word-at4 .ensures)
+    let placed : tie.After-place Inv-loop μ-loop = search needs in
+    let at : tie.At-loop Inv-loop μ-loop = search needs in
+    arcs-more _ _ _ _ _ _ _ _ (at .loop .inv) (placed .before .loop-test .taken) _ _ _ (placed .place .ensures) (c .before .word-at .ensures) (c .word-at2 .ensures)
 
 same-length : tie.Need-same-length Inv-loop μ-loop
 same-length c = c .before .loop .inv .longNeighbours
@@ -91,7 +107,9 @@ same-length-2 : tie.Need-same-length-2 Inv-loop μ-loop
 same-length-2 c = c .before .loop .inv .longWeights
 
 returns : tie.Need-returns Inv-loop μ-loop
-returns c = arcs-done _ _ _ _ _ _ _ _ (c .before .loop .inv) (let h = c .before .loop .inv .within in omega arith)
+returns c =
+    let h = c .before .loop .inv in
+    arcs-done _ _ _ _ _ _ _ _ h (let w = h .within in omega arith)
 
 pub read-arcs-spec : {M : Type 1} → statement M
 read-arcs-spec =
@@ -99,19 +117,15 @@ read-arcs-spec =
     (tie.spec
     Inv-loop
     μ-loop
-    word-at-requires
-    index-requires
-    word-at-requires-2
-    index-requires-2
     blocks-for-requires
     add-first
     loop-holds
     place-requires
-    word-at-requires-3
+    word-at-requires
     mul-neighbours
     slice-write-neighbours
     add-word-at
-    word-at-requires-4
+    word-at-requires-2
     mul-arc-weights
     slice-write-arc-weights
     add-e

@@ -3,63 +3,79 @@ use Rattle.plan.proofs.ReadLaws.{VerticesTo, fine, vertices-none, row-m
 use lib.ListN.{length-set}
 use native.Mathlib.Omega.{arith}
 use Prim.Native.Nat.{_-_}
-use mathlib.Core.Path.{_∙_}
 use borrow.Author.Needs.{needs}
 use Rattle.plan.proofs.reader.read_vertices.Statement.{statement}
 use Rattle.plan.proofs.reader.read_vertices.Tie as tie
 
 abbrev Inv-loop : tie.InvT-loop
-Inv-loop bytes labels₀ weights₀ starts₀ n row₀ v₀ labels weights starts row v = VerticesTo bytes labels₀ weights₀ starts₀ n labels weights starts row v
+Inv-loop bytes n labels₀ weights₀ starts₀ row₀ v₀ labels weights starts row v = VerticesTo bytes labels₀ weights₀ starts₀ n labels weights starts row v
 
 abbrev μ-loop : tie.MeasureT-loop
-μ-loop bytes labels₀ weights₀ starts₀ n row₀ v₀ labels weights starts row v = n - v
-
-word-at-requires : tie.Need-word-at-requires Inv-loop μ-loop
-word-at-requires c κs = let f = fine (c .before .before .before .before .args .bytes .now) (c .before .before .before .before .pre .0) in omega arith
-
-index-requires : tie.Need-index-requires Inv-loop μ-loop
-index-requires c κs = search needs
+μ-loop bytes n labels₀ weights₀ starts₀ row₀ v₀ labels weights starts row v = n - v
 
 loop-holds : tie.Need-loop-holds Inv-loop μ-loop
 loop-holds c =
-    let e = c .index .ensures ∙ c .before .word-at .ensures in
-    let p = c .before .before .before .before .before .before .pre in
-    vertices-none _ _ _ _ _ (fine _ (p .0)) e (omega arith) (omega arith) (omega arith)
+    let start : tie.Start Inv-loop μ-loop = search needs in
+    let p = start .pre in
+    vertices-none _ _ _ _ _ (fine _ (p .0)) (p .1) (p .2) (p .3) (p .4)
 
 place-requires : tie.Need-place-requires Inv-loop μ-loop
-place-requires c κs = let h = c .before .loop .inv in let f = h .file in omega arith
+place-requires c κs =
+    let f = c .before .loop .inv .file in
+    omega arith
 
 add-word-at : tie.Need-add-word-at Inv-loop μ-loop
-add-word-at c = let h = c .before .before .loop .inv in let f = h .file in let e = c .place .ensures in omega arith
+add-word-at c =
+    let at : tie.At-loop Inv-loop μ-loop = search needs in
+    let f = at .loop .inv .file in
+    omega arith
+
+word-at-requires : tie.Need-word-at-requires Inv-loop μ-loop
+word-at-requires c κs =
+    let at : tie.At-loop Inv-loop μ-loop = search needs in
+    let f = at .loop .inv .file in
+    let e = c .place .ensures in
+    omega arith
 
 word-at-requires-2 : tie.Need-word-at-requires-2 Inv-loop μ-loop
-word-at-requires-2 c κs = let h = c .before .before .loop .inv in let f = h .file in let e = c .place .ensures in omega arith
-
-word-at-requires-3 : tie.Need-word-at-requires-3 Inv-loop μ-loop
-word-at-requires-3 c κs = let h = c .before .before .before .loop .inv in let f = h .file in let e = c .before .place .ensures in omega arith
+word-at-requires-2 c κs =
+    let at : tie.At-loop Inv-loop μ-loop = search needs in
+    let f = at .loop .inv .file in
+    let e = c .before .place .ensures in
+    omega arith
 
 mul-weights : tie.Need-mul-weights Inv-loop μ-loop
 mul-weights c = search needs
 
 slice-write-weights : tie.Need-slice-write-weights Inv-loop μ-loop
-slice-write-weights c = let h = c .before .before .before .before .loop .inv in omega arith
+slice-write-weights c =
+    let at : tie.At-loop Inv-loop μ-loop = search needs in
+    let h = at .loop .inv in
+    omega arith
 
 mul-labels : tie.Need-mul-labels Inv-loop μ-loop
 mul-labels c = search needs
 
 slice-write-labels : tie.Need-slice-write-labels Inv-loop μ-loop
-slice-write-labels c = let h = c .before .before .before .before .loop .inv in omega arith
+slice-write-labels c =
+    let at : tie.At-loop Inv-loop μ-loop = search needs in
+    let h = at .loop .inv in
+    omega arith
 
 mul-starts : tie.Need-mul-starts Inv-loop μ-loop
 mul-starts c = search needs
 
 slice-write-starts : tie.Need-slice-write-starts Inv-loop μ-loop
-slice-write-starts c = let h = c .before .before .before .before .loop .inv in omega arith
+slice-write-starts c =
+    let at : tie.At-loop Inv-loop μ-loop = search needs in
+    let h = at .loop .inv in
+    omega arith
 
 add-row : tie.Need-add-row Inv-loop μ-loop
 add-row c =
-    let l = c .before .before .before .before .loop in
-    let m = row-most _ _ _ _ _ _ _ _ _ _ (l .inv) (c .before .before .before .loop-test .taken) _ _ (c .before .before .place .ensures) (c .before .word-at2 .ensures) in
+    let placed : tie.After-place Inv-loop μ-loop = search needs in
+    let at : tie.At-loop Inv-loop μ-loop = search needs in
+    let m = row-most _ _ _ _ _ _ _ _ _ _ (at .loop .inv) (placed .before .loop-test .taken) _ _ (placed .place .ensures) (c .before .word-at .ensures) in
     omega arith
 
 add-v : tie.Need-add-v Inv-loop μ-loop
@@ -70,13 +86,17 @@ loop-less c = search needs
 
 loop-again : tie.Need-loop-again Inv-loop μ-loop
 loop-again c =
-    vertices-more _ _ _ _ _ _ _ _ _ _ (c .before .before .before .before .loop .inv) (c .before .before .before .loop-test .taken) _ _ _ (c .before .before .place .ensures) (c .before .word-at2 .ensures) (c .word-at3 .ensures)
+    let placed : tie.After-place Inv-loop μ-loop = search needs in
+    let at : tie.At-loop Inv-loop μ-loop = search needs in
+    vertices-more _ _ _ _ _ _ _ _ _ _ (at .loop .inv) (placed .before .loop-test .taken) _ _ _ (placed .place .ensures) (c .before .word-at .ensures) (c .word-at2 .ensures)
 
 mul-starts-2 : tie.Need-mul-starts-2 Inv-loop μ-loop
 mul-starts-2 c = search needs
 
 slice-write-starts-2 : tie.Need-slice-write-starts-2 Inv-loop μ-loop
-slice-write-starts-2 c = let h = c .before .loop .inv in omega arith
+slice-write-starts-2 c =
+    let h = c .before .loop .inv in
+    omega arith
 
 same-length : tie.Need-same-length Inv-loop μ-loop
 same-length c = c .before .loop .inv .longLabels
@@ -88,7 +108,9 @@ same-length-3 : tie.Need-same-length-3 Inv-loop μ-loop
 same-length-3 c = simp length-set (c .before .loop .inv .longStarts)
 
 returns : tie.Need-returns Inv-loop μ-loop
-returns c = vertices-done _ _ _ _ _ _ _ _ _ _ (c .before .loop .inv) (let h = c .before .loop .inv .within in omega arith)
+returns c =
+    let h = c .before .loop .inv in
+    vertices-done _ _ _ _ _ _ _ _ _ _ h (let w = h .within in omega arith)
 
 pub read-vertices-spec : {M : Type 1} → statement M
 read-vertices-spec =
@@ -96,13 +118,11 @@ read-vertices-spec =
     (tie.spec
     Inv-loop
     μ-loop
-    word-at-requires
-    index-requires
     loop-holds
     place-requires
     add-word-at
+    word-at-requires
     word-at-requires-2
-    word-at-requires-3
     mul-weights
     slice-write-weights
     mul-labels

@@ -30,9 +30,11 @@ shared-slice-read-if1 c = search needs
 
 returns : tie.Need-returns Inv-loop μ-loop
 returns c =
-    let a = c .before .before .before .before .args in
+    let start : tie.Start Inv-loop μ-loop = search needs in
+    let at : tie.At-loop Inv-loop μ-loop = search needs in
+    let a = start .args in
     let t = c .if1 .taken in
-    label-high (a .k) (a .labels .now) (c .before .before .before .loop .v) (c .before .before .loop-test .taken) (omega arith)
+    label-high (a .k) (a .labels .now) (at .loop .v) (c .before .before .loop-test .taken) (omega arith)
 
 add-v : tie.Need-add-v Inv-loop μ-loop
 add-v c = search needs
@@ -42,9 +44,11 @@ loop-less c = search needs
 
 loop-again : tie.Need-loop-again Inv-loop μ-loop
 loop-again c =
+    let start : tie.Start Inv-loop μ-loop = search needs in
+    let at : tie.At-loop Inv-loop μ-loop = search needs in
     let t = c .if1 .left in
-    let a = c .before .before .before .before .args in
-    (search needs, all-more _ _ (c .before .before .before .loop .inv .1) (lt-ltb (getD (a .labels .now) (c .before .before .before .loop .v) 0) (a .k) (omega arith)))
+    let a = start .args in
+    (search needs, all-more _ _ (at .loop .inv .1) (lt-ltb (getD (a .labels .now) (at .loop .v) 0) (a .k) (omega arith)))
 
 returns-2 : tie.Need-returns-2 Inv-loop μ-loop
 returns-2 c = labels-low _ _ _ (omega arith) (c .before .loop .inv .1)

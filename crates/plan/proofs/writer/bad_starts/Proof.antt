@@ -35,7 +35,9 @@ index-requires : tie.Need-index-requires Inv-loop μ-loop
 index-requires c κs = search needs
 
 returns-2 : tie.Need-returns-2 Inv-loop μ-loop
-returns-2 c = last-not-a _ _ _ _ (c .before .before .before .if1 .left) (c .before .index .ensures) (c .if2 .taken)
+returns-2 c =
+    let past-if1 : tie.Else1 Inv-loop μ-loop = search needs in
+    last-not-a _ _ _ _ (past-if1 .if1 .left) (c .before .index .ensures) (c .if2 .taken)
 
 loop-holds : tie.Need-loop-holds Inv-loop μ-loop
 loop-holds c = (search needs, all-none _)
@@ -56,7 +58,12 @@ shared-slice-read-if3-2 : tie.Need-shared-slice-read-if3-2 Inv-loop μ-loop
 shared-slice-read-if3-2 c = search needs
 
 returns-3 : tie.Need-returns-3 Inv-loop μ-loop
-returns-3 c = start-falls _ _ _ _ _ (c .before .before .before .before .before .before .before .before .if1 .left) (c .before .before .before .before .before .before .index .ensures) (c .before .before .before .before .before .if2 .left) (c .before .before .before .loop-test .taken) (c .if3 .taken)
+returns-3 c =
+    let past-if1 : tie.Else1 Inv-loop μ-loop = search needs in
+    let after-index : tie.After-index Inv-loop μ-loop = search needs in
+    let past-if2 : tie.Else2 Inv-loop μ-loop = search needs in
+    let turn : tie.In-loop Inv-loop μ-loop = search needs in
+    start-falls _ _ _ _ _ (past-if1 .if1 .left) (after-index .index .ensures) (past-if2 .if2 .left) (turn .loop-test .taken) (c .if3 .taken)
 
 add-v : tie.Need-add-v Inv-loop μ-loop
 add-v c = search needs
@@ -65,10 +72,15 @@ loop-less : tie.Need-loop-less Inv-loop μ-loop
 loop-less c = search needs
 
 loop-again : tie.Need-loop-again Inv-loop μ-loop
-loop-again c = (search needs, all-more _ _ (c .before .before .before .before .loop .inv .1) (le-leb _ _ (c .if3 .left)))
+loop-again c =
+    let at : tie.At-loop Inv-loop μ-loop = search needs in
+    (search needs, all-more _ _ (at .loop .inv .1) (le-leb _ _ (c .if3 .left)))
 
 returns-4 : tie.Need-returns-4 Inv-loop μ-loop
-returns-4 c = starts-rise _ _ _ _ _ (c .before .before .before .before .before .if1 .left) (c .before .before .before .index .ensures) (c .before .before .if2 .left) (omega arith) (c .before .loop .inv .1)
+returns-4 c =
+    let past-if1 : tie.Else1 Inv-loop μ-loop = search needs in
+    let after-index : tie.After-index Inv-loop μ-loop = search needs in
+    starts-rise _ _ _ _ _ (past-if1 .if1 .left) (after-index .index .ensures) (c .before .before .if2 .left) (omega arith) (c .before .loop .inv .1)
 
 pub bad-starts-spec : {M : Type 1} → statement M
 bad-starts-spec =

@@ -11,24 +11,29 @@ use Rattle.plan.proofs.writer.body_word.Tie as tie
 
 count-at-requires : tie.Need-count-at-requires
 count-at-requires c κs =
-    let p = c .before .before .before .before .before .pre in
+    let start : tie.Start = search needs in
+    let p = start .pre in
     let f = p .0 .few in
     let g = p .0 .fewArcs in
     (omega arith, g, p .1)
 
 kind-at-requires : tie.Need-kind-at-requires
-kind-at-requires c κs = let f = c .before .before .before .before .before .before .before .pre .0 .few in omega arith
+kind-at-requires c κs =
+    let start : tie.Start = search needs in
+    let f = start .pre .0 .few in omega arith
 
 mul-narrow : tie.Need-mul-narrow
 mul-narrow c =
-    let a = c .before .before .before .before .before .before .before .before .args in
+    let start : tie.Start = search needs in
+    let a = start .args in
     let m = count-most (length (a .labels .now)) (length (a .neighbours .now)) (a .b) in
     let e = c .before .before .count-at .ensures in
     omega arith
 
 add-narrow : tie.Need-add-narrow
 add-narrow c =
-    let a = c .before .before .before .before .before .before .before .before .args in
+    let start : tie.Start = search needs in
+    let a = start .args in
     let m = count-most (length (a .labels .now)) (length (a .neighbours .now)) (a .b) in
     let k = kind-most (length (a .labels .now)) (a .b) in
     let e = c .before .before .count-at .ensures in
@@ -37,7 +42,8 @@ add-narrow c =
 
 narrow-requires : tie.Need-narrow-requires
 narrow-requires c κs =
-    let a = c .before .before .before .before .before .before .before .before .args in
+    let start : tie.Start = search needs in
+    let a = start .args in
     let m = count-most (length (a .labels .now)) (length (a .neighbours .now)) (a .b) in
     let k = kind-most (length (a .labels .now)) (a .b) in
     let e = c .before .before .count-at .ensures in
@@ -46,11 +52,14 @@ narrow-requires c κs =
 
 returns : tie.Need-returns
 unfolding planWith
-returns c = is-opening _ _ _ _ _ _ (c .before .before .if1 .taken) (c .before .kind-at .ensures) (c .before .before .before .count-at .ensures) (c .narrow .ensures)
+returns c =
+    let after-count-at : tie.After-count-at = search needs in
+    is-opening _ _ _ _ _ _ (c .before .before .if1 .taken) (c .before .kind-at .ensures) (after-count-at .count-at .ensures) (c .narrow .ensures)
 
 mul-if2 : tie.Need-mul-if2
 mul-if2 c =
-    let a = c .before .before .before .before .before .before .before .args in
+    let start : tie.Start = search needs in
+    let a = start .args in
     let m = count-most (length (a .labels .now)) (length (a .neighbours .now)) (a .b) in
     let e = c .before .count-at .ensures in
     omega arith
@@ -60,14 +69,17 @@ sub-record-word c = search needs
 
 record-word-requires : tie.Need-record-word-requires
 record-word-requires c κs =
-    let p = c .before .before .before .before .before .before .before .before .pre in
+    let start : tie.Start = search needs in
+    let p = start .pre in
     let e = c .before .before .count-at .ensures in
     let z = c .before .if1 .left in
     (p .0, p .1, omega (arith, z))
 
 returns-2 : tie.Need-returns-2
 unfolding planWith
-returns-2 c = is-record _ _ _ _ _ (c .before .before .if1 .left) (c .before .before .before .count-at .ensures) (c .before .if2 .taken) (c .record-word .ensures)
+returns-2 c =
+    let after-count-at : tie.After-count-at = search needs in
+    is-record _ _ _ _ _ (c .before .before .if1 .left) (after-count-at .count-at .ensures) (c .before .if2 .taken) (c .record-word .ensures)
 
 returns-3 : tie.Need-returns-3
 unfolding planWith

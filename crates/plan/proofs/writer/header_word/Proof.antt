@@ -25,8 +25,10 @@ array-read-result c = search needs
 
 returns : tie.Need-returns
 returns c =
-    let a = c .before .before .before .before .args in
-    record-word (a .n) (a .a) (a .k) (a .choice) _ _ _ _ _ _ (a .r) _ (c .before .narrow .ensures) (c .narrow2 .ensures) (c .before .before .before .low-word .ensures) (c .before .before .high-word .ensures) refl
+    let start : tie.Start = search needs in
+    let after-low-word : tie.After-low-word = search needs in
+    let a = start .args in
+    record-word (a .n) (a .a) (a .k) (a .choice) _ _ _ _ _ _ (a .r) _ (c .before .narrow .ensures) (c .narrow2 .ensures) (after-low-word .low-word .ensures) (c .before .before .high-word .ensures) refl
 
 pub header-word-spec : {M : Type 1} → statement M
 header-word-spec =

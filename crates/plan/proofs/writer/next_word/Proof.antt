@@ -9,10 +9,14 @@ wrapping-sub-u32-requires : tie.Need-wrapping-sub-u32-requires
 wrapping-sub-u32-requires c κs = search needs
 
 returns : tie.Need-returns
-returns c = file-last _ _ _ _ (c .before .if1 .taken) (c .before .before .before .before .before .before .before .pre .2) (search needs) (c .wrapping-sub-u32 .ensures)
+returns c =
+    let start : tie.Start = search needs in
+    file-last _ _ _ _ (c .before .if1 .taken) (start .pre .2) (search needs) (c .wrapping-sub-u32 .ensures)
 
 body-word-requires : tie.Need-body-word-requires
-body-word-requires c κs = let p = c .before .before .before .before .before .before .pre in (p .0, omega arith, search needs)
+body-word-requires c κs =
+    let start : tie.Start = search needs in
+    let p = start .pre in (p .0, omega arith, search needs)
 
 returns-2 : tie.Need-returns-2
 returns-2 c = file-before _ _ _ 0 (c .before .if1 .left) (c .body-word .ensures)

@@ -46,7 +46,9 @@ add-result-2 : tie.Need-add-result-2
 add-result-2 c = search needs
 
 returns-2 : tie.Need-returns-2
-returns-2 c = is-second _ _ _ _ _ (omega arith) refl (c .before .before .before .if1 .left)
+returns-2 c =
+    let past-if1 : tie.Else1 = search needs in
+    is-second _ _ _ _ _ (omega arith) refl (past-if1 .if1 .left)
 
 pub vertex-word-spec : {M : Type 1} → statement M
 vertex-word-spec =

@@ -20,12 +20,16 @@ legal-bits-requires c κs = search needs
 returns-3 : tie.Need-returns-3
 unfolding unfitValue
 returns-3 c =
-    simp (ne-eqb _ _ (c .before .before .before .before .if1 .left), ne-eqb _ _ (c .before .before .before .if2 .left), eq-eqb _ _ (c .before .before .if3 .taken), sym (c .before .legal-bits .ensures) ∙ c .if4 .taken)
+    let past-if1 : tie.Else1 = search needs in
+    let past-if2 : tie.Else2 = search needs in
+    simp (ne-eqb _ _ (past-if1 .if1 .left), ne-eqb _ _ (past-if2 .if2 .left), eq-eqb _ _ (c .before .before .if3 .taken), sym (c .before .legal-bits .ensures) ∙ c .if4 .taken)
 
 returns-4 : tie.Need-returns-4
 unfolding unfitValue
 returns-4 c =
-    simp (ne-eqb _ _ (c .before .before .before .before .if1 .left), ne-eqb _ _ (c .before .before .before .if2 .left), eq-eqb _ _ (c .before .before .if3 .taken), sym (c .before .legal-bits .ensures) ∙ c .if4 .left)
+    let past-if1 : tie.Else1 = search needs in
+    let past-if2 : tie.Else2 = search needs in
+    simp (ne-eqb _ _ (past-if1 .if1 .left), ne-eqb _ _ (past-if2 .if2 .left), eq-eqb _ _ (c .before .before .if3 .taken), sym (c .before .legal-bits .ensures) ∙ c .if4 .left)
 
 returns-5 : tie.Need-returns-5
 unfolding unfitValue

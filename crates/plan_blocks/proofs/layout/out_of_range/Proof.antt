@@ -1,6 +1,7 @@
 -- `layout::out_of_range` meets its contract: each return rewrites with the tests that led there. Assumes nothing.
 use Rattle.plan_blocks.specs.Plan.{outOfRange}
 use borrow.Author.Tests.{eq-eqb, ne-eqb, lt-ltb, le-ltb}
+use borrow.Author.Needs.{needs}
 use Rattle.plan_blocks.proofs.layout.out_of_range.Statement.{statement}
 use Rattle.plan_blocks.proofs.layout.out_of_range.Tie as tie
 
@@ -19,12 +20,14 @@ returns-3 c = simp (ne-eqb _ _ (c .before .before .if1 .left), le-ltb _ _ (c .be
 returns-4 : tie.Need-returns-4
 unfolding outOfRange
 returns-4 c =
-    simp (ne-eqb _ _ (c .before .before .before .if1 .left), le-ltb _ _ (c .before .before .if2 .left), le-ltb _ _ (c .before .if3 .left), lt-ltb _ _ (c .if4 .taken))
+    let past-if1 : tie.Else1 = search needs in
+    simp (ne-eqb _ _ (past-if1 .if1 .left), le-ltb _ _ (c .before .before .if2 .left), le-ltb _ _ (c .before .if3 .left), lt-ltb _ _ (c .if4 .taken))
 
 returns-5 : tie.Need-returns-5
 unfolding outOfRange
 returns-5 c =
-    simp (ne-eqb _ _ (c .before .before .before .if1 .left), le-ltb _ _ (c .before .before .if2 .left), le-ltb _ _ (c .before .if3 .left), le-ltb _ _ (c .if4 .left))
+    let past-if1 : tie.Else1 = search needs in
+    simp (ne-eqb _ _ (past-if1 .if1 .left), le-ltb _ _ (c .before .before .if2 .left), le-ltb _ _ (c .before .if3 .left), le-ltb _ _ (c .if4 .left))
 
 pub out-of-range-spec : {M : Type 1} → statement M
 out-of-range-spec = tie.close (tie.spec returns returns-2 returns-3 returns-4 returns-5)

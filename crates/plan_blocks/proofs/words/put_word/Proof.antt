@@ -47,7 +47,8 @@ same-length c = search needs
 
 returns : tie.Need-returns
 returns c =
-    stored _ _ _ _ _ _ _ (c .before .before .before .low-byte .ensures) (c .before .before .low-byte2 .ensures) (c .before .low-byte3 .ensures) (c .low-byte4 .ensures)
+    let after-low-byte : tie.After-low-byte = search needs in
+    stored _ _ _ _ _ _ _ (after-low-byte .low-byte .ensures) (c .before .before .low-byte2 .ensures) (c .before .low-byte3 .ensures) (c .low-byte4 .ensures)
 
 pub put-word-spec : {M : Type 1} → statement M
 put-word-spec =

@@ -1,0 +1,46 @@
+// The header of a plan: decoded from a file's first block, and its numbers judged.
+use crate::ceiling;
+use crate::layout;
+use crate::words;
+ghost use mathlib.Core.Path.{_≡_};
+ghost use Prim.Native.Nat.{_≤_};
+ghost use lib.ListN.{length};
+ghost use Rattle.plan_blocks.specs.Decode.{headerAt, badNumbers};
+
+// n vertices, a arcs, k parts, the ceiling's choice, and its value as a number of 8 bytes.
+pub struct Header {
+    pub n: usize,
+    pub a: usize,
+    pub k: u32,
+    pub choice: u32,
+    pub value: u64,
+}
+
+// The header of a file: the one place that decodes it.
+pub fn header_of(bytes: &[u8]) -> Header
+    requires { ⌜ 512 ≤ length (now bytes) ⌝ }
+    ensures { λ r. ⌜ r ≡ headerAt (now (bytes .entry)) ⌝ }
+{
+    let n = lists::index(words::word_at(bytes, 1));
+    let a = lists::index(words::word_at(bytes, 2));
+    let k = words::word_at(bytes, 3);
+    let choice = words::word_at(bytes, 4);
+    let value = ceiling::paired(words::word_at(bytes, 5), words::word_at(bytes, 6));
+    Header {
+        n,
+        a,
+        k,
+        choice,
+        value,
+    }
+}
+
+// Number 12's test.
+pub fn bad_numbers(header: Header) -> bool
+    ensures { λ r. ⌜ r ≡ badNumbers header ⌝ }
+{
+    if layout::out_of_range(header.n, header.a, header.k) {
+        return true;
+    }
+    ceiling::unfit_value(header.choice, header.value)
+}
