@@ -135,11 +135,10 @@ fn drain_stack(
     run: &mut RunRecord,
 ) -> Standing
     requires { ⌜ Asked (settingBy (now starts) (now neighbours) (now «arc_weights») (now weights) (ceilings .at) parts (length (now stack))) (now labels) (now stack) (first .top) (first .cut) (first .loads .at) (now run) 0 × (first .fits ≡ false → _≡_ {A = ℕ} (first .top) 0) ⌝ }
-    ensures { λ r. ⌜ Done
-        (λ x. drain (settingBy (now (starts .entry)) (now (neighbours .entry)) (now («arc_weights» .entry)) (now (weights .entry)) (ceilings .at) parts (length (now (stack .entry)))) ((cut (inRows (now (starts .entry)) (now (neighbours .entry)) (now («arc_weights» .entry))) (now (labels .entry)) + 1) * (length (now (stack .entry)) + 1)) (standing (first .fits) x))
-        (settingBy (now (starts .entry)) (now (neighbours .entry)) (now («arc_weights» .entry)) (now (weights .entry)) (ceilings .at) parts (length (now (stack .entry))))
+    ensures { λ r. ⌜ (let s = settingBy (now (starts .entry)) (now (neighbours .entry)) (now («arc_weights» .entry)) (now (weights .entry)) (ceilings .at) parts (length (now (stack .entry))) in Done
+        (λ x. drain s ((cut (inRows (now (starts .entry)) (now (neighbours .entry)) (now («arc_weights» .entry))) (now (labels .entry)) + 1) * (length (now (stack .entry)) + 1)) (standing (first .fits) x)) s
         (now (labels .entry)) (now (stack .entry)) (first .top) (first .cut) (now (run .entry)) 0
-        (now (labels .exit)) (now (stack .exit)) (now (run .exit)) r ⌝ }
+        (now (labels .exit)) (now (stack .exit)) (now (run .exit)) r) ⌝ }
 {
     let mut st = first;
     while 0 < st.top {
@@ -178,11 +177,10 @@ fn sweep_all(
     run: &mut RunRecord,
 ) -> Standing
     requires { ⌜ TurnAsked (settingBy (now starts) (now neighbours) (now «arc_weights») (now weights) (ceilings .at) parts (length (now stack))) (now labels) (now stack) first (now run) (length (now labels)) ⌝ }
-    ensures { λ r. ⌜ Done
-        (sweep (settingBy (now (starts .entry)) (now (neighbours .entry)) (now («arc_weights» .entry)) (now (weights .entry)) (ceilings .at) parts (length (now (stack .entry)))) (length (now (labels .entry))))
-        (settingBy (now (starts .entry)) (now (neighbours .entry)) (now («arc_weights» .entry)) (now (weights .entry)) (ceilings .at) parts (length (now (stack .entry))))
+    ensures { λ r. ⌜ (let s = settingBy (now (starts .entry)) (now (neighbours .entry)) (now («arc_weights» .entry)) (now (weights .entry)) (ceilings .at) parts (length (now (stack .entry))) in Done
+        (sweep s (length (now (labels .entry)))) s
         (now (labels .entry)) (now (stack .entry)) 0 (first .cut) (now (run .entry)) (length (now (labels .entry)))
-        (now (labels .exit)) (now (stack .exit)) (now (run .exit)) r ⌝ }
+        (now (labels .exit)) (now (stack .exit)) (now (run .exit)) r) ⌝ }
 {
     let mut st = first;
     let mut v: usize = 0;

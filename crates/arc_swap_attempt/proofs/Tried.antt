@@ -9,7 +9,6 @@ use lib.ListN.{length, getD}
 use lib.Dec.{ltb, leb, eqb}
 use lib.Signed.{leZ}
 use borrow.Author.Tests.{lt-ltb, le-ltb, le-leb, lt-leb, leb-true, leb-false, eqb-false, not-true}
-use Rattle.lists.specs.Best.{best}
 use Rattle.lists.specs.Fill.{table}
 use Rattle.lists.proofs.Bests.{best-in}
 use Rattle.lists.proofs.Tables.{table-at}

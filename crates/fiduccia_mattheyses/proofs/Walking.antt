@@ -11,7 +11,7 @@ use lib.IntN.{ℤ}
 use Rattle.imbalance.specs.Load.{part}
 use Rattle.topology.specs.Cut.{cut}
 use Rattle.fiduccia_mattheyses_pass.specs.Choice.{Setting, flip}
-use Rattle.fiduccia_mattheyses_pass.specs.Pass.{State, start, moveOn, next, walk, flips}
+use Rattle.fiduccia_mattheyses_pass.specs.Pass.{State, start, moveOn, walk, flips}
 use Rattle.fiduccia_mattheyses_pass.specs.Standing.{Fixed, Stands, Scannable, Moveable, gainsAfter, standingAfter}
 use Rattle.fiduccia_mattheyses_pass.specs.declared.Standing.{Standing}
 use Rattle.fiduccia_mattheyses_pass.specs.declared.Next.{Next}

@@ -128,10 +128,9 @@ fn walk_moves(
     limit: usize,
 ) -> Walked
     requires { ⌜ WalkAsked (settingBy (now starts) (now neighbours) (now «arc_weights») (now weights) (ceilings .at) «bad_limit» limit) (now labels) (now gains) (now moves) first ⌝ }
-    ensures { λ r. ⌜ WalkDone (settingBy (now (starts .entry)) (now (neighbours .entry)) (now («arc_weights» .entry)) (now (weights .entry)) (ceilings .at) «bad_limit» limit)
-        (now (labels .entry)) (now (moves .entry))
-        (walk (settingBy (now (starts .entry)) (now (neighbours .entry)) (now («arc_weights» .entry)) (now (weights .entry)) (ceilings .at) «bad_limit» limit) limit (start (settingBy (now (starts .entry)) (now (neighbours .entry)) (now («arc_weights» .entry)) (now (weights .entry)) (ceilings .at) «bad_limit» limit) (now (labels .entry))))
-        (now (labels .exit)) (now (gains .exit)) (now (moves .exit)) (r .made) (r .last) ⌝ }
+    ensures { λ r. ⌜ (let s = settingBy (now (starts .entry)) (now (neighbours .entry)) (now («arc_weights» .entry)) (now (weights .entry)) (ceilings .at) «bad_limit» limit in
+        WalkDone s (now (labels .entry)) (now (moves .entry)) (walk s limit (start s (now (labels .entry))))
+        (now (labels .exit)) (now (gains .exit)) (now (moves .exit)) (r .made) (r .last)) ⌝ }
 {
     let mut st = first;
     let mut made: usize = 0;

@@ -3,7 +3,7 @@ use mathlib.Core.Path.{_≡_, refl, sym, ap, _∙_}
 use mathlib.Core.Logic.{_≢_}
 use mathlib.Core.Bool.{Bool, true, false, cond}
 use mathlib.Core.List.{List}
-use Prim.Native.Nat.{ℕ, zero, suc, _+_, _-_, _*_, _≤_, _<_}
+use Prim.Native.Nat.{ℕ, zero, suc, _+_, _*_, _≤_, _<_}
 use native.Mathlib.Omega.{arith}
 use native.Mathlib.Nat.{add-zero}
 use lib.Dec.{eqb}
@@ -13,7 +13,7 @@ use lib.IntN.{ℤ, pos, negsuc, negℤ, _+ℤ_, _-ℤ_, +ℤ-assoc, +ℤ-idr, ne
 use lib.Signed.{mag}
 use borrow.Author.Tests.{eqb-true, eqb-false, lt-ltb}
 use Rattle.lists.specs.Sum.{sum, weigh}
-use Rattle.fiduccia_mattheyses_pass.specs.Scan.{lock, isFree}
+use Rattle.fiduccia_mattheyses_pass.specs.Scan.{isFree}
 use Rattle.fiduccia_mattheyses_pass.specs.Update.{shift, updated}
 use Rattle.lists.proofs.Differences.{mag-up, mag-down}
 

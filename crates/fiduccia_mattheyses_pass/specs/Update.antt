@@ -1,7 +1,7 @@
 -- The gains brought up to date after a move, arc by arc of the moved vertex's row (document 01, "a locked neighbour has no gain and is passed over when the others are brought up to date").
 use mathlib.Core.Bool.{Bool, cond}
 use mathlib.Core.List.{List}
-use Prim.Native.Nat.{ℕ, zero, suc, _+_, _-_, _*_}
+use Prim.Native.Nat.{ℕ, zero, suc, _+_, _*_}
 use lib.ListN.{getD, set}
 use lib.Dec.{eqb}
 use lib.IntN.{ℤ, pos, _+ℤ_, _-ℤ_}

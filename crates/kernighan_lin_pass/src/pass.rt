@@ -112,7 +112,8 @@ pub fn make_pass(
     before: u64,
 ) -> u64
     requires { ⌜ Fit (length (now labels)) (inRows (now starts) (now neighbours) (now «arc_weights»)) × Roomy (now labels) (now gains) (now locks) (length (now swaps)) limit × (before ≡ cut (inRows (now starts) (now neighbours) (now «arc_weights»)) (now labels)) ⌝ }
-    ensures { λ r. ⌜ (now (labels .exit) ≡ walk (setting (inRows (now (starts .entry)) (now (neighbours .entry)) (now («arc_weights» .entry))) first bad) limit (start (setting (inRows (now (starts .entry)) (now (neighbours .entry)) (now («arc_weights» .entry))) first bad) (now (labels .entry))) .kept) × (r ≡ cut (inRows (now (starts .entry)) (now (neighbours .entry)) (now («arc_weights» .entry))) (now (labels .exit))) ⌝ }
+    ensures { λ r. ⌜ (let g = inRows (now (starts .entry)) (now (neighbours .entry)) (now («arc_weights» .entry)) in let s = setting g first bad in
+        (now (labels .exit) ≡ walk s limit (start s (now (labels .entry))) .kept) × (r ≡ cut g (now (labels .exit)))) ⌝ }
 {
     let n = labels.len();
     lists::clear_gains(gains, n);

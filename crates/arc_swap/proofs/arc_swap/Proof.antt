@@ -12,7 +12,9 @@ bare-report-requires : tie.Need-bare-report-requires
 bare-report-requires c κs = search needs
 
 returns : tie.Need-returns
-returns c = at-empty _ _ _ _ (c .before .before .before .if1 .taken) (c .bare-report .ensures) (c .before .zero-run .ensures)
+returns c =
+    let then1 : tie.Then1 = search needs in
+    at-empty _ _ _ _ (then1 .if1 .taken) (c .bare-report .ensures) (c .before .zero-run .ensures)
 
 number-of-requires : tie.Need-number-of-requires
 number-of-requires c κs = search needs
@@ -24,10 +26,15 @@ same-length : tie.Need-same-length
 same-length c = search needs
 
 returns-2 : tie.Need-returns-2
-returns-2 c = at-refusal _ _ (c .before .before .before .before .if1 .left) _ _ (c .before .before .number-of .ensures) (c .before .if2 .taken) (c .bare-report2 .ensures)
+returns-2 c =
+    let else1 : tie.Else1 = search needs in
+    at-refusal _ _ (else1 .if1 .left) _ _ (c .before .before .number-of .ensures) (c .before .if2 .taken) (c .bare-report2 .ensures)
 
 swap-all-requires : tie.Need-swap-all-requires
-swap-all-requires c κs = in-order _ _ _ (c .before .before .before .before .number-of .ensures) (c .before .before .before .if2 .left)
+swap-all-requires c κs =
+    let else2 : tie.Else2 = search needs in
+    let after-number-of : tie.After-number-of = search needs in
+    in-order _ _ _ (after-number-of .number-of .ensures) (else2 .if2 .left)
 
 same-length-2 : tie.Need-same-length-2
 same-length-2 c = search needs
@@ -36,7 +43,12 @@ same-length-3 : tie.Need-same-length-3
 same-length-3 c = search needs
 
 returns-3 : tie.Need-returns-3
-returns-3 c = at-run _ _ (c .before .before .before .before .before .before .before .before .before .before .before .if1 .left) _ _ _ (c .before .before .before .before .before .before .before .before .before .number-of .ensures) (c .before .before .before .before .before .before .before .before .if2 .left) (c .before .before .before .before .swap-all .ensures)
+returns-3 c =
+    let after-swap-all : tie.After-swap-all = search needs in
+    let else2 : tie.Else2 = search needs in
+    let after-number-of : tie.After-number-of = search needs in
+    let else1 : tie.Else1 = search needs in
+    at-run _ _ (else1 .if1 .left) _ _ _ (after-number-of .number-of .ensures) (else2 .if2 .left) (after-swap-all .swap-all .ensures)
 
 pub arc-swap-spec : {M : Type 1} → statement M
 arc-swap-spec =

@@ -24,7 +24,10 @@ same-length-2 : tie.Need-same-length-2
 same-length-2 c = search needs
 
 returns : tie.Need-returns
-returns c = counted _ _ _ _ _ _ _ _ _ _ (c .before .before .before .before .before .before .before .before .before .blank-runs .ensures) (c .before .before .before .before .before .arc-swap .ensures) (c .with-counts .ensures)
+returns c =
+    let after-arc-swap : tie.After-arc-swap = search needs in
+    let after-blank-runs : tie.After-blank-runs = search needs in
+    counted _ _ _ _ _ _ _ _ _ _ (after-blank-runs .blank-runs .ensures) (after-arc-swap .arc-swap .ensures) (c .with-counts .ensures)
 
 pub arc-swap-counted-spec : {M : Type 1} → statement M
 arc-swap-counted-spec =

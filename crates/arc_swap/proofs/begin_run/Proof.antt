@@ -13,7 +13,9 @@ total-weight-requires : tie.Need-total-weight-requires
 total-weight-requires c κs = search needs
 
 ceilings-of-requires : tie.Need-ceilings-of-requires
-ceilings-of-requires c κs = ceilings-asked _ _ (c .before .before .before .before .before .before .before .before .pre) _ _ (c .total-weight .ensures) (c .before .before .parts-of .ensures)
+ceilings-of-requires c κs =
+    let given : tie.Start = search needs in
+    ceilings-asked _ _ (given .pre) _ _ (c .total-weight .ensures) (c .before .before .parts-of .ensures)
 
 cut-of-requires : tie.Need-cut-of-requires
 cut-of-requires c κs = search needs
@@ -22,7 +24,13 @@ index-requires : tie.Need-index-requires
 index-requires c κs = search needs
 
 returns : tie.Need-returns
-returns c = begins _ _ (c .before .before .before .before .before .before .before .before .before .before .before .pre) _ _ _ _ _ _ (c .index .ensures) (c .before .before .before .before .before .parts-of .ensures) (c .before .before .before .before .parts-load .ensures) (c .before .before .before .total-weight .ensures) (c .before .before .ceilings-of .ensures) (c .before .cut-of .ensures)
+returns c =
+    let after-total-weight : tie.After-total-weight = search needs in
+    let after-parts-load : tie.After-parts-load = search needs in
+    let after-parts-of : tie.After-parts-of = search needs in
+    let given : tie.Start = search needs in
+    begins _ _ (given .pre) _ _ _ _ _ _ (c .index .ensures) (after-parts-of .parts-of .ensures) (after-parts-load .parts-load .ensures)
+    (after-total-weight .total-weight .ensures) (c .before .before .ceilings-of .ensures) (c .before .cut-of .ensures)
 
 pub begin-run-spec : {M : Type 1} → statement M
 begin-run-spec =

@@ -6,6 +6,7 @@ use lib.ListN.{length}
 use borrow.Author.Tests.{not-true, not-false}
 use Rattle.arc_swap.specs.Inner.{settingBy}
 use Rattle.arc_swap.proofs.Drains.{Draining, draining, modest, emptied, attempt-asked, again, full, lessens}
+use borrow.Author.Needs.{needs}
 use Rattle.arc_swap.proofs.drain_stack.Statement.{statement}
 use Rattle.arc_swap.proofs.drain_stack.Proof.Tie as tie
 
@@ -18,28 +19,67 @@ abbrev μ-loop : tie.MeasureT-loop
     st .cut * (length stack₀ + 1) + st .top
 
 loop-holds : tie.Need-loop-holds Inv-loop μ-loop
-loop-holds c = draining _ refl _ _ _ _ (c .before .before .before .before .before .before .pre .0) (c .before .before .before .before .before .before .pre .1)
+loop-holds c =
+    let given : tie.Start Inv-loop μ-loop = search needs in
+    draining _ refl _ _ _ _ (given .pre .0) (given .pre .1)
 
 attempt-requires : tie.Need-attempt-requires Inv-loop μ-loop
-attempt-requires c κs = let i = c .before .before .before .before .loop .inv in rw (i .ready .room) (attempt-asked _ refl _ _ _ _ (c .before .before .before .before .before .before .before .before .before .before .before .pre .0) _ _ _ _ i (c .before .before .if1 .taken))
+attempt-requires c κs =
+    let entered : tie.At-loop Inv-loop μ-loop = search needs in
+    let given : tie.Start Inv-loop μ-loop = search needs in
+    let i = entered .loop .inv in
+    rw (i .ready .room) (attempt-asked _ refl _ _ _ _ (given .pre .0) _ _ _ _ i (c .before .before .if1 .taken))
 
 note-requires : tie.Need-note-requires Inv-loop μ-loop
-note-requires c κs = modest _ refl _ _ _ _ (c .before .before .before .before .before .before .before .before .before .before .before .before .before .before .before .before .before .pre .0) _ _ _ _ (c .before .before .before .before .before .before .before .before .before .before .loop .inv)
+note-requires c κs =
+    let entered : tie.At-loop Inv-loop μ-loop = search needs in
+    let given : tie.Start Inv-loop μ-loop = search needs in
+    modest _ refl _ _ _ _ (given .pre .0) _ _ _ _ (entered .loop .inv)
 
 same-length : tie.Need-same-length Inv-loop μ-loop
-same-length c = c .before .before .before .before .before .before .before .before .before .attempt .kept .1 .1 .1 .1 .0 ∙ c .before .before .before .before .before .before .before .before .before .before .before .before .before .before .loop .inv .ready .long
+same-length c =
+    let after-attempt : tie.After-attempt Inv-loop μ-loop = search needs in
+    let entered : tie.At-loop Inv-loop μ-loop = search needs in
+    after-attempt .attempt .kept .1 .1 .1 .1 .0 ∙ entered .loop .inv .ready .long
 
 same-length-2 : tie.Need-same-length-2 Inv-loop μ-loop
-same-length-2 c = c .before .before .before .before .before .before .before .before .before .attempt .kept .1 .1 .1 .1 .1 .0 ∙ c .before .before .before .before .before .before .before .before .before .before .before .before .before .before .loop .inv .ready .room
+same-length-2 c =
+    let after-attempt : tie.After-attempt Inv-loop μ-loop = search needs in
+    let entered : tie.At-loop Inv-loop μ-loop = search needs in
+    after-attempt .attempt .kept .1 .1 .1 .1 .1 .0 ∙ entered .loop .inv .ready .room
 
 returns : tie.Need-returns Inv-loop μ-loop
-returns c = let i = c .before .before .before .before .before .before .before .before .before .before .before .before .before .before .loop .inv in full _ refl _ _ _ _ (c .before .before .before .before .before .before .before .before .before .before .before .before .before .before .before .before .before .before .before .before .before .pre .0) _ _ _ _ i (c .before .before .before .before .before .before .before .before .before .before .before .before .if1 .taken) _ _ _ (c .before .before .before .before .before .before .before .before .before .attempt .kept .1 .1 .1 .1 .1 .0) (rw (i .ready .room) at (c .before .before .before .before .before .before .before .before .before .attempt .ensures)) _ (c .before .before .before .note .ensures) (not-true _ (c .if2 .taken))
+returns c =
+    let after-note : tie.After-note Inv-loop μ-loop = search needs in
+    let after-attempt : tie.After-attempt Inv-loop μ-loop = search needs in
+    let then1 : tie.Then1 Inv-loop μ-loop = search needs in
+    let entered : tie.At-loop Inv-loop μ-loop = search needs in
+    let given : tie.Start Inv-loop μ-loop = search needs in
+    let i = entered .loop .inv in
+    full _ refl _ _ _ _ (given .pre .0) _ _ _ _ i (then1 .if1 .taken) _ _ _ (after-attempt .attempt .kept .1 .1 .1 .1 .1 .0)
+    (rw (i .ready .room) at (after-attempt .attempt .ensures)) _ (after-note .note .ensures) (not-true _ (c .if2 .taken))
 
 loop-less : tie.Need-loop-less Inv-loop μ-loop
-loop-less c = let i = c .before .before .before .before .before .before .before .before .before .before .before .before .before .before .loop .inv in lessens _ refl _ _ _ _ (c .before .before .before .before .before .before .before .before .before .before .before .before .before .before .before .before .before .before .before .before .before .pre .0) _ _ _ _ i (c .before .before .before .before .before .before .before .before .before .before .before .before .if1 .taken) _ _ _ (c .before .before .before .before .before .before .before .before .before .attempt .kept .1 .1 .1 .1 .1 .0) (rw (i .ready .room) at (c .before .before .before .before .before .before .before .before .before .attempt .ensures)) _ (c .before .before .before .note .ensures)
+loop-less c =
+    let after-note : tie.After-note Inv-loop μ-loop = search needs in
+    let after-attempt : tie.After-attempt Inv-loop μ-loop = search needs in
+    let then1 : tie.Then1 Inv-loop μ-loop = search needs in
+    let entered : tie.At-loop Inv-loop μ-loop = search needs in
+    let given : tie.Start Inv-loop μ-loop = search needs in
+    let i = entered .loop .inv in
+    lessens _ refl _ _ _ _ (given .pre .0) _ _ _ _ i (then1 .if1 .taken) _ _ _ (after-attempt .attempt .kept .1 .1 .1 .1 .1 .0)
+    (rw (i .ready .room) at (after-attempt .attempt .ensures)) _ (after-note .note .ensures)
 
 loop-again : tie.Need-loop-again Inv-loop μ-loop
-loop-again c = let i = c .before .before .before .before .before .before .before .before .before .before .before .before .before .before .loop .inv in again _ refl _ _ _ _ (c .before .before .before .before .before .before .before .before .before .before .before .before .before .before .before .before .before .before .before .before .before .pre .0) _ _ _ _ i (c .before .before .before .before .before .before .before .before .before .before .before .before .if1 .taken) _ _ _ (c .before .before .before .before .before .before .before .before .before .attempt .kept .1 .1 .1 .1 .1 .0) (rw (i .ready .room) at (c .before .before .before .before .before .before .before .before .before .attempt .ensures)) _ (c .before .before .before .note .ensures) (not-false _ (c .if2 .left))
+loop-again c =
+    let after-note : tie.After-note Inv-loop μ-loop = search needs in
+    let after-attempt : tie.After-attempt Inv-loop μ-loop = search needs in
+    let then1 : tie.Then1 Inv-loop μ-loop = search needs in
+    let entered : tie.At-loop Inv-loop μ-loop = search needs in
+    let given : tie.Start Inv-loop μ-loop = search needs in
+    let i = entered .loop .inv in
+    again _ refl _ _ _ _ (given .pre .0) _ _ _ _ i (then1 .if1 .taken) _ _ _ (after-attempt .attempt .kept .1 .1 .1 .1 .1 .0)
+    (rw (i .ready .room) at (after-attempt .attempt .ensures)) _ (after-note .note .ensures) (not-false _ (c .if2 .left))
 
 same-length-3 : tie.Need-same-length-3 Inv-loop μ-loop
 same-length-3 c = c .before .before .loop .inv .ready .long
@@ -48,7 +88,9 @@ same-length-4 : tie.Need-same-length-4 Inv-loop μ-loop
 same-length-4 c = c .before .before .loop .inv .ready .room
 
 returns-2 : tie.Need-returns-2 Inv-loop μ-loop
-returns-2 c = emptied _ refl _ _ _ _ (c .before .before .before .before .before .before .before .before .before .pre .0) _ _ _ _ (c .before .before .loop .inv) (c .if1 .left)
+returns-2 c =
+    let given : tie.Start Inv-loop μ-loop = search needs in
+    emptied _ refl _ _ _ _ (given .pre .0) _ _ _ _ (c .before .before .loop .inv) (c .if1 .left)
 
 pub drain-stack-spec : {M : Type 1} → statement M
 drain-stack-spec =

@@ -41,28 +41,33 @@ loop-less c = search needs
 
 loop-again : tie.Need-loop-again Inv-loop μ-loop
 loop-again c =
-    let e = c .before .before .before .loop .inv .1 in
-    let f : ℕ → ℕ = λ u. part (c .before .before .before .before .args .labels .now) u in
+    let entered : tie.At-loop Inv-loop μ-loop = search needs in
+    let given : tie.Start Inv-loop μ-loop = search needs in
+    let e = entered .loop .inv .1 in
+    let f : ℕ → ℕ = λ u. part (given .args .labels .now) u in
     (search needs, ⊎-elim (λ w. w .2 ∙ largest-rises f _ _ e (w .0 .taken)) (λ w. w .1 ∙ largest-stays f _ _ e (w .0 .left)) (c .if1 .came))
 
 returns : tie.Need-returns Inv-loop μ-loop
 returns c =
+    let given : tie.Start Inv-loop μ-loop = search needs in
     let l = c .before .before .loop .inv .0 in
-    let q : c .before .before .loop .v ≡ length (c .before .before .before .args .labels .now) = omega (arith, c .before .loop-test .left) in
-    parts-none (c .before .before .before .args .labels .now) (sym (rw q at (c .before .before .loop .inv .1)) ∙ c .if2 .taken)
+    let q : c .before .before .loop .v ≡ length (given .args .labels .now) = omega (arith, c .before .loop-test .left) in
+    parts-none (given .args .labels .now) (sym (rw q at (c .before .before .loop .inv .1)) ∙ c .if2 .taken)
 
 add-result : tie.Need-add-result Inv-loop μ-loop
 add-result c =
+    let given : tie.Start Inv-loop μ-loop = search needs in
     let l = c .before .before .loop .inv .0 in
-    let q : c .before .before .loop .v ≡ length (c .before .before .before .args .labels .now) = omega (arith, c .before .loop-test .left) in
+    let q : c .before .before .loop .v ≡ length (given .args .labels .now) = omega (arith, c .before .loop-test .left) in
     let e = rw q at (c .before .before .loop .inv .1) in
-    omega (arith, e, label-low (c .before .before .before .args .labels .now) (c .before .before .before .pre))
+    omega (arith, e, label-low (given .args .labels .now) (given .pre))
 
 returns-2 : tie.Need-returns-2 Inv-loop μ-loop
 returns-2 c =
+    let given : tie.Start Inv-loop μ-loop = search needs in
     let l = c .before .before .loop .inv .0 in
-    let q : c .before .before .loop .v ≡ length (c .before .before .before .args .labels .now) = omega (arith, c .before .loop-test .left) in
-    parts-more (c .before .before .before .args .labels .now) _ (rw q at (c .before .before .loop .inv .1)) (c .if2 .left)
+    let q : c .before .before .loop .v ≡ length (given .args .labels .now) = omega (arith, c .before .loop-test .left) in
+    parts-more (given .args .labels .now) _ (rw q at (c .before .before .loop .inv .1)) (c .if2 .left)
 
 pub parts-of-spec : {M : Type 1} → statement M
 parts-of-spec =

@@ -18,31 +18,64 @@ abbrev μ-loop : tie.MeasureT-loop
     st .cut
 
 loop-holds : tie.Need-loop-holds Inv-loop μ-loop
-loop-holds c = running _ _ _ _ _ (c .before .before .before .before .before .before .pre .0) (c .before .before .before .before .before .before .pre .1) (c .before .before .before .before .before .before .pre .2)
+loop-holds c =
+    let given : tie.Start Inv-loop μ-loop = search needs in
+    running _ _ _ _ _ (given .pre .0) (given .pre .1) (given .pre .2)
 
 sweep-all-requires : tie.Need-sweep-all-requires Inv-loop μ-loop
-sweep-all-requires c κs = let i = c .before .before .before .loop .inv in rw (i .ready .room) (pass-asked _ _ _ _ _ (c .before .before .before .before .before .before .before .before .before .before .pre .0) (c .before .before .before .before .before .before .before .before .before .before .pre .1) (c .before .before .before .before .before .before .before .before .before .before .pre .2) _ _ _ _ _ i)
+sweep-all-requires c κs =
+    let entered : tie.At-loop Inv-loop μ-loop = search needs in
+    let given : tie.Start Inv-loop μ-loop = search needs in
+    let i = entered .loop .inv in
+    rw (i .ready .room) (pass-asked _ _ _ _ _ (given .pre .0) (given .pre .1) (given .pre .2) _ _ _ _ _ i)
 
 add-passes : tie.Need-add-passes Inv-loop μ-loop
-add-passes c = omega (arith, room _ _ _ _ _ (c .before .before .before .before .before .before .before .before .before .before .before .before .before .before .before .pre .0) (c .before .before .before .before .before .before .before .before .before .before .before .before .before .before .before .pre .1) (c .before .before .before .before .before .before .before .before .before .before .before .before .before .before .before .pre .2) _ _ _ _ _ (c .before .before .before .before .before .before .before .before .loop .inv))
+add-passes c =
+    let entered : tie.At-loop Inv-loop μ-loop = search needs in
+    let given : tie.Start Inv-loop μ-loop = search needs in
+    omega (arith, room _ _ _ _ _ (given .pre .0) (given .pre .1) (given .pre .2) _ _ _ _ _ (entered .loop .inv))
 
 end-of-requires : tie.Need-end-of-requires Inv-loop μ-loop
 end-of-requires c κs = search needs
 
 same-length : tie.Need-same-length Inv-loop μ-loop
-same-length c = c .before .before .before .before .before .before .sweep-all .kept .1 .1 .1 .1 .0 ∙ c .before .before .before .before .before .before .before .before .before .before .loop .inv .ready .long
+same-length c =
+    let after-sweep-all : tie.After-sweep-all Inv-loop μ-loop = search needs in
+    let entered : tie.At-loop Inv-loop μ-loop = search needs in
+    after-sweep-all .sweep-all .kept .1 .1 .1 .1 .0 ∙ entered .loop .inv .ready .long
 
 same-length-2 : tie.Need-same-length-2 Inv-loop μ-loop
-same-length-2 c = c .before .before .before .before .before .before .sweep-all .kept .1 .1 .1 .1 .1 .0 ∙ c .before .before .before .before .before .before .before .before .before .before .loop .inv .ready .room
+same-length-2 c =
+    let after-sweep-all : tie.After-sweep-all Inv-loop μ-loop = search needs in
+    let entered : tie.At-loop Inv-loop μ-loop = search needs in
+    after-sweep-all .sweep-all .kept .1 .1 .1 .1 .1 .0 ∙ entered .loop .inv .ready .room
 
 returns : tie.Need-returns Inv-loop μ-loop
-returns c = let i = c .before .before .before .before .before .before .before .before .before .before .loop .inv in ends _ _ _ _ _ (c .before .before .before .before .before .before .before .before .before .before .before .before .before .before .before .before .before .pre .0) (c .before .before .before .before .before .before .before .before .before .before .before .before .before .before .before .before .before .pre .1) (c .before .before .before .before .before .before .before .before .before .before .before .before .before .before .before .before .before .pre .2) _ _ _ _ _ i _ _ _ _ (rw (i .ready .room) at (c .before .before .before .before .before .before .sweep-all .ensures)) _ (c .before .end-of .ensures) (c .if1 .taken)
+returns c =
+    let after-sweep-all : tie.After-sweep-all Inv-loop μ-loop = search needs in
+    let entered : tie.At-loop Inv-loop μ-loop = search needs in
+    let given : tie.Start Inv-loop μ-loop = search needs in
+    let i = entered .loop .inv in
+    ends _ _ _ _ _ (given .pre .0) (given .pre .1) (given .pre .2) _ _ _ _ _ i _ _ _ _
+    (rw (i .ready .room) at (after-sweep-all .sweep-all .ensures)) _ (c .before .end-of .ensures) (c .if1 .taken)
 
 loop-less : tie.Need-loop-less Inv-loop μ-loop
-loop-less c = let i = c .before .before .before .before .before .before .before .before .before .before .loop .inv in goes-on _ _ _ _ _ (c .before .before .before .before .before .before .before .before .before .before .before .before .before .before .before .before .before .pre .0) (c .before .before .before .before .before .before .before .before .before .before .before .before .before .before .before .before .before .pre .1) (c .before .before .before .before .before .before .before .before .before .before .before .before .before .before .before .before .before .pre .2) _ _ _ _ _ i _ _ _ _ (rw (i .ready .room) at (c .before .before .before .before .before .before .sweep-all .ensures)) _ (c .before .end-of .ensures) (c .if1 .left)
+loop-less c =
+    let after-sweep-all : tie.After-sweep-all Inv-loop μ-loop = search needs in
+    let entered : tie.At-loop Inv-loop μ-loop = search needs in
+    let given : tie.Start Inv-loop μ-loop = search needs in
+    let i = entered .loop .inv in
+    goes-on _ _ _ _ _ (given .pre .0) (given .pre .1) (given .pre .2) _ _ _ _ _ i _ _ _ _
+    (rw (i .ready .room) at (after-sweep-all .sweep-all .ensures)) _ (c .before .end-of .ensures) (c .if1 .left)
 
 loop-again : tie.Need-loop-again Inv-loop μ-loop
-loop-again c = let i = c .before .before .before .before .before .before .before .before .before .before .loop .inv in again _ _ _ _ _ (c .before .before .before .before .before .before .before .before .before .before .before .before .before .before .before .before .before .pre .0) (c .before .before .before .before .before .before .before .before .before .before .before .before .before .before .before .before .before .pre .1) (c .before .before .before .before .before .before .before .before .before .before .before .before .before .before .before .before .before .pre .2) _ _ _ _ _ i _ _ _ _ (rw (i .ready .room) at (c .before .before .before .before .before .before .sweep-all .ensures)) _ (c .before .end-of .ensures) (c .if1 .left)
+loop-again c =
+    let after-sweep-all : tie.After-sweep-all Inv-loop μ-loop = search needs in
+    let entered : tie.At-loop Inv-loop μ-loop = search needs in
+    let given : tie.Start Inv-loop μ-loop = search needs in
+    let i = entered .loop .inv in
+    again _ _ _ _ _ (given .pre .0) (given .pre .1) (given .pre .2) _ _ _ _ _ i _ _ _ _
+    (rw (i .ready .room) at (after-sweep-all .sweep-all .ensures)) _ (c .before .end-of .ensures) (c .if1 .left)
 
 pub run-passes-spec : {M : Type 1} → statement M
 run-passes-spec =

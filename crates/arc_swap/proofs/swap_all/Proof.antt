@@ -6,13 +6,19 @@ use Rattle.arc_swap.proofs.swap_all.Statement.{statement}
 use Rattle.arc_swap.proofs.swap_all.Proof.Tie as tie
 
 begin-run-requires : tie.Need-begin-run-requires
-begin-run-requires c κs = c .before .before .before .before .before .before .before .pre
+begin-run-requires c κs =
+    let given : tie.Start = search needs in
+    given .pre
 
 zero-run-requires : tie.Need-zero-run-requires
 zero-run-requires c κs = search needs
 
 run-passes-requires : tie.Need-run-passes-requires
-run-passes-requires c κs = passes-asked _ _ (c .before .before .before .before .before .before .before .before .before .before .before .before .before .before .pre) _ _ (c .before .before .before .before .before .before .begin-run .ensures) _ (c .before .before .before .before .zero-run .ensures)
+run-passes-requires c κs =
+    let after-zero-run : tie.After-zero-run = search needs in
+    let after-begin-run : tie.After-begin-run = search needs in
+    let given : tie.Start = search needs in
+    passes-asked _ _ (given .pre) _ _ (after-begin-run .begin-run .ensures) _ (after-zero-run .zero-run .ensures)
 
 clear-numbers-requires : tie.Need-clear-numbers-requires
 clear-numbers-requires c κs = search needs
@@ -21,13 +27,20 @@ run-report-requires : tie.Need-run-report-requires
 run-report-requires c κs = search needs
 
 same-length : tie.Need-same-length
-same-length c = c .before .before .before .before .before .before .before .before .before .run-passes .kept .1 .1 .1 .1 .0
+same-length c =
+    let after-run-passes : tie.After-run-passes = search needs in
+    after-run-passes .run-passes .kept .1 .1 .1 .1 .0
 
 same-length-2 : tie.Need-same-length-2
 same-length-2 c = search needs
 
 returns : tie.Need-returns
-returns c = ran _ _ _ (c .before .before .before .before .before .before .before .before .before .before .before .before .before .before .before .before .begin-run .ensures) _ _ _ _ _ (c .before .before .before .before .before .before .before .before .before .run-passes .ensures) (c .before .before .before .before .before .before .before .before .before .run-passes .kept .1 .1 .1 .1 .1 .0) (c .before .before .before .clear-numbers .ensures) _ (c .run-report .ensures)
+returns c =
+    let after-clear-numbers : tie.After-clear-numbers = search needs in
+    let after-run-passes : tie.After-run-passes = search needs in
+    let after-begin-run : tie.After-begin-run = search needs in
+    ran _ _ _ (after-begin-run .begin-run .ensures) _ _ _ _ _ (after-run-passes .run-passes .ensures)
+    (after-run-passes .run-passes .kept .1 .1 .1 .1 .1 .0) (after-clear-numbers .clear-numbers .ensures) _ (c .run-report .ensures)
 
 pub swap-all-spec : {M : Type 1} → statement M
 swap-all-spec =

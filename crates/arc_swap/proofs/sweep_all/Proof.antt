@@ -8,6 +8,7 @@ use borrow.Author.Tests.{not-true, not-false}
 use Rattle.arc_swap.specs.Inner.{settingBy}
 use Rattle.arc_swap.proofs.Taken.{drain-asked, turned}
 use Rattle.arc_swap.proofs.Sweeping.{Sweeping, sweeping, turn-asked, next-turn, stopped, swept}
+use borrow.Author.Needs.{needs}
 use Rattle.arc_swap.proofs.sweep_all.Statement.{statement}
 use Rattle.arc_swap.proofs.sweep_all.Proof.Tie as tie
 
@@ -20,31 +21,87 @@ abbrev μ-loop : tie.MeasureT-loop
     length labels₀ - v
 
 loop-holds : tie.Need-loop-holds Inv-loop μ-loop
-loop-holds c = sweeping _ _ _ _ _ (c .before .before .before .before .before .before .pre)
+loop-holds c =
+    let given : tie.Start Inv-loop μ-loop = search needs in
+    sweeping _ _ _ _ _ (given .pre)
 
 push-first-requires : tie.Need-push-first-requires Inv-loop μ-loop
-push-first-requires c κs = let i = c .before .before .before .loop .inv in let a = turn-asked _ _ _ _ _ (c .before .before .before .before .before .before .before .before .before .before .pre) _ _ _ _ _ i (c .before .before .loop-test .taken) in (a .0 .asked .fixed .rows, a .1)
+push-first-requires c κs =
+    let entered : tie.At-loop Inv-loop μ-loop = search needs in
+    let given : tie.Start Inv-loop μ-loop = search needs in
+    let i = entered .loop .inv in
+    let a = turn-asked _ _ _ _ _ (given .pre) _ _ _ _ _ i (c .before .before .loop-test .taken) in
+    (a .0 .asked .fixed .rows, a .1)
 
 drain-stack-requires : tie.Need-drain-stack-requires Inv-loop μ-loop
-drain-stack-requires c κs = let i = c .before .before .before .before .before .before .before .before .before .loop .inv in let a = turn-asked _ _ _ _ _ (c .before .before .before .before .before .before .before .before .before .before .before .before .before .before .before .before .pre) _ _ _ _ _ i (c .before .before .before .before .before .before .before .before .loop-test .taken) in rw (c .before .before .before .before .before .push-first .kept .1 .1 .1 .1 .0 ∙ i .ready .room) (drain-asked _ refl _ _ _ _ (a .0) _ (a .1) _ _ (c .before .before .before .before .before .push-first .ensures))
+drain-stack-requires c κs =
+    let after-push-first : tie.After-push-first Inv-loop μ-loop = search needs in
+    let in-turn : tie.In-loop Inv-loop μ-loop = search needs in
+    let given : tie.Start Inv-loop μ-loop = search needs in
+    let i = in-turn .before .loop .inv in
+    let a = turn-asked _ _ _ _ _ (given .pre) _ _ _ _ _ i (in-turn .loop-test .taken) in
+    rw (after-push-first .push-first .kept .1 .1 .1 .1 .0 ∙ i .ready .room)
+    (drain-asked _ refl _ _ _ _ (a .0) _ (a .1) _ _ (after-push-first .push-first .ensures))
 
 same-length : tie.Need-same-length Inv-loop μ-loop
-same-length c = c .before .before .before .before .before .before .drain-stack .kept .1 .1 .1 .1 .0 ∙ c .before .before .before .before .before .before .before .before .before .before .before .before .before .before .before .before .loop .inv .ready .long
+same-length c =
+    let after-drain-stack : tie.After-drain-stack Inv-loop μ-loop = search needs in
+    let entered : tie.At-loop Inv-loop μ-loop = search needs in
+    after-drain-stack .drain-stack .kept .1 .1 .1 .1 .0 ∙ entered .loop .inv .ready .long
 
 same-length-2 : tie.Need-same-length-2 Inv-loop μ-loop
-same-length-2 c = c .before .before .before .before .before .before .drain-stack .kept .1 .1 .1 .1 .1 .0 ∙ c .before .before .before .before .before .before .before .before .before .before .before .before .push-first .kept .1 .1 .1 .1 .0 ∙ c .before .before .before .before .before .before .before .before .before .before .before .before .before .before .before .before .loop .inv .ready .room
+same-length-2 c =
+    let after-drain-stack : tie.After-drain-stack Inv-loop μ-loop = search needs in
+    let after-push-first : tie.After-push-first Inv-loop μ-loop = search needs in
+    let entered : tie.At-loop Inv-loop μ-loop = search needs in
+    after-drain-stack .drain-stack .kept .1 .1 .1 .1 .1 .0 ∙ after-push-first .push-first .kept .1 .1 .1 .1 .0 ∙ entered .loop .inv .ready .room
+
+-- the stations that lie far back, each from a nearer one
+abbrev start-of : tie.In-loop Inv-loop μ-loop → tie.Start Inv-loop μ-loop
+start-of c = search needs
 
 returns : tie.Need-returns Inv-loop μ-loop
-returns c = let i = c .before .before .before .before .before .before .before .before .before .before .before .before .before .before .before .before .loop .inv in let a = turn-asked _ _ _ _ _ (c .before .before .before .before .before .before .before .before .before .before .before .before .before .before .before .before .before .before .before .before .before .before .before .pre) _ _ _ _ _ i (c .before .before .before .before .before .before .before .before .before .before .before .before .before .before .before .loop-test .taken) in stopped _ _ _ _ _ (c .before .before .before .before .before .before .before .before .before .before .before .before .before .before .before .before .before .before .before .before .before .before .before .pre) _ _ _ _ _ i (c .before .before .before .before .before .before .before .before .before .before .before .before .before .before .before .loop-test .taken) _ _ _ _ (turned _ refl _ _ _ _ (a .0) _ (a .1) _ _ (c .before .before .before .before .before .before .before .before .before .before .before .before .push-first .ensures) _ _ _ _ (rw (c .before .before .before .before .before .before .before .before .before .before .before .before .push-first .kept .1 .1 .1 .1 .0 ∙ i .ready .room) at (c .before .before .before .before .before .before .drain-stack .ensures))) (not-true _ (c .if1 .taken))
+returns c =
+    let after-drain-stack : tie.After-drain-stack Inv-loop μ-loop = search needs in
+    let after-push-first : tie.After-push-first Inv-loop μ-loop = search needs in
+    let in-turn : tie.In-loop Inv-loop μ-loop = search needs in
+    let given = start-of in-turn in
+    let i = in-turn .before .loop .inv in
+    let a = turn-asked _ _ _ _ _ (given .pre) _ _ _ _ _ i (in-turn .loop-test .taken) in
+    stopped _ _ _ _ _ (given .pre) _ _ _ _ _ i (in-turn .loop-test .taken) _ _ _ _
+    (turned _ refl _ _ _ _ (a .0) _ (a .1) _ _ (after-push-first .push-first .ensures) _ _ _ _
+    (rw (after-push-first .push-first .kept .1 .1 .1 .1 .0 ∙ i .ready .room) at (after-drain-stack .drain-stack .ensures)))
+    (not-true _ (c .if1 .taken))
 
 add-v : tie.Need-add-v Inv-loop μ-loop
-add-v c = omega (arith, c .before .before .before .before .before .before .before .before .before .before .before .before .before .before .before .loop-test .taken, c .before .before .before .before .before .before .before .before .before .before .before .before .before .before .before .before .loop .inv .ready .long, c .before .before .before .before .before .before .before .before .before .before .before .before .before .before .before .before .loop .inv .upto, c .before .before .before .before .before .before .before .before .before .before .before .before .before .before .before .before .before .before .before .before .before .before .before .pre .asked .fixed .rows .few)
+add-v c =
+    let in-turn : tie.In-loop Inv-loop μ-loop = search needs in
+    let given : tie.Start Inv-loop μ-loop = search needs in
+    omega (
+      arith,
+      in-turn .loop-test .taken,
+      in-turn .before .loop .inv .ready .long,
+      in-turn .before .loop .inv .upto,
+      given .pre .asked .fixed .rows .few,
+    )
 
 loop-less : tie.Need-loop-less Inv-loop μ-loop
-loop-less c = omega (arith, c .before .before .before .before .before .before .before .before .before .before .before .before .before .before .before .loop-test .taken, c .before .before .before .before .before .before .before .before .before .before .before .before .before .before .before .before .loop .inv .ready .long)
+loop-less c =
+    let in-turn : tie.In-loop Inv-loop μ-loop = search needs in
+    omega (arith, in-turn .loop-test .taken, in-turn .before .loop .inv .ready .long)
 
 loop-again : tie.Need-loop-again Inv-loop μ-loop
-loop-again c = let i = c .before .before .before .before .before .before .before .before .before .before .before .before .before .before .before .before .loop .inv in let a = turn-asked _ _ _ _ _ (c .before .before .before .before .before .before .before .before .before .before .before .before .before .before .before .before .before .before .before .before .before .before .before .pre) _ _ _ _ _ i (c .before .before .before .before .before .before .before .before .before .before .before .before .before .before .before .loop-test .taken) in next-turn _ _ _ _ _ (c .before .before .before .before .before .before .before .before .before .before .before .before .before .before .before .before .before .before .before .before .before .before .before .pre) _ _ _ _ _ i (c .before .before .before .before .before .before .before .before .before .before .before .before .before .before .before .loop-test .taken) _ _ _ _ (turned _ refl _ _ _ _ (a .0) _ (a .1) _ _ (c .before .before .before .before .before .before .before .before .before .before .before .before .push-first .ensures) _ _ _ _ (rw (c .before .before .before .before .before .before .before .before .before .before .before .before .push-first .kept .1 .1 .1 .1 .0 ∙ i .ready .room) at (c .before .before .before .before .before .before .drain-stack .ensures))) (not-false _ (c .if1 .left))
+loop-again c =
+    let after-drain-stack : tie.After-drain-stack Inv-loop μ-loop = search needs in
+    let after-push-first : tie.After-push-first Inv-loop μ-loop = search needs in
+    let in-turn : tie.In-loop Inv-loop μ-loop = search needs in
+    let given = start-of in-turn in
+    let i = in-turn .before .loop .inv in
+    let a = turn-asked _ _ _ _ _ (given .pre) _ _ _ _ _ i (in-turn .loop-test .taken) in
+    next-turn _ _ _ _ _ (given .pre) _ _ _ _ _ i (in-turn .loop-test .taken) _ _ _ _
+    (turned _ refl _ _ _ _ (a .0) _ (a .1) _ _ (after-push-first .push-first .ensures) _ _ _ _
+    (rw (after-push-first .push-first .kept .1 .1 .1 .1 .0 ∙ i .ready .room) at (after-drain-stack .drain-stack .ensures)))
+    (not-false _ (c .if1 .left))
 
 same-length-3 : tie.Need-same-length-3 Inv-loop μ-loop
 same-length-3 c = c .before .loop .inv .ready .long
@@ -53,7 +110,9 @@ same-length-4 : tie.Need-same-length-4 Inv-loop μ-loop
 same-length-4 c = c .before .loop .inv .ready .room
 
 returns-2 : tie.Need-returns-2 Inv-loop μ-loop
-returns-2 c = swept _ _ _ _ _ (c .before .before .before .before .before .before .before .before .pre) _ _ _ _ _ (c .before .loop .inv) (c .loop-test .left)
+returns-2 c =
+    let given : tie.Start Inv-loop μ-loop = search needs in
+    swept _ _ _ _ _ (given .pre) _ _ _ _ _ (c .before .loop .inv) (c .loop-test .left)
 
 pub sweep-all-spec : {M : Type 1} → statement M
 sweep-all-spec =

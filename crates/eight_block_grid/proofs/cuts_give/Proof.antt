@@ -44,7 +44,10 @@ same-numbers-requires : tie.Need-same-numbers-requires
 same-numbers-requires c κs = search needs
 
 returns : tie.Need-returns
-returns c = cuts-give _ _ _ _ _ (c .before .before .before .before .before .before .before .before .before .edge-cut .ensures) (c .before .before .before .before .lambda-cut .ensures) (c .same-numbers .ensures)
+returns c =
+    let after-lambda-cut : tie.After-lambda-cut = search needs in
+    let after-edge-cut : tie.After-edge-cut = search needs in
+    cuts-give _ _ _ _ _ (after-edge-cut .edge-cut .ensures) (after-lambda-cut .lambda-cut .ensures) (c .same-numbers .ensures)
 
 pub cuts-give-spec : {M : Type 1} → statement M
 cuts-give-spec =

@@ -16,7 +16,10 @@ both-requires : tie.Need-both-requires
 both-requires c κs = search needs
 
 returns : tie.Need-returns
-returns c = equal-is _ _ _ _ _ _ _ (toZ-ofZ w64 _ (c .before .before .before .fits .g)) (toZ-ofZ w64 _ (c .before .before .before .fits .h)) (c .before .before .at-most .ensures) (c .before .at-most2 .ensures) (c .both .ensures)
+returns c =
+    let given : tie.Start = search needs in
+    equal-is _ _ _ _ _ _ _ (toZ-ofZ w64 _ (given .fits .g)) (toZ-ofZ w64 _ (given .fits .h)) (c .before .before .at-most .ensures)
+    (c .before .at-most2 .ensures) (c .both .ensures)
 
 pub equal-gains-spec : {M : Type 1} → statement M
 equal-gains-spec = tie.close (tie.spec at-most-requires at-most-requires-2 both-requires returns)

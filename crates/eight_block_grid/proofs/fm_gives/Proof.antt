@@ -85,12 +85,19 @@ same-numbers-requires c κs = search needs
 both-requires : tie.Need-both-requires
 both-requires c κs = search needs
 
+-- the call lies far back: it is found from where its report is first read
+abbrev called-of : tie.After-wide → tie.After-with-8-moves
+called-of c = search needs
+
 returns : tie.Need-returns
 returns c =
-    let compared : tie.After-same-labels = c .before .before .before in
-    let counted : tie.After-wide4 = compared .before .before in
-    let called : tie.After-with-8-moves = counted .before .before .before .before .before .before .before .before .before .before .before .before .before .before in
-    fm-gives _ _ _ _ _ _ _ _ _ _ _ _ _ _ quarter-is (called .with-8-moves .ensures) (counted .before .before .before .wide .ensures) (counted .before .before .wide2 .ensures) (counted .before .wide3 .ensures) (counted .wide4 .ensures) (compared .same-labels .ensures) (c .before .same-numbers .ensures) (c .both .ensures)
+    let compared : tie.After-same-labels = search needs in
+    let counted : tie.After-wide4 = search needs in
+    let after-wide : tie.After-wide = search needs in
+    let called = called-of after-wide in
+    fm-gives _ _ _ _ _ _ _ _ _ _ _ _ _ _ quarter-is (called .with-8-moves .ensures) (after-wide .wide .ensures)
+    (counted .before .before .wide2 .ensures) (counted .before .wide3 .ensures) (counted .wide4 .ensures)
+    (compared .same-labels .ensures) (c .before .same-numbers .ensures) (c .both .ensures)
 
 pub fm-gives-spec : {M : Type 1} → statement M
 fm-gives-spec =

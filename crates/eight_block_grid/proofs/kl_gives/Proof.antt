@@ -56,7 +56,11 @@ both-requires : tie.Need-both-requires
 both-requires c κs = search needs
 
 returns : tie.Need-returns
-returns c = kl-gives _ _ _ _ _ _ _ _ _ _ (c .before .before .before .before .before .before .before .before .before .before .before .before .kernighan-lin .ensures) (c .before .before .before .same-labels .ensures) (c .before .same-numbers .ensures) (c .both .ensures)
+returns c =
+    let after-same-labels : tie.After-same-labels = search needs in
+    let after-kernighan-lin : tie.After-kernighan-lin = search needs in
+    kl-gives _ _ _ _ _ _ _ _ _ _ (after-kernighan-lin .kernighan-lin .ensures) (after-same-labels .same-labels .ensures)
+    (c .before .same-numbers .ensures) (c .both .ensures)
 
 pub kl-gives-spec : {M : Type 1} → statement M
 kl-gives-spec =

@@ -29,7 +29,9 @@ same-numbers-requires : tie.Need-same-numbers-requires
 same-numbers-requires c κs = search needs
 
 returns : tie.Need-returns
-returns c = loads-give _ _ _ (c .before .before .before .before .before .before .compute-parts-load .ensures) (c .same-numbers .ensures)
+returns c =
+    let after-compute-parts-load : tie.After-compute-parts-load = search needs in
+    loads-give _ _ _ (after-compute-parts-load .compute-parts-load .ensures) (c .same-numbers .ensures)
 
 pub loads-give-spec : {M : Type 1} → statement M
 loads-give-spec =

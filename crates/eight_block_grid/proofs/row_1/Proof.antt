@@ -24,7 +24,9 @@ both-requires : tie.Need-both-requires
 both-requires c κs = search needs
 
 returns : tie.Need-returns
-returns c = c .both .ensures ∙ ap₂ _&&_ (c .before .before .before .cuts-give .ensures) (c .before .loads-give .ensures)
+returns c =
+    let after-cuts-give : tie.After-cuts-give = search needs in
+    c .both .ensures ∙ ap₂ _&&_ (after-cuts-give .cuts-give .ensures) (c .before .loads-give .ensures)
 
 pub row-1-spec : {M : Type 1} → statement M
 row-1-spec =

@@ -33,7 +33,9 @@ same-gains-requires : tie.Need-same-gains-requires
 same-gains-requires c κs = search needs
 
 returns : tie.Need-returns
-returns c = gains-compared _ _ (c .before .before .before .before .fresh-gains .ensures) (c .same-gains .ensures)
+returns c =
+    let after-fresh-gains : tie.After-fresh-gains = search needs in
+    gains-compared _ _ (after-fresh-gains .fresh-gains .ensures) (c .same-gains .ensures)
 
 pub row-3-spec : {M : Type 1} → statement M
 row-3-spec =

@@ -39,10 +39,14 @@ equal-gains-requires c κs = search needs
 
 returns-2 : tie.Need-returns-2 Inv-loop μ-loop
 returns-2 c =
-    let x = c .before .before .before in
-    let i = x .before .before .loop .i in
-    let a = x .before .before .before .before .args in
-    differs equalGains (pos 0) _ _ i (search needs) (search needs) (place-differs (getD (a .xs .now) i (pos 0)) (getD (a .ys .now) i (pos 0)) _ _ _ (toZ-ofZ w64 _ (record { sfits = x .equal-gains-arg .given })) (toZ-ofZ w64 _ (record { sfits = c .before .before .equal-gains-arg2 .given })) (c .before .equal-gains .ensures) (c .if2 .taken))
+    let after-equal-gains-arg : tie.After-equal-gains-arg Inv-loop μ-loop = search needs in
+    let given : tie.Start Inv-loop μ-loop = search needs in
+    let i = after-equal-gains-arg .before .before .loop .i in
+    let a = given .args in
+    differs equalGains (pos 0) _ _ i (search needs) (search needs)
+    (place-differs (getD (a .xs .now) i (pos 0)) (getD (a .ys .now) i (pos 0)) _ _ _
+    (toZ-ofZ w64 _ (record { sfits = after-equal-gains-arg .equal-gains-arg .given }))
+    (toZ-ofZ w64 _ (record { sfits = c .before .before .equal-gains-arg2 .given })) (c .before .equal-gains .ensures) (c .if2 .taken))
 
 add-i : tie.Need-add-i Inv-loop μ-loop
 add-i c = search needs
@@ -52,10 +56,14 @@ loop-less c = search needs
 
 loop-again : tie.Need-loop-again Inv-loop μ-loop
 loop-again c =
-    let x = c .before .before .before in
-    let i = x .before .before .loop .i in
-    let a = x .before .before .before .before .args in
-    one-more equalGains (pos 0) _ _ _ (search needs) (search needs) (place-equal (getD (a .xs .now) i (pos 0)) (getD (a .ys .now) i (pos 0)) _ _ _ (toZ-ofZ w64 _ (record { sfits = x .equal-gains-arg .given })) (toZ-ofZ w64 _ (record { sfits = c .before .before .equal-gains-arg2 .given })) (c .before .equal-gains .ensures) (c .if2 .left))
+    let after-equal-gains-arg : tie.After-equal-gains-arg Inv-loop μ-loop = search needs in
+    let given : tie.Start Inv-loop μ-loop = search needs in
+    let i = after-equal-gains-arg .before .before .loop .i in
+    let a = given .args in
+    one-more equalGains (pos 0) _ _ _ (search needs) (search needs)
+    (place-equal (getD (a .xs .now) i (pos 0)) (getD (a .ys .now) i (pos 0)) _ _ _
+    (toZ-ofZ w64 _ (record { sfits = after-equal-gains-arg .equal-gains-arg .given }))
+    (toZ-ofZ w64 _ (record { sfits = c .before .before .equal-gains-arg2 .given })) (c .before .equal-gains .ensures) (c .if2 .left))
 
 returns-3 : tie.Need-returns-3 Inv-loop μ-loop
 returns-3 c = at-end equalGains (pos 0) _ _ (c .before .loop .i) (search needs) (search needs)

@@ -33,7 +33,9 @@ shared-slice-read-if2-2 : tie.Need-shared-slice-read-if2-2 Inv-loop μ-loop
 shared-slice-read-if2-2 c = search needs
 
 returns-2 : tie.Need-returns-2 Inv-loop μ-loop
-returns-2 c = differs eqb 0 _ _ (c .before .before .before .before .loop .i) (search needs) (search needs) (ne-eqb _ _ (c .if2 .taken))
+returns-2 c =
+    let entered : tie.At-loop Inv-loop μ-loop = search needs in
+    differs eqb 0 _ _ (entered .loop .i) (search needs) (search needs) (ne-eqb _ _ (c .if2 .taken))
 
 add-i : tie.Need-add-i Inv-loop μ-loop
 add-i c = search needs

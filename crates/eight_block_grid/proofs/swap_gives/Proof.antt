@@ -57,8 +57,8 @@ both-requires c κs = search needs
 
 returns : tie.Need-returns
 returns c =
-    let compared : tie.After-same-labels = c .before .before .before in
-    let called : tie.After-arc-swap-counted = compared .before .before .before .before .before .before .before .before .before .before .before .before in
+    let compared : tie.After-same-labels = search needs in
+    let called : tie.After-arc-swap-counted = search needs in
     swap-gives _ _ _ _ _ _ _ _ quarter-is (called .arc-swap-counted .ensures) (compared .same-labels .ensures) (c .before .same-numbers .ensures) (c .both .ensures)
 
 pub swap-gives-spec : {M : Type 1} → statement M

@@ -3,8 +3,6 @@ use mathlib.Core.Path.{refl}
 use Rattle.lists.specs.Fill.{table}
 use Rattle.fiduccia_mattheyses.proofs.bare_report.Statement.{statement}
 use Rattle.fiduccia_mattheyses.proofs.bare_report.Tie as tie
-use Rattle.fiduccia_mattheyses.proofs.bare_report.Reads as reads
-use Rattle.fiduccia_mattheyses.proofs.bare_report.Lts as lts
 
 returns : tie.Need-returns
 unfolding table

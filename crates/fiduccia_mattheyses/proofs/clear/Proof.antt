@@ -1,8 +1,8 @@
 -- `fiduccia_mattheyses::clear` meets its contract: a walk of its MIR, by hand, with a loop that calls `put_move` at each turn.
 -- The slice is lent again for a lifetime of the call, and comes back (`Again.antt`). Assumes nothing.
 use mathlib.Core.Path.{_≡_, refl, sym, ap, subst, _∙_}
-use mathlib.Core.Bool.{Bool, true}
-use Prim.Native.Nat.{ℕ, zero, suc, _<_, _≤_, _^_, _+_, _-_}
+use mathlib.Core.Bool.{Bool}
+use Prim.Native.Nat.{ℕ, zero, suc, _<_, _≤_, _^_, _+_}
 use native.Mathlib.Omega.{arith}
 use mathlib.Core.List.{[], _∷_, List}
 use lib.ListN.{length, set}

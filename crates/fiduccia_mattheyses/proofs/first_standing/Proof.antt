@@ -5,8 +5,6 @@ use Rattle.lists.proofs.Differences.{read}
 use borrow.Author.Needs.{needs}
 use Rattle.fiduccia_mattheyses.proofs.first_standing.Statement.{statement}
 use Rattle.fiduccia_mattheyses.proofs.first_standing.Tie as tie
-use Rattle.fiduccia_mattheyses.proofs.first_standing.Reads as reads
-use Rattle.fiduccia_mattheyses.proofs.first_standing.Lts as lts
 
 cast-t3 : tie.Need-cast-t3
 cast-t3 c = search needs

@@ -49,8 +49,9 @@ enum-told c = search needs
 
 loop-less : tie.Need-loop-less Inv-loop μ-loop
 loop-less c =
+    let after-pass : tie.After-pass Inv-loop μ-loop = search needs in
     let rowed : tie.After-put-row Inv-loop μ-loop = search needs in
-    let turn = entered (rowed .before .before .before .before .before .before .before) in
+    let turn = entered after-pass in
     omega (arith, rowed .put-row .ensures .passes-are, turn .loop-test .taken)
 
 loop-again : tie.Need-loop-again Inv-loop μ-loop
@@ -79,14 +80,16 @@ same-length-3 c =
 
 same-length-4 : tie.Need-same-length-4 Inv-loop μ-loop
 same-length-4 c =
+    let after-pass : tie.After-pass Inv-loop μ-loop = search needs in
     let rowed : tie.After-put-row Inv-loop μ-loop = search needs in
-    let at = entered (rowed .before .before .before .before .before .before .before) .before in
+    let at = entered after-pass .before in
     rowed .put-row .kept .0 ∙ rows-long _ _ _ _ _ _ _ _ _ (given at .pre) _ _ _ _ _ _ _ _ (at .loop .inv) .0
 
 same-length-5 : tie.Need-same-length-5 Inv-loop μ-loop
 same-length-5 c =
+    let after-pass : tie.After-pass Inv-loop μ-loop = search needs in
     let rowed : tie.After-put-row Inv-loop μ-loop = search needs in
-    let at = entered (rowed .before .before .before .before .before .before .before) .before in
+    let at = entered after-pass .before in
     rowed .put-row .kept .1 .0 ∙ rows-long _ _ _ _ _ _ _ _ _ (given at .pre) _ _ _ _ _ _ _ _ (at .loop .inv) .1
 
 returns : tie.Need-returns Inv-loop μ-loop

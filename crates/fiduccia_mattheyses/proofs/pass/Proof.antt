@@ -14,31 +14,66 @@ use Rattle.fiduccia_mattheyses.proofs.walk.walk_moves.Reads as walk-mov
 use Rattle.fiduccia_mattheyses_pass.proofs.fresh_gains.Reads as fresh-gains-reads
 
 fresh-gains-requires : tie.Need-fresh-gains-requires
-fresh-gains-requires c κs = (c .before .before .before .before .before .before .before .pre .fixed .rows, c .before .before .before .before .before .before .before .pre .gained, c .before .before .before .before .before .before .before .pre .two)
+fresh-gains-requires c κs =
+    let given : tie.Start = search needs in
+    (given .pre .fixed .rows, given .pre .gained, given .pre .two)
 
 first-standing-requires : tie.Need-first-standing-requires
-first-standing-requires c κs = cut-room _ _ _ _ _ _ (c .before .before .before .before .before .before .before .before .before .pre)
+first-standing-requires c κs =
+    let given : tie.Start = search needs in
+    cut-room _ _ _ _ _ _ (given .pre)
 
 walk-moves-requires : tie.Need-walk-moves-requires
-walk-moves-requires c κs = walk-asked _ _ _ _ _ _ (c .before .before .before .before .before .before .before .before .before .before .before .before .before .pre) _ _ (c .before .before .before .before .before .fresh-gains .ensures) (c .before .before .before .first-standing .ensures)
+walk-moves-requires c κs =
+    let after-first-standing : tie.After-first-standing = search needs in
+    let after-fresh-gains : tie.After-fresh-gains = search needs in
+    let given : tie.Start = search needs in
+    walk-asked _ _ _ _ _ _ (given .pre) _ _ (after-fresh-gains .fresh-gains .ensures) (after-first-standing .first-standing .ensures)
+
+-- the stations that lie far back, each from a nearer one
+abbrev fresh-gains-of : tie.After-walk-moves → tie.After-fresh-gains
+fresh-gains-of c = search needs
+
+abbrev start-of : tie.After-fresh-gains → tie.Start
+start-of c = search needs
 
 rewind-requires : tie.Need-rewind-requires
-rewind-requires c κs = rewind-asked _ _ _ _ _ _ (c .before .before .before .before .before .before .before .before .before .before .before .before .before .before .before .before .before .before .before .before .before .before .before .pre) _ _ _ _ _ (c .before .before .before .before .before .before .before .before .before .walk-moves .ensures)
+rewind-requires c κs =
+    let after-walk-moves : tie.After-walk-moves = search needs in
+    let after-fresh-gains = fresh-gains-of after-walk-moves in
+    let given = start-of after-fresh-gains in
+    rewind-asked _ _ _ _ _ _ (given .pre) _ _ _ _ _ (after-walk-moves .walk-moves .ensures)
 
 pass-answer-requires : tie.Need-pass-answer-requires
-pass-answer-requires c κs = rw (least-read _ _ _ _ _ _ (c .before .before .before .before .before .before .before .before .before .before .before .before .before .before .before .before .before .before .before .before .before .before .before .before .before .before .pre) _ _ _ _ _ (c .before .before .before .before .before .before .before .before .before .before .before .before .walk-moves .ensures)) (least-plain _ _ _ _ _ _ (c .before .before .before .before .before .before .before .before .before .before .before .before .before .before .before .before .before .before .before .before .before .before .before .before .before .before .pre) _ _ _ _ _ (c .before .before .before .before .before .before .before .before .before .before .before .before .walk-moves .ensures))
+pass-answer-requires c κs =
+    let after-walk-moves : tie.After-walk-moves = search needs in
+    let after-fresh-gains = fresh-gains-of after-walk-moves in
+    let given = start-of after-fresh-gains in
+    rw (least-read _ _ _ _ _ _ (given .pre) _ _ _ _ _ (after-walk-moves .walk-moves .ensures))
+    (least-plain _ _ _ _ _ _ (given .pre) _ _ _ _ _ (after-walk-moves .walk-moves .ensures))
 
 same-length : tie.Need-same-length
 same-length c = search needs
 
 same-length-2 : tie.Need-same-length-2
-same-length-2 c = c .before .before .before .before .before .before .before .before .before .before .before .before .before .walk-moves .ensures .stands .gained .long ∙ c .before .before .before .before .before .before .before .before .before .before .before .before .before .walk-moves .ensures .stands .long ∙ sym (c .before .before .before .before .before .before .before .before .before .before .before .before .before .before .before .before .before .before .before .before .before .before .before .before .before .before .before .pre .gained)
+same-length-2 c =
+    let after-walk-moves : tie.After-walk-moves = search needs in
+    let after-fresh-gains = fresh-gains-of after-walk-moves in
+    let given = start-of after-fresh-gains in
+    after-walk-moves .walk-moves .ensures .stands .gained .long ∙ after-walk-moves .walk-moves .ensures .stands .long ∙ sym (given .pre .gained)
 
 same-length-3 : tie.Need-same-length-3
 same-length-3 c = search needs
 
 returns : tie.Need-returns
-returns c = pass-done _ _ _ _ _ _ (c .before .before .before .before .before .before .before .before .before .before .before .before .before .before .before .before .before .before .before .before .before .before .before .before .before .before .before .pre) _ _ _ _ _ (c .before .before .before .before .before .before .before .before .before .before .before .before .before .walk-moves .ensures) _ _ _ (c .before .before .before .rewind .ensures .0) (c .before .before .before .rewind .ensures .1) (rw (least-read _ _ _ _ _ _ (c .before .before .before .before .before .before .before .before .before .before .before .before .before .before .before .before .before .before .before .before .before .before .before .before .before .before .before .pre) _ _ _ _ _ (c .before .before .before .before .before .before .before .before .before .before .before .before .before .walk-moves .ensures)) at (c .pass-answer .ensures))
+returns c =
+    let after-rewind : tie.After-rewind = search needs in
+    let after-walk-moves : tie.After-walk-moves = search needs in
+    let after-fresh-gains = fresh-gains-of after-walk-moves in
+    let given = start-of after-fresh-gains in
+    pass-done _ _ _ _ _ _ (given .pre) _ _ _ _ _ (after-walk-moves .walk-moves .ensures) _ _ _ (after-rewind .rewind .ensures .0)
+    (after-rewind .rewind .ensures .1) (rw (least-read _ _ _ _ _ _ (given .pre) _ _ _ _ _
+    (after-walk-moves .walk-moves .ensures)) at (c .pass-answer .ensures))
 
 pub pass-spec : {M : Type 1} → statement M
 pass-spec =

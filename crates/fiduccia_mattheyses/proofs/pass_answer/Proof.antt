@@ -4,8 +4,6 @@ use mir.Facts.{toZ-ofZ}
 use Rattle.fiduccia_mattheyses.proofs.Plain.{plain-cast, plain-is}
 use Rattle.fiduccia_mattheyses.proofs.pass_answer.Statement.{statement}
 use Rattle.fiduccia_mattheyses.proofs.pass_answer.Tie as tie
-use Rattle.fiduccia_mattheyses.proofs.pass_answer.Reads as reads
-use Rattle.fiduccia_mattheyses.proofs.pass_answer.Lts as lts
 
 cast-t5 : tie.Need-cast-t5
 cast-t5 c = rw (toZ-ofZ (c .fits .least)) (plain-cast (c .args .least) (c .pre) (c .fits .least))

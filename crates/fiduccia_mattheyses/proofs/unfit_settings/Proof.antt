@@ -4,9 +4,6 @@ use Rattle.fiduccia_mattheyses.specs.Entry.{unfit}
 use borrow.Author.Needs.{needs}
 use Rattle.fiduccia_mattheyses.proofs.unfit_settings.Statement.{statement}
 use Rattle.fiduccia_mattheyses.proofs.unfit_settings.Tie as tie
-use Rattle.fiduccia_mattheyses.proofs.unfit_settings.Reads as reads
-use Rattle.fiduccia_mattheyses.proofs.unfit_settings.Lts as lts
-use Rattle.imbalance.proofs.unfit_choice.Reads as unfit-choice-reads
 
 returns : tie.Need-returns
 unfolding unfit

@@ -27,8 +27,9 @@ truncating-f64-to-u64-requires c κs =
 returns : tie.Need-returns
 unfolding limitOf ceilingOf
 returns c =
-    let a = c .before .before .before .args in
-    let p = c .before .before .before .pre in
+    let given : tie.Start = search needs in
+    let a = given .args in
+    let p = given .pre in
     c .truncating-f64-to-u64 .ensures ∙ whole (limitOf (a .total) (a .parts) (a .e)) (limit-within (a .total) (a .parts) (a .e) (p .0) (p .1) (p .2) (p .3))
 
 pub ceiling-by-spec : {M : Type 1} → statement M

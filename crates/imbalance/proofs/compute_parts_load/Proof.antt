@@ -17,7 +17,8 @@ returns c = rw (← c .before .loads-number .ensures, ne-eqb (c .before .loads-n
 
 parts-load-requires : tie.Need-parts-load-requires
 parts-load-requires c κs =
-    let a = c .before .before .before .before .args in
+    let given : tie.Start = search needs in
+    let a = given .args in
     loadable (a .weights .now) (a .labels .now) (sym (c .before .loads-number .ensures) ∙ c .if1 .left)
 
 returns-2 : tie.Need-returns-2

@@ -27,8 +27,10 @@ shared-slice-read-if1 c = search needs
 
 returns : tie.Need-returns Inv-loop μ-loop
 returns c =
-    let a = c .before .before .before .before .args in
-    label-over (a .most) (a .labels .now) (c .before .before .before .loop .v) (c .before .before .loop-test .taken) (c .if1 .taken)
+    let entered : tie.At-loop Inv-loop μ-loop = search needs in
+    let given : tie.Start Inv-loop μ-loop = search needs in
+    let a = given .args in
+    label-over (a .most) (a .labels .now) (entered .loop .v) (c .before .before .loop-test .taken) (c .if1 .taken)
 
 add-v : tie.Need-add-v Inv-loop μ-loop
 add-v c = search needs
@@ -38,7 +40,8 @@ loop-less c = search needs
 
 loop-again : tie.Need-loop-again Inv-loop μ-loop
 loop-again c =
-    (search needs, some-more _ _ (c .before .before .before .loop .inv .1) (le-ltb _ _ (c .if1 .left)))
+    let entered : tie.At-loop Inv-loop μ-loop = search needs in
+    (search needs, some-more _ _ (entered .loop .inv .1) (le-ltb _ _ (c .if1 .left)))
 
 returns-2 : tie.Need-returns-2 Inv-loop μ-loop
 returns-2 c =

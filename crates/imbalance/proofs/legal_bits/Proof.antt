@@ -6,8 +6,6 @@ use borrow.Author.Tests.{le-leb, lt-leb}
 use Rattle.imbalance.proofs.Patterns.{most, legal-by-bits}
 use Rattle.imbalance.proofs.legal_bits.Statement.{statement}
 use Rattle.imbalance.proofs.legal_bits.Tie as tie
-use Rattle.imbalance.proofs.legal_bits.Lts as lts
-use Rattle.imbalance.proofs.legal_bits.Reads as reads
 
 returns : tie.Need-returns
 returns c =

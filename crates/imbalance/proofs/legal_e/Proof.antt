@@ -4,9 +4,6 @@ use borrow.Author.Needs.{needs}
 use Rattle.imbalance.proofs.Patterns.{differing-illegal, equal-number, legal-by-own-bits}
 use Rattle.imbalance.proofs.legal_e.Statement.{statement}
 use Rattle.imbalance.proofs.legal_e.Tie as tie
-use Rattle.imbalance.proofs.legal_e.Reads as reads
-use Rattle.imbalance.proofs.legal_e.Lts as lts
-use Rattle.imbalance.proofs.legal_bits.Reads as legal-bits-reads
 
 returns : tie.Need-returns
 returns c = sym (differing-illegal (c .before .args .e) (c .if1 .taken))

@@ -20,7 +20,8 @@ over-limit-requires c κs = search needs
 returns-3 : tie.Need-returns-3
 unfolding loadsNumber
 returns-3 c =
-    simp (eq-eqb _ _ (c .before .before .before .if1 .left), le-ltb _ _ (c .before .before .if2 .left), sym (c .before .over-limit .ensures) ∙ c .if3 .taken)
+    let else1 : tie.Else1 = search needs in
+    simp (eq-eqb _ _ (else1 .if1 .left), le-ltb _ _ (c .before .before .if2 .left), sym (c .before .over-limit .ensures) ∙ c .if3 .taken)
 
 label-above-requires : tie.Need-label-above-requires
 label-above-requires c κs = search needs
@@ -28,12 +29,28 @@ label-above-requires c κs = search needs
 returns-4 : tie.Need-returns-4
 unfolding loadsNumber
 returns-4 c =
-    simp (eq-eqb _ _ (c .before .before .before .before .before .if1 .left), le-ltb _ _ (c .before .before .before .before .if2 .left), sym (c .before .before .before .over-limit .ensures) ∙ c .before .before .if3 .left, sym (c .before .label-above .ensures) ∙ c .if4 .taken)
+    let after-over-limit : tie.After-over-limit = search needs in
+    let else2 : tie.Else2 = search needs in
+    let else1 : tie.Else1 = search needs in
+    simp (
+      eq-eqb _ _ (else1 .if1 .left),
+      le-ltb _ _ (else2 .if2 .left),
+      sym (after-over-limit .over-limit .ensures) ∙ c .before .before .if3 .left,
+      sym (c .before .label-above .ensures) ∙ c .if4 .taken,
+    )
 
 returns-5 : tie.Need-returns-5
 unfolding loadsNumber
 returns-5 c =
-    simp (eq-eqb _ _ (c .before .before .before .before .before .if1 .left), le-ltb _ _ (c .before .before .before .before .if2 .left), sym (c .before .before .before .over-limit .ensures) ∙ c .before .before .if3 .left, sym (c .before .label-above .ensures) ∙ c .if4 .left)
+    let after-over-limit : tie.After-over-limit = search needs in
+    let else2 : tie.Else2 = search needs in
+    let else1 : tie.Else1 = search needs in
+    simp (
+      eq-eqb _ _ (else1 .if1 .left),
+      le-ltb _ _ (else2 .if2 .left),
+      sym (after-over-limit .over-limit .ensures) ∙ c .before .before .if3 .left,
+      sym (c .before .label-above .ensures) ∙ c .if4 .left,
+    )
 
 pub loads-number-spec : {M : Type 1} → statement M
 loads-number-spec =

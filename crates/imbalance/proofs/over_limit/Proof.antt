@@ -29,12 +29,16 @@ wide-requires : tie.Need-wide-requires Inv-loop μ-loop
 wide-requires c κs = search needs
 
 add-sum : tie.Need-add-sum Inv-loop μ-loop
-add-sum c = omega (arith, c .before .shared-slice-known2 .given (c .before .before .before .loop .i))
+add-sum c =
+    let entered : tie.At-loop Inv-loop μ-loop = search needs in
+    omega (arith, c .before .shared-slice-known2 .given (entered .loop .i))
 
 returns : tie.Need-returns Inv-loop μ-loop
 returns c =
-    let w = c .before .before .before .before .before .before .args .weights .now in
-    let l = c .before .before .before .before .loop in
+    let entered : tie.At-loop Inv-loop μ-loop = search needs in
+    let given : tie.Start Inv-loop μ-loop = search needs in
+    let w = given .args .weights .now in
+    let l = entered .loop in
     heavy-part w (l .i + 1) _ (search needs) (sum-step (l .i) _ _ _ (l .inv .1) (c .before .wide .ensures)) (search needs)
 
 add-i : tie.Need-add-i Inv-loop μ-loop
@@ -45,12 +49,14 @@ loop-less c = search needs
 
 loop-again : tie.Need-loop-again Inv-loop μ-loop
 loop-again c =
-    (search needs, sum-step _ _ _ _ (c .before .before .before .before .loop .inv .1) (c .before .wide .ensures), search needs)
+    let entered : tie.At-loop Inv-loop μ-loop = search needs in
+    (search needs, sum-step _ _ _ _ (entered .loop .inv .1) (c .before .wide .ensures), search needs)
 
 returns-2 : tie.Need-returns-2 Inv-loop μ-loop
 returns-2 c =
+    let given : tie.Start Inv-loop μ-loop = search needs in
     let l = c .before .loop in
-    light-whole (c .before .before .before .args .weights .now) (l .i) _ (search needs) (l .inv .1) (l .inv .2)
+    light-whole (given .args .weights .now) (l .i) _ (search needs) (l .inv .1) (l .inv .2)
 
 pub over-limit-spec : {M : Type 1} → statement M
 over-limit-spec =

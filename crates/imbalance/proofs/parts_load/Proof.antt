@@ -22,8 +22,14 @@ abbrev μ-loop : tie.MeasureT-loop
 -- the label that was read names one of the sixteen parts
 in-parts : (c : tie.After-index Inv-loop μ-loop) → c .index .result ≤ 15
 in-parts c =
-    let s = c .before .before .before .before .before .before in
-    omega (arith, c .index .ensures, label-most 15 (s .args .labels .now) (s .pre .named) (c .before .before .before .loop .v) (c .before .before .loop-test .taken))
+    let entered : tie.At-loop Inv-loop μ-loop = search needs in
+    let given : tie.Start Inv-loop μ-loop = search needs in
+    omega (
+      arith,
+      c .index .ensures,
+      label-most 15 (given .args .labels .now) (given .pre .named) (entered .loop .v)
+          (c .before .before .loop-test .taken),
+    )
 
 loop-holds : tie.Need-loop-holds Inv-loop μ-loop
 unfolding table sum
@@ -55,9 +61,15 @@ wide-requires c κs = search needs
 
 add-at : tie.Need-add-at Inv-loop μ-loop
 add-at c =
-    let s = c .before .before .before .before .before .before .before .before in
-    let l = c .before .before .before .before .before .loop in
-    omega (arith, load-held (s .args .weights .now) (s .args .labels .now) (s .pre .paired) (l .v) _ _ (l .inv .0) (in-parts (c .before .before)) (l .inv .1), c .before .shared-slice-known4 .given (l .v))
+    let entered : tie.At-loop Inv-loop μ-loop = search needs in
+    let given : tie.Start Inv-loop μ-loop = search needs in
+    let l = entered .loop in
+    omega (
+      arith,
+      load-held (given .args .weights .now) (given .args .labels .now) (given .pre .paired) (l .v) _ _ (l .inv .0)
+          (in-parts (c .before .before)) (l .inv .1),
+      c .before .shared-slice-known4 .given (l .v),
+    )
 
 mul-at-2 : tie.Need-mul-at-2 Inv-loop μ-loop
 mul-at-2 c = omega (arith, in-parts (c .before .before))
@@ -73,14 +85,19 @@ loop-less c = search needs
 
 loop-again : tie.Need-loop-again Inv-loop μ-loop
 loop-again c =
-    let s = c .before .before .before .before .before .before .before .before in
-    let l = c .before .before .before .before .before .loop in
-    (search needs, load-turn (s .args .weights .now) (s .args .labels .now) (l .v) _ _ _ (in-parts (c .before .before)) (c .before .before .index .ensures) (c .wide .ensures) (l .inv .1))
+    let entered : tie.At-loop Inv-loop μ-loop = search needs in
+    let given : tie.Start Inv-loop μ-loop = search needs in
+    let l = entered .loop in (
+      search needs,
+      load-turn (given .args .weights .now) (given .args .labels .now) (l .v) _ _ _ (in-parts (c .before .before))
+          (c .before .before .index .ensures) (c .wide .ensures) (l .inv .1),
+    )
 
 returns : tie.Need-returns Inv-loop μ-loop
 unfolding load
 returns c =
-    let e : c .before .loop .v ≡ length (c .before .before .before .before .args .labels .now) = omega arith in
+    let given : tie.Start Inv-loop μ-loop = search needs in
+    let e : c .before .loop .v ≡ length (given .args .labels .now) = omega arith in
     ap (λ (l : List ℕ). record { at = l }) (rw e at (c .before .loop .inv .1))
 
 pub parts-load-spec : {M : Type 1} → statement M

@@ -30,8 +30,10 @@ wide-requires c κs = search needs
 
 add-sum : tie.Need-add-sum Inv-loop μ-loop
 add-sum c =
-    let l = c .before .before .before .loop in
-    omega (arith, total-holds (c .before .before .before .before .before .args .weights .now) (l .i) (l .inv .0), c .before .shared-slice-known2 .given (l .i))
+    let entered : tie.At-loop Inv-loop μ-loop = search needs in
+    let given : tie.Start Inv-loop μ-loop = search needs in
+    let l = entered .loop in
+    omega (arith, total-holds (given .args .weights .now) (l .i) (l .inv .0), c .before .shared-slice-known2 .given (l .i))
 
 add-i : tie.Need-add-i Inv-loop μ-loop
 add-i c = search needs
@@ -41,12 +43,14 @@ loop-less c = search needs
 
 loop-again : tie.Need-loop-again Inv-loop μ-loop
 loop-again c =
-    (search needs, sum-step _ _ _ _ (c .before .before .before .loop .inv .1) (c .wide .ensures))
+    let entered : tie.At-loop Inv-loop μ-loop = search needs in
+    (search needs, sum-step _ _ _ _ (entered .loop .inv .1) (c .wide .ensures))
 
 returns : tie.Need-returns Inv-loop μ-loop
 unfolding total
 returns c =
-    let e : c .before .loop .i ≡ length (c .before .before .before .args .weights .now) = omega arith in
+    let given : tie.Start Inv-loop μ-loop = search needs in
+    let e : c .before .loop .i ≡ length (given .args .weights .now) = omega arith in
     rw e at (c .before .loop .inv .1)
 
 pub total-weight-spec : {M : Type 1} → statement M

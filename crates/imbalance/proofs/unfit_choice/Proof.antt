@@ -20,12 +20,14 @@ legal-e-requires c κs = search needs
 returns-3 : tie.Need-returns-3
 unfolding unfitChoice
 returns-3 c =
-    simp (le-ltb 2 (c .before .before .before .before .args .choice) (search needs), eq-eqb _ _ (c .before .before .if2 .left), sym (c .before .legal-e .ensures) ∙ c .if3 .taken)
+    let given : tie.Start = search needs in
+    simp (le-ltb 2 (given .args .choice) (search needs), eq-eqb _ _ (c .before .before .if2 .left), sym (c .before .legal-e .ensures) ∙ c .if3 .taken)
 
 returns-4 : tie.Need-returns-4
 unfolding unfitChoice
 returns-4 c =
-    simp (le-ltb 2 (c .before .before .before .before .args .choice) (search needs), eq-eqb _ _ (c .before .before .if2 .left), sym (c .before .legal-e .ensures) ∙ c .if3 .left)
+    let given : tie.Start = search needs in
+    simp (le-ltb 2 (given .args .choice) (search needs), eq-eqb _ _ (c .before .before .if2 .left), sym (c .before .legal-e .ensures) ∙ c .if3 .left)
 
 pub unfit-choice-spec : {M : Type 1} → statement M
 unfit-choice-spec = tie.close (tie.spec returns returns-2 legal-e-requires returns-3 returns-4)

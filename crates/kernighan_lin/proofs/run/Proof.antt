@@ -1,5 +1,4 @@
 -- `kernighan_lin::run` meets its contract. The invariant: what is left of the run from here is the run from the start. Assumes nothing.
-use mathlib.Core.Path.{sym, _∙_}
 use Prim.Native.Nat.{_-_}
 use native.Mathlib.Omega.{arith}
 use lib.ListN.{getD}
@@ -23,72 +22,94 @@ abbrev S : tie.Start Inv-loop μ-loop → Setting
 S s = setting (inRows (s .args .starts .now) (s .args .neighbours .now) (s .args .arc-weights .now)) (getD (s .args .labels .now) 0 0) (s .args .settings .bad)
 
 slice-read-first : tie.Need-slice-read-first Inv-loop μ-loop
-slice-read-first c = c .before .before .before .before .before .before .before .pre .some-vertex
+slice-read-first c = search needs
 
 most-swaps-requires : tie.Need-most-swaps-requires Inv-loop μ-loop
 most-swaps-requires c κs = search needs
 
 cut-of-requires : tie.Need-cut-of-requires Inv-loop μ-loop
-cut-of-requires c κs = c .before .before .before .before .before .before .before .before .before .pre .fit .rows
+cut-of-requires c κs = search needs
 
 loop-holds : tie.Need-loop-holds Inv-loop μ-loop
-loop-holds c = let s = c .before .before .before .before .before .before .before .before .before .before in passing-start (S s) (s .args .settings .swaps) (s .args .settings .passes) (s .args .labels .now) (s .args .gains .now) (s .args .locks .now) (s .args .swaps .now) _ (s .pre) (c .cut-of .ensures)
+loop-holds c =
+    let given : tie.Start Inv-loop μ-loop = search needs in
+    passing-start (S given) (given .args .settings .swaps) (given .args .settings .passes) (given .args .labels .now)
+    (given .args .gains .now) (given .args .locks .now) (given .args .swaps .now) _ (given .pre) (c .cut-of .ensures)
 
 make-pass-requires : tie.Need-make-pass-requires Inv-loop μ-loop
 make-pass-requires c κs =
-    let s = c .before .before .before .before .before .before .before .before .before .before .before .before .before .before .before .before in
-    let l = c .before .before .before .before .before .loop in
-    (rw (l .inv .long) (s .pre .fit), roomy (S s) (s .args .settings .swaps) (s .args .settings .passes) (s .args .labels .now) (l .i) (l .last) (l .labels) (l .gains) (l .locks) (l .swaps) (l .inv) _ (c .before .before .before .before .before .before .before .before .most-swaps .ensures) (s .pre .fit .rows .few), l .inv .last-is)
+    let entered : tie.At-loop Inv-loop μ-loop = search needs in
+    let after-most-swaps : tie.After-most-swaps Inv-loop μ-loop = search needs in
+    let given : tie.Start Inv-loop μ-loop = search needs in
+    let l = entered .loop in (
+      rw (l .inv .long) (given .pre .fit),
+      roomy (S given) (given .args .settings .swaps) (given .args .settings .passes) (given .args .labels .now) (l .i) (l .last) (l .labels)
+          (l .gains) (l .locks) (l .swaps) (l .inv) _ (after-most-swaps .most-swaps .ensures) (given .pre .fit .rows .few),
+      l .inv .last-is,
+    )
 
 add-i : tie.Need-add-i Inv-loop μ-loop
-add-i c = record { fits = omega (arith, c .before .before .before .before .before .before .before .before .before .before .before .before .loop-test .taken, c .before .before .before .before .before .before .before .before .before .before .before .before .before .before .before .before .before .before .before .before .before .before .before .before .pre .few-passes) }
+add-i c = search needs
 
 same-length : tie.Need-same-length Inv-loop μ-loop
-same-length c = c .before .before .before .before .before .before .before .before .make-pass .kept .1 .1 .1 .0 ∙ c .before .before .before .before .before .before .before .before .before .before .before .before .before .before .loop .inv .long
+same-length c = search needs
 
 same-length-2 : tie.Need-same-length-2 Inv-loop μ-loop
-same-length-2 c = c .before .before .before .before .before .before .before .before .make-pass .kept .1 .1 .1 .1 .0 ∙ c .before .before .before .before .before .before .before .before .before .before .before .before .before .before .loop .inv .gains-long ∙ sym (c .before .before .before .before .before .before .before .before .before .before .before .before .before .before .before .before .before .before .before .before .before .before .before .before .before .pre .gains-long)
+same-length-2 c = search needs
 
 same-length-3 : tie.Need-same-length-3 Inv-loop μ-loop
-same-length-3 c = c .before .before .before .before .before .before .before .before .make-pass .kept .1 .1 .1 .1 .1 .0 ∙ c .before .before .before .before .before .before .before .before .before .before .before .before .before .before .loop .inv .locks-long ∙ sym (c .before .before .before .before .before .before .before .before .before .before .before .before .before .before .before .before .before .before .before .before .before .before .before .before .before .pre .locks-long)
+same-length-3 c = search needs
 
 same-length-4 : tie.Need-same-length-4 Inv-loop μ-loop
-same-length-4 c = c .before .before .before .before .before .before .before .before .make-pass .kept .1 .1 .1 .1 .1 .1 .0 ∙ c .before .before .before .before .before .before .before .before .before .before .before .before .before .before .loop .inv .swaps-long ∙ sym (c .before .before .before .before .before .before .before .before .before .before .before .before .before .before .before .before .before .before .before .before .before .before .before .before .before .pre .swaps-long)
+same-length-4 c = search needs
 
 returns : tie.Need-returns Inv-loop μ-loop
 returns c =
-    let s = c .before .before .before .before .before .before .before .before .before .before .before .before .before .before .before .before .before .before .before .before .before .before .before .before .before in
-    let l = c .before .before .before .before .before .before .before .before .before .before .before .before .before .before .loop in
-    let m = c .before .before .before .before .before .before .before .before .make-pass in
-    pass-ends (S s) (s .args .settings .swaps) (s .args .settings .passes) (s .args .labels .now) (l .i) (l .last) (l .labels) (l .gains) (l .locks) (l .swaps) (l .inv) (c .before .before .before .before .before .before .before .before .before .before .before .before .before .loop-test .taken) _ (c .before .before .before .before .before .before .before .before .before .before .before .before .before .before .before .before .before .most-swaps .ensures) _ (m .ensures .0) _ (m .ensures .1) _ (c .before .before .before .before .before .before .before .before .before .before .before .before .before .before .before .cut-of .ensures) (omega (arith, c .if1 .taken))
+    let after-make-pass : tie.After-make-pass Inv-loop μ-loop = search needs in
+    let turn : tie.In-loop Inv-loop μ-loop = search needs in
+    let after-cut-of : tie.After-cut-of Inv-loop μ-loop = search needs in
+    let after-most-swaps : tie.After-most-swaps Inv-loop μ-loop = search needs in
+    let given : tie.Start Inv-loop μ-loop = search needs in
+    let l = turn .before .loop in
+    let m = after-make-pass .make-pass in
+    pass-ends (S given) (given .args .settings .swaps) (given .args .settings .passes) (given .args .labels .now) (l .i) (l .last)
+    (l .labels) (l .gains) (l .locks) (l .swaps) (l .inv) (turn .loop-test .taken) _ (after-most-swaps .most-swaps .ensures) _
+    (m .ensures .0) _ (m .ensures .1) _ (after-cut-of .cut-of .ensures) (omega (arith, c .if1 .taken))
 
 loop-less : tie.Need-loop-less Inv-loop μ-loop
-loop-less c = omega (arith, c .before .before .before .before .before .before .before .before .before .before .before .before .before .loop-test .taken)
+loop-less c = search needs
 
 loop-again : tie.Need-loop-again Inv-loop μ-loop
 loop-again c =
-    let s = c .before .before .before .before .before .before .before .before .before .before .before .before .before .before .before .before .before .before .before .before .before .before .before .before .before in
-    let l = c .before .before .before .before .before .before .before .before .before .before .before .before .before .before .loop in
-    let m = c .before .before .before .before .before .before .before .before .make-pass in
-    pass-on (S s) (s .args .settings .swaps) (s .args .settings .passes) (s .args .labels .now) (l .i) (l .last) (l .labels) (l .gains) (l .locks) (l .swaps) (l .inv) (c .before .before .before .before .before .before .before .before .before .before .before .before .before .loop-test .taken) _ (c .before .before .before .before .before .before .before .before .before .before .before .before .before .before .before .before .before .most-swaps .ensures) _ (m .ensures .0) _ (m .ensures .1) _ _ _ (m .kept .1 .1 .1 .0) (m .kept .1 .1 .1 .1 .0) (m .kept .1 .1 .1 .1 .1 .0) (m .kept .1 .1 .1 .1 .1 .1 .0) (c .if1 .left)
+    let after-make-pass : tie.After-make-pass Inv-loop μ-loop = search needs in
+    let turn : tie.In-loop Inv-loop μ-loop = search needs in
+    let after-most-swaps : tie.After-most-swaps Inv-loop μ-loop = search needs in
+    let given : tie.Start Inv-loop μ-loop = search needs in
+    let l = turn .before .loop in
+    let m = after-make-pass .make-pass in
+    pass-on (S given) (given .args .settings .swaps) (given .args .settings .passes) (given .args .labels .now) (l .i) (l .last) (l .labels)
+    (l .gains) (l .locks) (l .swaps) (l .inv) (turn .loop-test .taken) _ (after-most-swaps .most-swaps .ensures) _ (m .ensures .0) _
+    (m .ensures .1) _ _ _ (m .kept .1 .1 .1 .0) (m .kept .1 .1 .1 .1 .0) (m .kept .1 .1 .1 .1 .1 .0) (m .kept .1 .1 .1 .1 .1 .1 .0)
+    (c .if1 .left)
 
 same-length-5 : tie.Need-same-length-5 Inv-loop μ-loop
 same-length-5 c = c .before .loop .inv .long
 
 same-length-6 : tie.Need-same-length-6 Inv-loop μ-loop
-same-length-6 c = c .before .loop .inv .gains-long ∙ sym (c .before .before .before .before .before .before .before .before .before .before .before .before .pre .gains-long)
+same-length-6 c = search needs
 
 same-length-7 : tie.Need-same-length-7 Inv-loop μ-loop
-same-length-7 c = c .before .loop .inv .locks-long ∙ sym (c .before .before .before .before .before .before .before .before .before .before .before .before .pre .locks-long)
+same-length-7 c = search needs
 
 same-length-8 : tie.Need-same-length-8 Inv-loop μ-loop
-same-length-8 c = c .before .loop .inv .swaps-long ∙ sym (c .before .before .before .before .before .before .before .before .before .before .before .before .pre .swaps-long)
+same-length-8 c = search needs
 
 returns-2 : tie.Need-returns-2 Inv-loop μ-loop
 returns-2 c =
-    let s = c .before .before .before .before .before .before .before .before .before .before .before .before in
+    let given : tie.Start Inv-loop μ-loop = search needs in
     let l = c .before .loop in
-    limit-ends (S s) (s .args .settings .swaps) (s .args .settings .passes) (s .args .labels .now) (l .i) (l .last) (l .labels) (l .gains) (l .locks) (l .swaps) (l .inv) _ (c .before .before .cut-of .ensures) (c .loop-test .left)
+    limit-ends (S given) (given .args .settings .swaps) (given .args .settings .passes) (given .args .labels .now) (l .i) (l .last)
+    (l .labels) (l .gains) (l .locks) (l .swaps) (l .inv) _ (c .before .before .cut-of .ensures) (c .loop-test .left)
 
 pub run-spec : {M : Type 1} → statement M
 run-spec =

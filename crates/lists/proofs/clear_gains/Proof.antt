@@ -9,8 +9,6 @@ use Rattle.lists.proofs.Fills.{written-none, written-more, length-writt
 use borrow.Author.Needs.{needs}
 use Rattle.lists.proofs.clear_gains.Statement.{statement}
 use Rattle.lists.proofs.clear_gains.Tie as tie
-use Rattle.lists.proofs.clear_gains.Reads as reads
-use Rattle.lists.proofs.clear_gains.Lts as lts
 
 abbrev Inv-loop : tie.InvT-loop
 Inv-loop xs₀ n i₀ xs i = (i ≤ n) × (xs ≡ filled (pos 0) i xs₀)

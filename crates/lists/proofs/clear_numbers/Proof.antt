@@ -8,8 +8,6 @@ use Rattle.lists.proofs.Fills.{written-none, written-more, length-writt
 use borrow.Author.Needs.{needs}
 use Rattle.lists.proofs.clear_numbers.Statement.{statement}
 use Rattle.lists.proofs.clear_numbers.Tie as tie
-use Rattle.lists.proofs.clear_numbers.Reads as reads
-use Rattle.lists.proofs.clear_numbers.Lts as lts
 
 abbrev Inv-loop : tie.InvT-loop
 Inv-loop xs₀ n i₀ xs i = (i ≤ n) × (xs ≡ filled 0 i xs₀)

@@ -16,7 +16,10 @@ same-length-2 : tie.Need-same-length-2
 same-length-2 c = search needs
 
 returns : tie.Need-returns
-returns c = put-as (runs-two _ _ _ _ _ _ (c .before .before .before .before .before .before .before .if1 .taken)) (omega arith) (c .before .before .before .before .refine-two .ensures)
+returns c =
+    let after-refine-two : tie.After-refine-two = search needs in
+    let then1 : tie.Then1 = search needs in
+    put-as (runs-two _ _ _ _ _ _ (then1 .if1 .taken)) (omega arith) (after-refine-two .refine-two .ensures)
 
 refine-many-requires : tie.Need-refine-many-requires
 refine-many-requires c κs = search needs
@@ -28,7 +31,10 @@ same-length-4 : tie.Need-same-length-4
 same-length-4 c = search needs
 
 returns-2 : tie.Need-returns-2
-returns-2 c = put-as (runs-many _ _ _ _ _ _ (c .before .before .before .before .before .before .before .if1 .left)) (omega arith) (c .before .before .before .before .refine-many .ensures)
+returns-2 c =
+    let after-refine-many : tie.After-refine-many = search needs in
+    let else1 : tie.Else1 = search needs in
+    put-as (runs-many _ _ _ _ _ _ (else1 .if1 .left)) (omega arith) (after-refine-many .refine-many .ensures)
 
 pub refine-lists-spec : {M : Type 1} → statement M
 refine-lists-spec =

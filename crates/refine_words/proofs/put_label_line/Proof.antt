@@ -17,7 +17,11 @@ same-length : tie.Need-same-length
 same-length c = search needs
 
 returns : tie.Need-returns
-returns c = put-whole _ (c .before .before .before .before .before .before .before .before .before .before .before .before .before .before .before .pre) (c .before .before .before .before .before .before .before .before .before .before .put-word .ensures) (c .before .before .before .before .before .before .put-labels .ensures) (c .before .before .put-byte .ensures)
+returns c =
+    let after-put-labels : tie.After-put-labels = search needs in
+    let after-put-word : tie.After-put-word = search needs in
+    let given : tie.Start = search needs in
+    put-whole _ (given .pre) (after-put-word .put-word .ensures) (after-put-labels .put-labels .ensures) (c .before .before .put-byte .ensures)
 
 pub put-label-line-spec : {M : Type 1} → statement M
 put-label-line-spec =

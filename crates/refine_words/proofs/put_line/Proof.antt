@@ -17,7 +17,11 @@ same-length : tie.Need-same-length
 same-length c = search needs
 
 returns : tie.Need-returns
-returns c = put-whole _ (c .before .before .before .before .before .before .before .before .before .before .before .before .before .before .before .pre) (c .before .before .before .before .before .before .before .before .before .before .put-word .ensures) (c .before .before .before .before .before .before .put-numbers .ensures) (c .before .before .put-byte .ensures)
+returns c =
+    let after-put-numbers : tie.After-put-numbers = search needs in
+    let after-put-word : tie.After-put-word = search needs in
+    let given : tie.Start = search needs in
+    put-whole _ (given .pre) (after-put-word .put-word .ensures) (after-put-numbers .put-numbers .ensures) (c .before .before .put-byte .ensures)
 
 pub put-line-spec : {M : Type 1} → statement M
 put-line-spec =

@@ -25,7 +25,10 @@ shared-slice-read-put-number : tie.Need-shared-slice-read-put-number Inv-loop μ
 shared-slice-read-put-number c = search needs
 
 put-number-requires : tie.Need-put-number-requires Inv-loop μ-loop
-put-number-requires c κs = here-room (c .before .before .before .before .before .before .pre) (c .before .before .loop-test .taken) (c .before .before .before .loop .inv)
+put-number-requires c κs =
+    let entered : tie.At-loop Inv-loop μ-loop = search needs in
+    let given : tie.Start Inv-loop μ-loop = search needs in
+    here-room (given .pre) (c .before .before .loop-test .taken) (entered .loop .inv)
 
 add-i : tie.Need-add-i Inv-loop μ-loop
 add-i c = search needs
@@ -34,7 +37,11 @@ loop-less : tie.Need-loop-less Inv-loop μ-loop
 loop-less c = search needs
 
 loop-again : tie.Need-loop-again Inv-loop μ-loop
-loop-again c = here-more (c .before .before .before .before .before .before .before .before .before .pre) (c .before .before .before .before .before .loop-test .taken) (c .before .before .before .before .before .before .loop .inv) (numbers-next _ _ _ (c .before .before .before .before .before .loop-test .taken) refl) (c .before .before .put-number .ensures)
+loop-again c =
+    let turn : tie.In-loop Inv-loop μ-loop = search needs in
+    let given : tie.Start Inv-loop μ-loop = search needs in
+    here-more (given .pre) (turn .loop-test .taken) (turn .before .loop .inv) (numbers-next _ _ _ (turn .loop-test .taken) refl)
+    (c .before .before .put-number .ensures)
 
 same-length : tie.Need-same-length Inv-loop μ-loop
 same-length c = search needs

@@ -22,7 +22,10 @@ shared-slice-read-put-byte : tie.Need-shared-slice-read-put-byte Inv-loop μ-loo
 shared-slice-read-put-byte c = search needs
 
 put-byte-requires : tie.Need-put-byte-requires Inv-loop μ-loop
-put-byte-requires c κs = here-room (omega (arith, c .before .before .before .before .before .before .pre)) (c .before .before .loop-test .taken) (c .before .before .before .loop .inv)
+put-byte-requires c κs =
+    let entered : tie.At-loop Inv-loop μ-loop = search needs in
+    let given : tie.Start Inv-loop μ-loop = search needs in
+    here-room (omega (arith, given .pre)) (c .before .before .loop-test .taken) (entered .loop .inv)
 
 add-i : tie.Need-add-i Inv-loop μ-loop
 add-i c = search needs
@@ -31,7 +34,11 @@ loop-less : tie.Need-loop-less Inv-loop μ-loop
 loop-less c = search needs
 
 loop-again : tie.Need-loop-again Inv-loop μ-loop
-loop-again c = here-more (omega (arith, c .before .before .before .before .before .before .before .before .before .pre)) (c .before .before .before .before .before .loop-test .taken) (c .before .before .before .before .before .before .loop .inv) (word-next _ _ (c .before .before .before .before .before .loop-test .taken)) (c .before .before .put-byte .ensures)
+loop-again c =
+    let turn : tie.In-loop Inv-loop μ-loop = search needs in
+    let given : tie.Start Inv-loop μ-loop = search needs in
+    here-more (omega (arith, given .pre)) (turn .loop-test .taken) (turn .before .loop .inv) (word-next _ _ (turn .loop-test .taken))
+    (c .before .before .put-byte .ensures)
 
 same-length : tie.Need-same-length Inv-loop μ-loop
 same-length c = search needs

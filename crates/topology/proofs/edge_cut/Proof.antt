@@ -4,10 +4,6 @@ use Rattle.topology.proofs.Numbers.{answer-refused, answer-done, edge-c
 use borrow.Author.Needs.{needs}
 use Rattle.topology.proofs.edge_cut.Statement.{statement}
 use Rattle.topology.proofs.edge_cut.Tie as tie
-use Rattle.topology.proofs.edge_cut.Reads as reads
-use Rattle.topology.proofs.edge_cut.Lts as lts
-use Rattle.topology.proofs.cut.cut_of.Reads as cut-of-reads
-use Rattle.topology.proofs.edge_cut_number.Reads as edge-cut-number-reads
 
 edge-cut-number-requires : tie.Need-edge-cut-number-requires
 edge-cut-number-requires c κs = search needs

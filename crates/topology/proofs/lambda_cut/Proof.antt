@@ -4,10 +4,6 @@ use Rattle.topology.proofs.Numbers.{answer-refused, answer-done, lambda
 use borrow.Author.Needs.{needs}
 use Rattle.topology.proofs.lambda_cut.Statement.{statement}
 use Rattle.topology.proofs.lambda_cut.Tie as tie
-use Rattle.topology.proofs.lambda_cut.Reads as reads
-use Rattle.topology.proofs.lambda_cut.Lts as lts
-use Rattle.topology.proofs.lambda.lambda_of.Reads as lambda-of-reads
-use Rattle.topology.proofs.lambda_cut_number.Reads as lambda-cut-number-reads
 
 lambda-cut-number-requires : tie.Need-lambda-cut-number-requires
 lambda-cut-number-requires c κs = search needs

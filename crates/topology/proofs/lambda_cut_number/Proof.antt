@@ -5,10 +5,6 @@ use Rattle.topology.specs.Number.{lambdaCutNumber}
 use borrow.Author.Needs.{needs}
 use Rattle.topology.proofs.lambda_cut_number.Statement.{statement}
 use Rattle.topology.proofs.lambda_cut_number.Tie as tie
-use Rattle.topology.proofs.lambda_cut_number.Reads as reads
-use Rattle.topology.proofs.lambda_cut_number.Lts as lts
-use Rattle.imbalance.proofs.label_above.Reads as label-above-reads
-use Rattle.topology.proofs.graph_number.Reads as graph-number-reads
 
 graph-number-requires : tie.Need-graph-number-requires
 graph-number-requires c κs = search needs
@@ -22,11 +18,21 @@ label-above-requires c κs = search needs
 
 returns-2 : tie.Need-returns-2
 unfolding lambdaCutNumber
-returns-2 c = rw (or-else-then _ _ _ (c .before .before .before .graph-number .ensures) (c .before .before .if1 .left), sym (c .before .label-above .ensures) ∙ c .if2 .taken)
+returns-2 c =
+    let after-graph-number : tie.After-graph-number = search needs in
+    rw (
+      or-else-then _ _ _ (after-graph-number .graph-number .ensures) (c .before .before .if1 .left),
+      sym (c .before .label-above .ensures) ∙ c .if2 .taken,
+    )
 
 returns-3 : tie.Need-returns-3
 unfolding lambdaCutNumber
-returns-3 c = rw (or-else-then _ _ _ (c .before .before .before .graph-number .ensures) (c .before .before .if1 .left), sym (c .before .label-above .ensures) ∙ c .if2 .left)
+returns-3 c =
+    let after-graph-number : tie.After-graph-number = search needs in
+    rw (
+      or-else-then _ _ _ (after-graph-number .graph-number .ensures) (c .before .before .if1 .left),
+      sym (c .before .label-above .ensures) ∙ c .if2 .left,
+    )
 
 pub lambda-cut-number-spec : {M : Type 1} → statement M
 lambda-cut-number-spec =

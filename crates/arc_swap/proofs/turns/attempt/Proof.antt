@@ -28,7 +28,9 @@ index-requires : tie.Need-index-requires
 index-requires c κs = search needs
 
 try-vertex-requires : tie.Need-try-vertex-requires
-try-vertex-requires c κs = tryable _ _ _ _ (c .before .before .before .before .before .before .before .before .before .before .before .pre) _ (c .before .before .index .ensures)
+try-vertex-requires c κs =
+    let given : tie.Start = search needs in
+    tryable _ _ _ _ (given .pre) _ (c .before .before .index .ensures)
 
 enum-known-trial : tie.Need-enum-known-trial
 enum-known-trial c = search needs
@@ -37,10 +39,18 @@ same-length : tie.Need-same-length
 same-length c = search needs
 
 returns : tie.Need-returns
-returns c = attempt-stays _ _ _ _ (c .before .before .before .before .before .before .before .before .before .before .before .before .before .pre) _ (c .before .before .before .before .index .ensures) _ (c .before .try-vertex .ensures) (not-goes _ (c .match .keys2))
+returns c =
+    let after-index : tie.After-index = search needs in
+    let given : tie.Start = search needs in
+    attempt-stays _ _ _ _ (given .pre) _ (after-index .index .ensures) _ (c .before .try-vertex .ensures) (not-goes _ (c .match .keys2))
 
 move-vertex-requires : tie.Need-move-vertex-requires
-move-vertex-requires c κs = move-asked _ _ _ _ (c .before .before .before .before .before .before .before .before .before .before .before .before .before .before .before .before .before .pre) _ (c .before .before .before .before .before .before .before .before .index .ensures) _ _ _ (c .before .before .before .before .before .try-vertex .ensures) (c .before .before .before .trial .given .1)
+move-vertex-requires c κs =
+    let after-trial : tie.After-trial = search needs in
+    let after-try-vertex : tie.After-try-vertex = search needs in
+    let after-index : tie.After-index = search needs in
+    let given : tie.Start = search needs in
+    move-asked _ _ _ _ (given .pre) _ (after-index .index .ensures) _ _ _ (after-try-vertex .try-vertex .ensures) (after-trial .trial .given .1)
 
 same-length-2 : tie.Need-same-length-2
 same-length-2 c = search needs
@@ -48,8 +58,19 @@ same-length-2 c = search needs
 same-length-3 : tie.Need-same-length-3
 same-length-3 c = search needs
 
+-- the stations that lie far back, each from a nearer one
+abbrev start-of : tie.After-index → tie.Start
+start-of c = search needs
+
 returns-2 : tie.Need-returns-2
-returns-2 c = attempt-goes _ _ _ _ (c .before .before .before .before .before .before .before .before .before .before .before .before .before .before .before .before .before .before .before .before .before .before .pre) _ (c .before .before .before .before .before .before .before .before .before .before .before .before .before .index .ensures) _ _ (sym (c .before .before .before .before .before .before .before .before .trial .given .1) ∙ c .before .before .before .before .before .before .before .before .before .before .try-vertex .ensures) _ _ _ (c .before .before .before .before .move-vertex .ensures)
+returns-2 c =
+    let after-move-vertex : tie.After-move-vertex = search needs in
+    let after-trial : tie.After-trial = search needs in
+    let after-try-vertex : tie.After-try-vertex = search needs in
+    let after-index : tie.After-index = search needs in
+    let given = start-of after-index in
+    attempt-goes _ _ _ _ (given .pre) _ (after-index .index .ensures) _ _
+    (sym (after-trial .trial .given .1) ∙ after-try-vertex .try-vertex .ensures) _ _ _ (after-move-vertex .move-vertex .ensures)
 
 pub attempt-spec : {M : Type 1} → statement M
 attempt-spec =

@@ -36,21 +36,35 @@ index-requires-2 : tie.Need-index-requires-2 Inv-loop μ-loop
 index-requires-2 c κs = search needs
 
 loop-holds : tie.Need-loop-holds Inv-loop μ-loop
-loop-holds c = begins _ _ _ (c .before .before .before .before .before .before .before .before .pre .0) (c .before .before .before .before .before .before .before .before .pre .1) _ _ (c .before .before .index .ensures) (c .index2 .ensures)
+loop-holds c =
+    let given : tie.Start Inv-loop μ-loop = search needs in
+    begins _ _ _ (given .pre .0) (given .pre .1) _ _ (c .before .before .index .ensures) (c .index2 .ensures)
 
 -- the arc is one of the list's
-inside : (c : tie.In-loop Inv-loop μ-loop) → let s = c .before .before .before .before .before .before .before .before .before .before in let e = c .before .loop .e in (e < length (s .args .neighbours .now)) × (e < length (s .args .arc-weights .now)) × (e < 65535)
+inside :
+    (c : tie.In-loop Inv-loop μ-loop)
+    → let given : tie.Start Inv-loop μ-loop = search needs in
+    let e = c .before .loop .e in
+    (e < length (given .args .neighbours .now)) × (e < length (given .args .arc-weights .now)) × (e < 65535)
 inside c =
-    let s = c .before .before .before .before .before .before .before .before .before .before in
+    let given : tie.Start Inv-loop μ-loop = search needs in
     let l = c .before .loop in
-    arc-inside (length (s .args .labels .now)) (inRows (s .args .starts .now) (s .args .neighbours .now) (s .args .arc-weights .now)) (s .pre .0) (s .args .v) (s .pre .1) (l .e) (omega (arith, c .loop-test .taken, l .inv .end-is))
+    arc-inside (length (given .args .labels .now))
+    (inRows (given .args .starts .now) (given .args .neighbours .now) (given .args .arc-weights .now)) (given .pre .0) (given .args .v)
+    (given .pre .1) (l .e) (omega (arith, c .loop-test .taken, l .inv .end-is))
 
 -- and goes to a vertex
-to-vertex : (c : tie.After-index3 Inv-loop μ-loop) → (c .index3 .result < length (c .before .before .before .before .before .before .before .before .before .before .before .before .args .labels .now)) × (c .index3 .result < 4096)
+to-vertex :
+    (c : tie.After-index3 Inv-loop μ-loop)
+    → let given : tie.Start Inv-loop μ-loop = search needs in
+    (c .index3 .result < length (given .args .labels .now)) × (c .index3 .result < 4096)
 to-vertex c =
-    let s = c .before .before .before .before .before .before .before .before .before .before .before .before in
-    let l = c .before .before .before .loop in
-    arc-goes (length (s .args .labels .now)) (inRows (s .args .starts .now) (s .args .neighbours .now) (s .args .arc-weights .now)) (s .pre .0) (s .args .v) (s .pre .1) (l .e) (omega (arith, c .before .before .loop-test .taken, l .inv .end-is)) (c .index3 .result) (c .index3 .ensures)
+    let entered : tie.At-loop Inv-loop μ-loop = search needs in
+    let given : tie.Start Inv-loop μ-loop = search needs in
+    let l = entered .loop in
+    arc-goes (length (given .args .labels .now))
+    (inRows (given .args .starts .now) (given .args .neighbours .now) (given .args .arc-weights .now)) (given .pre .0) (given .args .v)
+    (given .pre .1) (l .e) (omega (arith, c .before .before .loop-test .taken, l .inv .end-is)) (c .index3 .result) (c .index3 .ensures)
 
 mul-index-3 : tie.Need-mul-index-3 Inv-loop μ-loop
 mul-index-3 c = omega (arith, inside c .2)
@@ -74,7 +88,10 @@ shared-slice-read-if1-2 : tie.Need-shared-slice-read-if1-2 Inv-loop μ-loop
 shared-slice-read-if1-2 c = search needs
 
 returns : tie.Need-returns Inv-loop μ-loop
-returns c = found _ _ _ _ _ (c .before .before .before .before .before .before .loop .inv) (c .before .before .before .before .before .loop-test .taken) _ (c .before .before .before .index3 .ensures) (c .if1 .taken)
+returns c =
+    let after-index3 : tie.After-index3 Inv-loop μ-loop = search needs in
+    let turn : tie.In-loop Inv-loop μ-loop = search needs in
+    found _ _ _ _ _ (turn .before .loop .inv) (turn .loop-test .taken) _ (after-index3 .index3 .ensures) (c .if1 .taken)
 
 add-e : tie.Need-add-e Inv-loop μ-loop
 add-e c = search needs
@@ -83,7 +100,10 @@ loop-less : tie.Need-loop-less Inv-loop μ-loop
 loop-less c = search needs
 
 loop-again : tie.Need-loop-again Inv-loop μ-loop
-loop-again c = passed _ _ _ _ _ (c .before .before .before .before .before .before .loop .inv) (c .before .before .before .before .before .loop-test .taken) _ (c .before .before .before .index3 .ensures) (c .if1 .left)
+loop-again c =
+    let after-index3 : tie.After-index3 Inv-loop μ-loop = search needs in
+    let turn : tie.In-loop Inv-loop μ-loop = search needs in
+    passed _ _ _ _ _ (turn .before .loop .inv) (turn .loop-test .taken) _ (after-index3 .index3 .ensures) (c .if1 .left)
 
 returns-2 : tie.Need-returns-2 Inv-loop μ-loop
 returns-2 c = nowhere _ _ _ _ _ (c .before .loop .inv) (c .loop-test .left)

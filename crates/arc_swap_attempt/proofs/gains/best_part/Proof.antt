@@ -9,8 +9,6 @@ use Rattle.arc_swap_attempt.proofs.Aims.{none-passed, pass-own, pass-ta
 use borrow.Author.Needs.{needs}
 use Rattle.arc_swap_attempt.proofs.gains.best_part.Statement.{statement}
 use Rattle.arc_swap_attempt.proofs.gains.best_part.Tie as tie
-use Rattle.arc_swap_attempt.proofs.gains.best_part.Reads as reads
-use Rattle.arc_swap_attempt.proofs.gains.best_part.Lts as lts
 
 abbrev Inv-loop : tie.InvT-loop
 Inv-loop own parts at part₀ sum₀ t₀ part sum t = (t ≤ parts) × (_≡_ {A = Target} (record { part = part; sum = sum }) (picked own (λ u. getD at u 0) (bestBy (λ u. getD at u 0) own t)))
@@ -49,9 +47,10 @@ loop-less c = search needs
 -- src/gains.rt:46:5
 loop-again : tie.Need-loop-again Inv-loop μ-loop
 loop-again c =
+    let given : tie.Start Inv-loop μ-loop = search needs in
     let e = c .before .before .loop .inv .1 in
-    let sums : ℕ → ℕ = λ u. getD (c .before .before .before .before .args .sums .at) u 0 in
-    let own = c .before .before .before .before .args .own in
+    let sums : ℕ → ℕ = λ u. getD (given .args .sums .at) u 0 in
+    let own = given .args .own in
     let t = c .before .before .loop .t in (
       search needs,
       ⊎-elim
@@ -63,7 +62,8 @@ loop-again c =
 -- src/gains.rt:38:1
 returns : tie.Need-returns Inv-loop μ-loop
 returns c =
-    let e : c .before .loop .t ≡ c .before .before .before .args .parts = omega arith in
+    let given : tie.Start Inv-loop μ-loop = search needs in
+    let e : c .before .loop .t ≡ given .args .parts = omega arith in
     rw e at (c .before .loop .inv .1)
 
 pub best-part-spec : {M : Type 1} → statement M

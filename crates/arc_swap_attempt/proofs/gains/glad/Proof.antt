@@ -3,11 +3,6 @@ use Rattle.arc_swap_attempt.proofs.Tried.{own-below, glad-by}
 use borrow.Author.Needs.{needs}
 use Rattle.arc_swap_attempt.proofs.gains.glad.Statement.{statement}
 use Rattle.arc_swap_attempt.proofs.gains.glad.Tie as tie
-use Rattle.arc_swap_attempt.proofs.gains.glad.Reads as reads
-use Rattle.arc_swap_attempt.proofs.gains.glad.Lts as lts
-use Rattle.arc_swap_attempt.proofs.gains.best_part.Reads as best-part-reads
-use Rattle.arc_swap_attempt.proofs.gains.sums_of.Reads as sums-of-reads
-use Rattle.lists.proofs.index.Reads as index-reads
 
 -- src/gains.rt:70:28
 mul-index : tie.Need-mul-index
@@ -31,15 +26,28 @@ best-part-requires c κs = search needs
 
 -- src/gains.rt:73:5
 mul-result : tie.Need-mul-result
-mul-result c = omega (arith, own-below _ _ _ _ (c .before .before .before .before .before .before .before .before .pre .0) (c .before .before .before .before .before .before .before .before .pre .1) _ _ _ (c .before .before .index .ensures) (c .before .sums-of .ensures) (c .best-part .ensures))
+mul-result c =
+    let given : tie.Start = search needs in
+    omega (
+      arith,
+      own-below _ _ _ _ (given .pre .0) (given .pre .1) _ _ _ (c .before .before .index .ensures) (c .before .sums-of .ensures)
+          (c .best-part .ensures),
+    )
 
 -- src/gains.rt:73:5
 element-copy-out-result : tie.Need-element-copy-out-result
-element-copy-out-result c = own-below _ _ _ _ (c .before .before .before .before .before .before .before .before .pre .0) (c .before .before .before .before .before .before .before .before .pre .1) _ _ _ (c .before .before .index .ensures) (c .before .sums-of .ensures) (c .best-part .ensures)
+element-copy-out-result c =
+    let given : tie.Start = search needs in
+    own-below _ _ _ _ (given .pre .0) (given .pre .1) _ _ _ (c .before .before .index .ensures) (c .before .sums-of .ensures) (c .best-part .ensures)
 
 -- src/gains.rt:59:1
 returns : tie.Need-returns
-returns c = glad-by _ _ _ _ (c .before .before .before .before .before .before .before .before .before .before .pre .0) (c .before .before .before .before .before .before .before .before .before .before .pre .1) _ _ _ (c .before .before .before .before .index .ensures) (c .before .before .before .sums-of .ensures) (c .before .before .best-part .ensures)
+returns c =
+    let after-sums-of : tie.After-sums-of = search needs in
+    let after-index : tie.After-index = search needs in
+    let given : tie.Start = search needs in
+    glad-by _ _ _ _ (given .pre .0) (given .pre .1) _ _ _ (after-index .index .ensures) (after-sums-of .sums-of .ensures)
+    (c .before .before .best-part .ensures)
 
 pub glad-spec : {M : Type 1} → statement M
 glad-spec =

@@ -7,10 +7,6 @@ use Rattle.arc_swap_attempt.proofs.Rowsums.{Passed, begins, room, turn,
 use borrow.Author.Needs.{needs}
 use Rattle.arc_swap_attempt.proofs.gains.sums_of.Statement.{statement}
 use Rattle.arc_swap_attempt.proofs.gains.sums_of.Tie as tie
-use Rattle.arc_swap_attempt.proofs.gains.sums_of.Reads as reads
-use Rattle.arc_swap_attempt.proofs.gains.sums_of.Lts as lts
-use Rattle.lists.proofs.index.Reads as index-reads
-use Rattle.lists.proofs.wide.Reads as wide-reads
 
 abbrev Inv-loop : tie.InvT-loop
 Inv-loop starts neighbours arc-weights labels parts v end e₀ at₀ e at = Passed (inRows starts neighbours arc-weights) labels v end e at
@@ -48,27 +44,42 @@ index-requires-2 c κs = search needs
 
 -- src/gains.rt:28:5
 loop-holds : tie.Need-loop-holds Inv-loop μ-loop
-loop-holds c = begins _ _ _ (c .before .before .before .before .before .before .before .before .pre .0 .rows) (c .before .before .before .before .before .before .before .before .pre .1) _ _ (c .before .before .index .ensures) (c .index2 .ensures)
+loop-holds c =
+    let given : tie.Start Inv-loop μ-loop = search needs in
+    begins _ _ _ (given .pre .0 .rows) (given .pre .1) _ _ (c .before .before .index .ensures) (c .index2 .ensures)
 
 -- the arc is one of the lists
-inside : (c : tie.In-loop Inv-loop μ-loop) → let s = c .before .before .before .before .before .before .before .before .before .before in let e = c .before .loop .e in (e < length (s .args .neighbours .now)) × (e < length (s .args .arc-weights .now)) × (e < 65535)
+inside :
+    (c : tie.In-loop Inv-loop μ-loop)
+    → let given : tie.Start Inv-loop μ-loop = search needs in
+    let e = c .before .loop .e in
+    (e < length (given .args .neighbours .now)) × (e < length (given .args .arc-weights .now)) × (e < 65535)
 inside c =
-    let s = c .before .before .before .before .before .before .before .before .before .before in
+    let given : tie.Start Inv-loop μ-loop = search needs in
     let l = c .before .loop in
-    arc-inside (length (s .args .labels .now)) (inRows (s .args .starts .now) (s .args .neighbours .now) (s .args .arc-weights .now)) (s .pre .0 .rows) (s .args .v) (s .pre .1) (l .e) (omega (arith, c .loop-test .taken, l .inv .end-is))
+    arc-inside (length (given .args .labels .now))
+    (inRows (given .args .starts .now) (given .args .neighbours .now) (given .args .arc-weights .now)) (given .pre .0 .rows)
+    (given .args .v) (given .pre .1) (l .e) (omega (arith, c .loop-test .taken, l .inv .end-is))
 
 -- and goes to a vertex
-goes : (c : tie.After-index3 Inv-loop μ-loop) → (c .index3 .result < length (c .before .before .before .before .before .before .before .before .before .before .before .before .args .labels .now)) × (c .index3 .result < 4096)
+goes :
+    (c : tie.After-index3 Inv-loop μ-loop)
+    → let given : tie.Start Inv-loop μ-loop = search needs in
+    (c .index3 .result < length (given .args .labels .now)) × (c .index3 .result < 4096)
 goes c =
-    let s = c .before .before .before .before .before .before .before .before .before .before .before .before in
-    let l = c .before .before .before .loop in
-    arc-goes (length (s .args .labels .now)) (inRows (s .args .starts .now) (s .args .neighbours .now) (s .args .arc-weights .now)) (s .pre .0 .rows) (s .args .v) (s .pre .1) (l .e) (omega (arith, c .before .before .loop-test .taken, l .inv .end-is)) (c .index3 .result) (c .index3 .ensures)
+    let entered : tie.At-loop Inv-loop μ-loop = search needs in
+    let given : tie.Start Inv-loop μ-loop = search needs in
+    let l = entered .loop in
+    arc-goes (length (given .args .labels .now))
+    (inRows (given .args .starts .now) (given .args .neighbours .now) (given .args .arc-weights .now)) (given .pre .0 .rows)
+    (given .args .v) (given .pre .1) (l .e) (omega (arith, c .before .before .loop-test .taken, l .inv .end-is)) (c .index3 .result)
+    (c .index3 .ensures)
 
 -- whose part is one of the sixteen
 named : (c : tie.After-index4 Inv-loop μ-loop) → c .index4 .result < 16
 named c =
-    let s = c .before .before .before .before .before .before .before .before .before .before .before .before .before .before in
-    omega (arith, s .pre .0 .named (c .before .before .index3 .result) (goes (c .before .before) .0), s .pre .0 .few, c .index4 .ensures)
+    let given : tie.Start Inv-loop μ-loop = search needs in
+    omega (arith, given .pre .0 .named (c .before .before .index3 .result) (goes (c .before .before) .0), given .pre .0 .few, c .index4 .ensures)
 
 -- src/gains.rt:29:30
 mul-index-3 : tie.Need-mul-index-3 Inv-loop μ-loop
@@ -104,11 +115,15 @@ array-read-at c = named c
 
 -- src/gains.rt:31:37
 mul-wide : tie.Need-mul-wide Inv-loop μ-loop
-mul-wide c = omega (arith, inside (c .before .before .before .before) .2)
+mul-wide c =
+    let in-turn : tie.In-loop Inv-loop μ-loop = search needs in
+    omega (arith, inside in-turn .2)
 
 -- src/gains.rt:31:37
 shared-slice-read-wide : tie.Need-shared-slice-read-wide Inv-loop μ-loop
-shared-slice-read-wide c = inside (c .before .before .before .before .before) .1
+shared-slice-read-wide c =
+    let in-turn : tie.In-loop Inv-loop μ-loop = search needs in
+    inside in-turn .1
 
 -- src/gains.rt:31:25
 wide-requires : tie.Need-wide-requires Inv-loop μ-loop
@@ -117,9 +132,15 @@ wide-requires c κs = search needs
 -- src/gains.rt:31:17
 add-at : tie.Need-add-at Inv-loop μ-loop
 add-at c =
-    let s = c .before .before .before .before .before .before .before .before .before .before .before .before .before .before .before .before in
-    let l = c .before .before .before .before .before .before .before .loop in
-    omega (arith, room _ _ _ _ _ _ (l .inv) (s .pre .0 .rows) (s .pre .1) (c .before .before .before .before .before .before .loop-test .taken) _ (named (c .before .before)), c .wide .ensures, c .before .shared-slice-known9 .given (l .e))
+    let in-turn : tie.In-loop Inv-loop μ-loop = search needs in
+    let given : tie.Start Inv-loop μ-loop = search needs in
+    let l = in-turn .before .loop in
+    omega (
+      arith,
+      room _ _ _ _ _ _ (l .inv) (given .pre .0 .rows) (given .pre .1) (in-turn .loop-test .taken) _ (named (c .before .before)),
+      c .wide .ensures,
+      c .before .shared-slice-known9 .given (l .e),
+    )
 
 -- src/gains.rt:31:9
 mul-at-2 : tie.Need-mul-at-2 Inv-loop μ-loop
@@ -140,8 +161,11 @@ loop-less c = search needs
 -- src/gains.rt:28:5
 loop-again : tie.Need-loop-again Inv-loop μ-loop
 loop-again c =
-    let l = c .before .before .before .before .before .before .before .loop in
-    turn _ _ _ _ _ _ (l .inv) (c .before .before .before .before .before .before .loop-test .taken) _ _ _ (c .before .before .before .before .index3 .ensures) (c .before .before .index4 .ensures) (named (c .before .before)) (c .wide .ensures) (omega (arith, c .wide .ensures, c .before .shared-slice-known9 .given (l .e)))
+    let after-index3 : tie.After-index3 Inv-loop μ-loop = search needs in
+    let in-turn : tie.In-loop Inv-loop μ-loop = search needs in
+    let l = in-turn .before .loop in
+    turn _ _ _ _ _ _ (l .inv) (in-turn .loop-test .taken) _ _ _ (after-index3 .index3 .ensures) (c .before .before .index4 .ensures)
+    (named (c .before .before)) (c .wide .ensures) (omega (arith, c .wide .ensures, c .before .shared-slice-known9 .given (l .e)))
 
 -- src/gains.rt:14:1
 returns : tie.Need-returns Inv-loop μ-loop

@@ -3,10 +3,6 @@ use Rattle.arc_swap_attempt.proofs.Moving.{named-move, loads-asked, gai
 use borrow.Author.Needs.{needs}
 use Rattle.arc_swap_attempt.proofs.moves.move_vertex.Statement.{statement}
 use Rattle.arc_swap_attempt.proofs.moves.move_vertex.Tie as tie
-use Rattle.arc_swap_attempt.proofs.moves.move_vertex.Reads as reads
-use Rattle.arc_swap_attempt.proofs.moves.move_vertex.Lts as lts
-use Rattle.arc_swap_attempt.proofs.moves.moved_loads.Reads as moved-loads-reads
-use Rattle.arc_swap_attempt.proofs.moves.push_neighbours.Reads as push-neighbours-reads
 
 -- src/moves.rt:80:37
 mul-moved-loads : tie.Need-mul-moved-loads
@@ -26,7 +22,9 @@ shared-slice-read-moved-loads c = search needs
 
 -- src/moves.rt:80:9
 moved-loads-requires : tie.Need-moved-loads-requires
-moved-loads-requires c κs = loads-asked _ _ _ _ _ _ _ _ _ _ _ (c .before .before .before .before .before .before .before .before .before .pre)
+moved-loads-requires c κs =
+    let given : tie.Start = search needs in
+    loads-asked _ _ _ _ _ _ _ _ _ _ _ (given .pre)
 
 -- src/moves.rt:81:5
 mul-labels : tie.Need-mul-labels
@@ -38,11 +36,15 @@ slice-write-labels c = search needs
 
 -- src/moves.rt:82:9
 push-neighbours-requires : tie.Need-push-neighbours-requires
-push-neighbours-requires c κs = (named-move _ _ _ _ _ (c .before .before .before .before .before .before .before .before .before .before .before .before .pre .ok) (c .before .before .before .before .before .before .before .before .before .before .before .before .pre .here) (c .before .before .before .before .before .before .before .before .before .before .before .before .pre .target), (simp length-set (c .before .before .before .before .before .before .before .before .before .before .before .before .pre .here)), c .before .before .before .before .before .before .before .before .before .before .before .before .pre .room)
+push-neighbours-requires c κs =
+    let given : tie.Start = search needs in
+    (named-move _ _ _ _ _ (given .pre .ok) (given .pre .here) (given .pre .target), (simp length-set (given .pre .here)), given .pre .room)
 
 -- src/moves.rt:86:14
 sub-t27 : tie.Need-sub-t27
-sub-t27 c = gain-within _ _ _ _ _ _ _ _ _ _ _ (c .before .before .before .before .before .before .before .before .before .before .before .before .before .before .before .before .pre)
+sub-t27 c =
+    let given : tie.Start = search needs in
+    gain-within _ _ _ _ _ _ _ _ _ _ _ (given .pre)
 
 -- src/moves.rt:62:1
 same-length : tie.Need-same-length
@@ -52,9 +54,17 @@ same-length c = search needs
 same-length-2 : tie.Need-same-length-2
 same-length-2 c = search needs
 
+-- the stations that lie far back, each from a nearer one
+abbrev start-of : tie.After-moved-loads → tie.Start
+start-of c = search needs
+
 -- src/moves.rt:62:1
 returns : tie.Need-returns
-returns c = moved _ _ _ _ _ _ _ _ _ _ _ (c .before .before .before .before .before .before .before .before .before .before .before .before .before .before .before .before .pre) _ _ _ _ (c .before .before .before .before .before .before .moved-loads .ensures) (c .before .before .before .push-neighbours .ensures)
+returns c =
+    let after-push-neighbours : tie.After-push-neighbours = search needs in
+    let after-moved-loads : tie.After-moved-loads = search needs in
+    let given = start-of after-moved-loads in
+    moved _ _ _ _ _ _ _ _ _ _ _ (given .pre) _ _ _ _ (after-moved-loads .moved-loads .ensures) (after-push-neighbours .push-neighbours .ensures)
 
 pub move-vertex-spec : {M : Type 1} → statement M
 move-vertex-spec =

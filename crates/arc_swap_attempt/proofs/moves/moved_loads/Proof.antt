@@ -5,10 +5,6 @@ use lib.ListN.{getD}
 use borrow.Author.Needs.{needs}
 use Rattle.arc_swap_attempt.proofs.moves.moved_loads.Statement.{statement}
 use Rattle.arc_swap_attempt.proofs.moves.moved_loads.Tie as tie
-use Rattle.arc_swap_attempt.proofs.moves.moved_loads.Reads as reads
-use Rattle.arc_swap_attempt.proofs.moves.moved_loads.Lts as lts
-use Rattle.lists.proofs.index.Reads as index-reads
-use Rattle.lists.proofs.wide.Reads as wide-reads
 
 -- src/moves.rt:18:9
 index-requires : tie.Need-index-requires
@@ -32,7 +28,10 @@ wide-requires c κs = search needs
 
 -- src/moves.rt:22:21
 sub-next : tie.Need-sub-next
-sub-next c = rw (c .wide .ensures, c .before .before .before .index .ensures) (c .before .before .before .before .pre .3)
+sub-next c =
+    let after-index : tie.After-index = search needs in
+    let given : tie.Start = search needs in
+    rw (c .wide .ensures, after-index .index .ensures) (given .pre .3)
 
 -- src/moves.rt:22:5
 mul-next-2 : tie.Need-mul-next-2
@@ -56,7 +55,11 @@ wide-requires-2 c κs = search needs
 
 -- src/moves.rt:23:19
 add-next : tie.Need-add-next
-add-next c = let e = ap (λ (i : ℕ). getD (c .before .before .before .before .before .args .loads .at) i 0) (c .before .before .before .index2 .ensures) in omega (arith, e, c .before .before .before .before .before .pre .4, c .wide2 .ensures, c .before .before .before .before .before .fits .w)
+add-next c =
+    let after-index2 : tie.After-index2 = search needs in
+    let given : tie.Start = search needs in
+    let e = ap (λ (i : ℕ). getD (given .args .loads .at) i 0) (after-index2 .index2 .ensures) in
+    omega (arith, e, given .pre .4, c .wide2 .ensures, given .fits .w)
 
 -- src/moves.rt:23:5
 mul-next-4 : tie.Need-mul-next-4
@@ -68,7 +71,10 @@ element-write-next-2 c = search needs
 
 -- src/moves.rt:14:1
 returns : tie.Need-returns
-returns c = rw (c .before .wide .ensures, c .wide2 .ensures, c .before .before .before .before .index .ensures, c .before .before .before .index2 .ensures) refl
+returns c =
+    let after-index2 : tie.After-index2 = search needs in
+    let after-index : tie.After-index = search needs in
+    rw (c .before .wide .ensures, c .wide2 .ensures, after-index .index .ensures, after-index2 .index2 .ensures) refl
 
 pub moved-loads-spec : {M : Type 1} → statement M
 moved-loads-spec =

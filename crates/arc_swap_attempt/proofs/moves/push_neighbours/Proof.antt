@@ -9,10 +9,6 @@ use Rattle.arc_swap_attempt.proofs.Pushes.{Pushing, begins, passed-by, 
 use borrow.Author.Needs.{needs}
 use Rattle.arc_swap_attempt.proofs.moves.push_neighbours.Statement.{statement}
 use Rattle.arc_swap_attempt.proofs.moves.push_neighbours.Tie as tie
-use Rattle.arc_swap_attempt.proofs.moves.push_neighbours.Reads as reads
-use Rattle.arc_swap_attempt.proofs.moves.push_neighbours.Lts as lts
-use Rattle.arc_swap_attempt.proofs.gains.glad.Reads as glad-reads
-use Rattle.lists.proofs.index.Reads as index-reads
 
 abbrev Inv-loop : tie.InvT-loop
 Inv-loop starts neighbours arc-weights labels stack₀ parts held v end e₀ top₀ stack e top = Pushing (inRows starts neighbours arc-weights) parts labels v stack₀ held end e stack top
@@ -50,21 +46,36 @@ index-requires-2 c κs = search needs
 
 -- src/moves.rt:44:5
 loop-holds : tie.Need-loop-holds Inv-loop μ-loop
-loop-holds c = begins _ _ _ _ _ _ (c .before .before .before .before .before .before .before .before .before .pre .2) (c .before .before .before .before .before .before .before .before .before .pre .0 .rows) (c .before .before .before .before .before .before .before .before .before .pre .1) _ _ (c .before .before .index .ensures) (c .index2 .ensures)
+loop-holds c =
+    let given : tie.Start Inv-loop μ-loop = search needs in
+    begins _ _ _ _ _ _ (given .pre .2) (given .pre .0 .rows) (given .pre .1) _ _ (c .before .before .index .ensures) (c .index2 .ensures)
 
 -- the arc is one of the list's
-inside : (c : tie.In-loop Inv-loop μ-loop) → let s = c .before .before .before .before .before .before .before .before .before .before .before in let e = c .before .loop .e in (e < length (s .args .neighbours .now)) × (e < length (s .args .arc-weights .now)) × (e < 65535)
+inside :
+    (c : tie.In-loop Inv-loop μ-loop)
+    → let given : tie.Start Inv-loop μ-loop = search needs in
+    let e = c .before .loop .e in
+    (e < length (given .args .neighbours .now)) × (e < length (given .args .arc-weights .now)) × (e < 65535)
 inside c =
-    let s = c .before .before .before .before .before .before .before .before .before .before .before in
+    let given : tie.Start Inv-loop μ-loop = search needs in
     let l = c .before .loop in
-    arc-inside (length (s .args .labels .now)) (inRows (s .args .starts .now) (s .args .neighbours .now) (s .args .arc-weights .now)) (s .pre .0 .rows) (s .args .v) (s .pre .1) (l .e) (omega (arith, c .loop-test .taken, l .inv .end-is))
+    arc-inside (length (given .args .labels .now))
+    (inRows (given .args .starts .now) (given .args .neighbours .now) (given .args .arc-weights .now)) (given .pre .0 .rows)
+    (given .args .v) (given .pre .1) (l .e) (omega (arith, c .loop-test .taken, l .inv .end-is))
 
 -- and goes to a vertex
-to-vertex : (c : tie.After-index3 Inv-loop μ-loop) → c .index3 .result < length (c .before .before .before .before .before .before .before .before .before .before .before .before .before .args .labels .now)
+to-vertex :
+    (c : tie.After-index3 Inv-loop μ-loop)
+    → let given : tie.Start Inv-loop μ-loop = search needs in
+    c .index3 .result < length (given .args .labels .now)
 to-vertex c =
-    let s = c .before .before .before .before .before .before .before .before .before .before .before .before .before in
-    let l = c .before .before .before .loop in
-    arc-goes (length (s .args .labels .now)) (inRows (s .args .starts .now) (s .args .neighbours .now) (s .args .arc-weights .now)) (s .pre .0 .rows) (s .args .v) (s .pre .1) (l .e) (omega (arith, c .before .before .loop-test .taken, l .inv .end-is)) (c .index3 .result) (c .index3 .ensures) .0
+    let entered : tie.At-loop Inv-loop μ-loop = search needs in
+    let given : tie.Start Inv-loop μ-loop = search needs in
+    let l = entered .loop in
+    arc-goes (length (given .args .labels .now))
+    (inRows (given .args .starts .now) (given .args .neighbours .now) (given .args .arc-weights .now)) (given .pre .0 .rows)
+    (given .args .v) (given .pre .1) (l .e) (omega (arith, c .before .before .loop-test .taken, l .inv .end-is)) (c .index3 .result)
+    (c .index3 .ensures) .0
 
 -- src/moves.rt:45:17
 mul-u : tie.Need-mul-u Inv-loop μ-loop
@@ -80,15 +91,23 @@ index-requires-3 c κs = search needs
 
 -- src/moves.rt:46:12
 glad-requires : tie.Need-glad-requires Inv-loop μ-loop
-glad-requires c κs = (c .before .before .before .before .before .before .before .before .before .before .before .before .before .pre .0, to-vertex c)
+glad-requires c κs =
+    let given : tie.Start Inv-loop μ-loop = search needs in
+    (given .pre .0, to-vertex c)
 
 -- src/moves.rt:48:17
 same-length : tie.Need-same-length Inv-loop μ-loop
-same-length c = c .before .before .before .before .before .before .loop .inv .long
+same-length c = search needs
 
 -- src/moves.rt:48:17
 returns : tie.Need-returns Inv-loop μ-loop
-returns c = no-room _ _ _ _ _ _ (c .before .before .before .before .before .before .before .before .before .before .before .before .before .before .before .before .pre .2) _ _ _ _ (c .before .before .before .before .before .before .loop .inv) (c .before .before .before .before .before .loop-test .taken) _ refl _ (rw (c .before .before .before .index3 .ensures) at (c .before .before .glad .ensures)) (c .before .if1 .taken) (c .if2 .taken ∙ c .before .before .before .before .before .before .loop .inv .long)
+returns c =
+    let after-index3 : tie.After-index3 Inv-loop μ-loop = search needs in
+    let turn : tie.In-loop Inv-loop μ-loop = search needs in
+    let given : tie.Start Inv-loop μ-loop = search needs in
+    no-room _ _ _ _ _ _ (given .pre .2) _ _ _ _ (turn .before .loop .inv) (turn .loop-test .taken) _ refl _
+    (rw (after-index3 .index3 .ensures) at (c .before .before .glad .ensures)) (c .before .if1 .taken)
+    (c .if2 .taken ∙ turn .before .loop .inv .long)
 
 -- src/moves.rt:53:13
 mul-stack : tie.Need-mul-stack Inv-loop μ-loop
@@ -113,10 +132,12 @@ loop-less c = search needs
 -- src/moves.rt:44:5
 loop-again : tie.Need-loop-again Inv-loop μ-loop
 loop-again c =
-    let i = c .before .before .before .before .before .loop .inv in
-    let t = c .before .before .before .before .loop-test .taken in
+    let turn : tie.In-loop Inv-loop μ-loop = search needs in
+    let given : tie.Start Inv-loop μ-loop = search needs in
+    let i = turn .before .loop .inv in
+    let t = turn .loop-test .taken in
     let g = rw (c .before .before .index3 .ensures) at (c .before .glad .ensures) in
-    let n = c .before .before .before .before .before .before .before .before .before .before .before .before .before .before .before .pre .2 in
+    let n = given .pre .2 in
     ⊎-elim
     (λ w. rw (w .2, w .3) (pushes-one _ _ _ _ _ _ n _ _ _ _ i t _ refl _ g (w .0 .taken) (omega (arith, w .1 .left, i .within, i .long))))
     (λ w. rw (w .1, w .2) (passed-by _ _ _ _ _ _ n _ _ _ _ i t _ refl _ g (w .0 .left)))
@@ -128,7 +149,9 @@ same-length-2 c = c .before .loop .inv .long
 
 -- src/moves.rt:28:1
 returns-2 : tie.Need-returns-2 Inv-loop μ-loop
-returns-2 c = all-fit _ _ _ _ _ _ (c .before .before .before .before .before .before .before .before .before .before .before .pre .2) _ _ _ _ (c .before .loop .inv) (c .loop-test .left)
+returns-2 c =
+    let given : tie.Start Inv-loop μ-loop = search needs in
+    all-fit _ _ _ _ _ _ (given .pre .2) _ _ _ _ (c .before .loop .inv) (c .loop-test .left)
 
 pub push-neighbours-spec : {M : Type 1} → statement M
 push-neighbours-spec =

@@ -13,9 +13,6 @@ use Rattle.fiduccia_mattheyses_pass.specs.Choice.{other}
 use borrow.Author.Needs.{needs}
 use Rattle.fiduccia_mattheyses_pass.proofs.gains.fresh_gains.Statement.{statement}
 use Rattle.fiduccia_mattheyses_pass.proofs.gains.fresh_gains.Tie as tie
-use Rattle.fiduccia_mattheyses_pass.proofs.gains.fresh_gains.Reads as reads
-use Rattle.fiduccia_mattheyses_pass.proofs.gains.fresh_gains.Lts as lts
-use Rattle.topology.proofs.gain_of.Reads as gain-of-reads
 
 abbrev Inv-loop : tie.InvT-loop
 Inv-loop starts neighbours arc-weights labels gains₀ v₀ gains v = (v ≤ length labels) × (gains ≡ written (λ u. gain (inRows starts neighbours arc-weights) labels u (other (part labels u))) v gains₀)
@@ -33,16 +30,24 @@ shared-slice-read-target : tie.Need-shared-slice-read-target Inv-loop μ-loop
 shared-slice-read-target c = search needs
 
 sub-target : tie.Need-sub-target Inv-loop μ-loop
-sub-target c = let t = c .before .before .before .before .before .before .before .pre .2 (c .before .before .loop .v) in omega arith
+sub-target c =
+    let given : tie.Start Inv-loop μ-loop = search needs in
+    let t = given .pre .2 (c .before .before .loop .v) in
+    omega arith
 
 gain-of-requires : tie.Need-gain-of-requires Inv-loop μ-loop
-gain-of-requires c κs = (c .before .before .before .before .before .before .before .pre .0, search needs)
+gain-of-requires c κs = search needs
 
 mul-t8 : tie.Need-mul-t8 Inv-loop μ-loop
 mul-t8 c = search needs
 
 slice-set-from-gains : tie.Need-slice-set-from-gains Inv-loop μ-loop
-slice-set-from-gains c = let h = ap length (c .before .before .before .loop .inv .1) ∙ length-written _ _ _ in let p = c .before .before .before .before .before .before .before .before .pre .1 in omega arith
+slice-set-from-gains c =
+    let entered : tie.At-loop Inv-loop μ-loop = search needs in
+    let given : tie.Start Inv-loop μ-loop = search needs in
+    let h = ap length (entered .loop .inv .1) ∙ length-written _ _ _ in
+    let p = given .pre .1 in
+    omega arith
 
 add-v : tie.Need-add-v Inv-loop μ-loop
 add-v c = search needs
@@ -52,13 +57,20 @@ loop-less c = search needs
 
 loop-again : tie.Need-loop-again Inv-loop μ-loop
 loop-again c =
-    (search needs, written-more _ (c .before .before .before .loop .v) _ _ _ (ap (set (c .before .before .before .loop .gains) (c .before .before .before .loop .v)) (toZ-ofZ w64 _ (record { sfits = c .gain-of .ok }) ∙ c .gain-of .ensures)) (c .before .before .before .loop .inv .1))
+    let entered : tie.At-loop Inv-loop μ-loop = search needs in (
+      search needs,
+      written-more _ (entered .loop .v) _ _ _ (ap (set (entered .loop .gains) (entered .loop .v))
+          (toZ-ofZ w64 _ (record { sfits = c .gain-of .ok }) ∙ c .gain-of .ensures)) (entered .loop .inv .1),
+    )
 
 same-length : tie.Need-same-length Inv-loop μ-loop
 same-length c = ap length (c .before .loop .inv .1) ∙ length-written _ _ _
 
 returns : tie.Need-returns Inv-loop μ-loop
-returns c = let e : c .before .loop .v ≡ length (c .before .before .before .before .before .before .args .labels .now) = omega arith in rw e at (c .before .loop .inv .1)
+returns c =
+    let given : tie.Start Inv-loop μ-loop = search needs in
+    let e : c .before .loop .v ≡ length (given .args .labels .now) = omega arith in
+    rw e at (c .before .loop .inv .1)
 
 pub fresh-gains-spec : {M : Type 1} → statement M
 fresh-gains-spec =

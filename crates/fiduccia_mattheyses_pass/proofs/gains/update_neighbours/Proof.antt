@@ -25,22 +25,41 @@ abbrev μ-loop : tie.MeasureT-loop
 μ-loop neighbours arc-weights labels gains₀ old a b e₀ gains e = b - e
 
 loop-holds : tie.Need-loop-holds Inv-loop μ-loop
-loop-holds c = (search needs, search needs, refl, updated-none _ _ _ _ _ _, λ x. omega (arith, c .before .before .before .pre .1 .1 x))
+loop-holds c =
+    let given : tie.Start Inv-loop μ-loop = search needs in
+    (search needs, search needs, refl, updated-none _ _ _ _ _ _, λ x. omega (arith, given .pre .1 .1 x))
 
 -- the arc's neighbour is a vertex
-x-below : (c : tie.In-loop Inv-loop μ-loop) → getD (c .before .before .before .before .before .args .neighbours .now) (c .before .loop .e) 0 < length (c .before .before .before .before .before .args .labels .now)
-x-below c = c .before .before .before .before .before .pre .1 .0 (c .before .loop .e) (omega arith)
+x-below :
+    (c : tie.In-loop Inv-loop μ-loop)
+    → let given : tie.Start Inv-loop μ-loop = search needs in
+    getD (given .args .neighbours .now) (c .before .loop .e) 0 < length (given .args .labels .now)
+x-below c =
+    let given : tie.Start Inv-loop μ-loop = search needs in
+    given .pre .1 .0 (c .before .loop .e) (omega arith)
 
-x-in : (c : tie.In-loop Inv-loop μ-loop) → getD (c .before .before .before .before .before .args .neighbours .now) (c .before .loop .e) 0 < length (c .before .loop .gains)
-x-in c = let h = x-below c in let p = c .before .before .before .before .before .pre .0 .4 in let q = c .before .loop .inv .2 in omega arith
+x-in :
+    (c : tie.In-loop Inv-loop μ-loop)
+    → let given : tie.Start Inv-loop μ-loop = search needs in
+    getD (given .args .neighbours .now) (c .before .loop .e) 0 < length (c .before .loop .gains)
+x-in c =
+    let given : tie.Start Inv-loop μ-loop = search needs in
+    let h = x-below c in
+    let p = given .pre .0 .4 in
+    let q = c .before .loop .inv .2 in
+    omega arith
 
 -- what the slot was made of
 from-slot :
     (c : tie.After-slot-of Inv-loop μ-loop)
-    → c .slot-of .result ≡ slotOf (getD (c .before .before .before .before .loop .gains) (getD (c .before .before .before .before .before .before .before .before .args .neighbours .now) (c .before .before .before .before .loop .e) 0) (pos 0))
+    → let entered : tie.At-loop Inv-loop μ-loop = search needs in
+    let given : tie.Start Inv-loop μ-loop = search needs in
+    c .slot-of .result ≡ slotOf (getD (entered .loop .gains) (getD (given .args .neighbours .now) (entered .loop .e) 0) (pos 0))
 from-slot c =
-    let l = c .before .before .before .before in
-    rw (back (getD (l .loop .gains) (getD (l .before .before .before .before .args .neighbours .now) (l .loop .e) 0) (pos 0)) (c .before .slot-of-arg .given)) at (c .slot-of .ensures)
+    let entered : tie.At-loop Inv-loop μ-loop = search needs in
+    let given : tie.Start Inv-loop μ-loop = search needs in
+    rw (back (getD (entered .loop .gains) (getD (given .args .neighbours .now) (entered .loop .e) 0) (pos 0))
+    (c .before .slot-of-arg .given)) at (c .slot-of .ensures)
 
 mul-x : tie.Need-mul-x Inv-loop μ-loop
 mul-x c = search needs
@@ -74,13 +93,15 @@ loop-less c = search needs
 
 loop-again : tie.Need-loop-again Inv-loop μ-loop
 loop-again c =
-    let l = c .before .before .before .before .before .before in
-    let x = l .before .before .before .before .args in (
+    let entered : tie.At-loop Inv-loop μ-loop = search needs in
+    let given : tie.Start Inv-loop μ-loop = search needs in
+    let x = given .args in (
       search needs,
       search needs,
-      l .loop .inv .2,
-      turn-passed (x .neighbours .now) (x .arc-weights .now) (x .labels .now) (x .old) (x .a) (l .loop .e) (x .gains .now) (l .loop .gains) (l .loop .inv .0) (l .loop .inv .3) _ (from-slot (c .before .before)) (c .enum-told .given .1),
-      λ y. omega (arith, l .loop .inv .4 y),
+      entered .loop .inv .2,
+      turn-passed (x .neighbours .now) (x .arc-weights .now) (x .labels .now) (x .old) (x .a) (entered .loop .e) (x .gains .now)
+          (entered .loop .gains) (entered .loop .inv .0) (entered .loop .inv .3) _ (from-slot (c .before .before)) (c .enum-told .given .1),
+      λ y. omega (arith, entered .loop .inv .4 y),
     )
 
 mul-shifted : tie.Need-mul-shifted Inv-loop μ-loop
@@ -90,25 +111,37 @@ shared-slice-read-shifted : tie.Need-shared-slice-read-shifted Inv-loop μ-loop
 shared-slice-read-shifted c = search needs
 
 mul-shifted-2 : tie.Need-mul-shifted-2 Inv-loop μ-loop
-mul-shifted-2 c = record { fits = omega (arith, x-below (c .before .before .before .before .before .before .before)) }
+mul-shifted-2 c =
+    let turn : tie.In-loop Inv-loop μ-loop = search needs in
+    record { fits = omega (arith, x-below turn) }
 
 shared-slice-read-shifted-2 : tie.Need-shared-slice-read-shifted-2 Inv-loop μ-loop
-shared-slice-read-shifted-2 c = x-below (c .before .before .before .before .before .before .before .before)
+shared-slice-read-shifted-2 c =
+    let turn : tie.In-loop Inv-loop μ-loop = search needs in
+    x-below turn
 
 shifted-requires : tie.Need-shifted-requires Inv-loop μ-loop
 shifted-requires c κs =
-    let l = c .before .before .before .before .before .before .before .before .before in
-    let x = l .before .before .before .before .args in
-    let z = getD (l .loop .gains) (getD (x .neighbours .now) (l .loop .e) 0) (pos 0) in
-    let g = c .before .before .before .g .given .0 .0 in
-    let q : g ≡ z = free-of _ z g (from-slot (c .before .before .before .before .before)) (c .before .before .before .g .given .1) .1 in
-    rw (back g (c .before .before .known-told .given .0 .1), q) (omega (arith, l .loop .inv .4 (getD (x .neighbours .now) (l .loop .e) 0)))
+    let after-g : tie.After-g Inv-loop μ-loop = search needs in
+    let after-slot-of : tie.After-slot-of Inv-loop μ-loop = search needs in
+    let entered : tie.At-loop Inv-loop μ-loop = search needs in
+    let given : tie.Start Inv-loop μ-loop = search needs in
+    let x = given .args in
+    let z = getD (entered .loop .gains) (getD (x .neighbours .now) (entered .loop .e) 0) (pos 0) in
+    let g = after-g .g .given .0 .0 in
+    let q : g ≡ z = free-of _ z g (from-slot after-slot-of) (after-g .g .given .1) .1 in
+    rw (back g (c .before .before .known-told .given .0 .1), q)
+    (omega (arith, entered .loop .inv .4 (getD (x .neighbours .now) (entered .loop .e) 0)))
 
 mul-h : tie.Need-mul-h Inv-loop μ-loop
-mul-h c = record { fits = omega (arith, x-in (c .before .before .before .before .before .before .before .before .before)) }
+mul-h c =
+    let turn : tie.In-loop Inv-loop μ-loop = search needs in
+    record { fits = omega (arith, x-in turn) }
 
 slice-set-from-h : tie.Need-slice-set-from-h Inv-loop μ-loop
-slice-set-from-h c = x-in (c .before .before .before .before .before .before .before .before .before)
+slice-set-from-h c =
+    let turn : tie.In-loop Inv-loop μ-loop = search needs in
+    x-in turn
 
 add-e-2 : tie.Need-add-e-2 Inv-loop μ-loop
 add-e-2 c = search needs
@@ -118,23 +151,28 @@ loop-less-2 c = search needs
 
 loop-again-2 : tie.Need-loop-again-2 Inv-loop μ-loop
 loop-again-2 c =
-    let l = c .before .before .before .before .before .before .before .before .before .before in
-    let x = l .before .before .before .before .args in
-    let v = getD (x .neighbours .now) (l .loop .e) 0 in
-    let z = getD (l .loop .gains) v (pos 0) in
-    let g = c .before .before .before .before .g .given .0 .0 in
-    let ge = back g (c .before .before .before .known-told .given .0 .1) in
-    let fs = from-slot (c .before .before .before .before .before .before) in
-    let q : g ≡ z = free-of _ z g fs (c .before .before .before .before .g .given .1) .1 in
+    let after-known-told : tie.After-known-told Inv-loop μ-loop = search needs in
+    let after-g : tie.After-g Inv-loop μ-loop = search needs in
+    let after-slot-of : tie.After-slot-of Inv-loop μ-loop = search needs in
+    let entered : tie.At-loop Inv-loop μ-loop = search needs in
+    let given : tie.Start Inv-loop μ-loop = search needs in
+    let x = given .args in
+    let v = getD (x .neighbours .now) (entered .loop .e) 0 in
+    let z = getD (entered .loop .gains) v (pos 0) in
+    let g = after-g .g .given .0 .0 in
+    let ge = back g (after-known-told .known-told .given .0 .1) in
+    let fs = from-slot after-slot-of in
+    let q : g ≡ z = free-of _ z g fs (after-g .g .given .1) .1 in
     let r = rw ge at (c .shifted .ensures) in
     let h = c .shifted .result in
-    let low : mag h ≤ 4611686018427387904 + 8589934592 * (l .loop .e + 1 - x .a) = omega (arith, rw q at (r .1), l .loop .inv .4 v) in
+    let low : mag h ≤ 4611686018427387904 + 8589934592 * (entered .loop .e + 1 - x .a) = omega (arith, rw q at (r .1), entered .loop .inv .4 v) in
     let hz = back h (omega arith) in (
       search needs,
       search needs,
-      simp length-set (l .loop .inv .2),
-      rw hz (turn-updated (x .neighbours .now) (x .arc-weights .now) (x .labels .now) (x .old) (x .a) (l .loop .e) (x .gains .now) (l .loop .gains) (l .loop .inv .0) (l .loop .inv .3) _ g _ fs (c .before .before .before .before .g .given .1) (r .0)),
-      λ y. rw hz (mag-set (l .loop .gains) v y h _ (λ k. omega (arith, l .loop .inv .4 k)) low),
+      simp length-set (entered .loop .inv .2),
+      rw hz (turn-updated (x .neighbours .now) (x .arc-weights .now) (x .labels .now) (x .old) (x .a) (entered .loop .e) (x .gains .now)
+          (entered .loop .gains) (entered .loop .inv .0) (entered .loop .inv .3) _ g _ fs (after-g .g .given .1) (r .0)),
+      λ y. rw hz (mag-set (entered .loop .gains) v y h _ (λ k. omega (arith, entered .loop .inv .4 k)) low),
     )
 
 same-length : tie.Need-same-length Inv-loop μ-loop
@@ -142,8 +180,9 @@ same-length c = search needs
 
 returns : tie.Need-returns Inv-loop μ-loop
 returns c =
+    let given : tie.Start Inv-loop μ-loop = search needs in
     let l = c .before in
-    let e : l .loop .e ≡ l .before .before .before .before .args .b = omega arith in
+    let e : l .loop .e ≡ given .args .b = omega arith in
     rw e at (l .loop .inv .3)
 
 pub update-neighbours-spec : {M : Type 1} → statement M

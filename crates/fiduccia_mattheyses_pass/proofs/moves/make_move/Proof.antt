@@ -8,11 +8,6 @@ use Rattle.fiduccia_mattheyses_pass.specs.Standing.{standingWith}
 use borrow.Author.Needs.{needs}
 use Rattle.fiduccia_mattheyses_pass.proofs.moves.make_move.Statement.{statement}
 use Rattle.fiduccia_mattheyses_pass.proofs.moves.make_move.Tie as tie
-use Rattle.fiduccia_mattheyses_pass.proofs.moves.make_move.Reads as reads
-use Rattle.fiduccia_mattheyses_pass.proofs.moves.make_move.Lts as lts
-use Rattle.fiduccia_mattheyses_pass.proofs.moves.move_vertex.Reads as move-vertex-reads
-use Rattle.fiduccia_mattheyses_pass.proofs.moves.moved_loads.Reads as moved-loads-reads
-use Rattle.fiduccia_mattheyses_pass.proofs.moves.next_standing.Reads as next-standing-reads
 
 mul-moved-loads : tie.Need-mul-moved-loads
 mul-moved-loads c = search needs
@@ -27,10 +22,18 @@ shared-slice-read-moved-loads : tie.Need-shared-slice-read-moved-loads
 shared-slice-read-moved-loads c = search needs
 
 moved-loads-requires : tie.Need-moved-loads-requires
-moved-loads-requires c κs = let q = c .before .before .before .before .before .before .before .before .pre in let v = c .before .before .before .before .before .before .before .before .args .v in let t = q .scanned .two v in (t, q .scanned .sixteen, q .held, q .scanned .light _ (omega arith))
+moved-loads-requires c κs =
+    let given : tie.Start = search needs in
+    let q = given .pre in
+    let v = given .args .v in
+    let t = q .scanned .two v in
+    (t, q .scanned .sixteen, q .held, q .scanned .light _ (omega arith))
 
 move-vertex-requires : tie.Need-move-vertex-requires
-move-vertex-requires c κs = let q = c .before .before .before .before .before .before .before .before .before .before .before .pre in (q .rows, q .here, q .scanned .gained, q .scanned .two (c .before .before .before .before .before .before .before .before .before .before .before .args .v), q .smallGains)
+move-vertex-requires c κs =
+    let given : tie.Start = search needs in
+    let q = given .pre in
+    (q .rows, q .here, q .scanned .gained, q .scanned .two (given .args .v), q .smallGains)
 
 next-standing-requires : tie.Need-next-standing-requires
 next-standing-requires c κs = search needs
@@ -43,8 +46,16 @@ same-length-2 c = search needs
 
 returns : tie.Need-returns
 returns c =
-    let m = c .before .before .before .before .move-vertex .ensures in
-    (m .0, m .1, (rw (toZ-ofZ (c .before .before .before .before .before .before .before .before .before .before .before .before .before .before .before .before .fits .g)) at (c .next-standing .ensures)) ∙ ap (λ (l : List ℕ). standingWith (c .before .before .before .before .before .before .before .before .before .before .before .before .before .before .before .before .args .st) l (c .before .before .before .before .before .before .before .before .before .before .before .before .before .before .before .before .args .g) (c .before .before .before .before .before .before .before .before .before .before .before .before .before .before .before .before .args .bad) (c .before .before .before .before .before .before .before .before .before .before .before .before .before .before .before .before .args .made)) (c .before .before .before .before .before .before .before .moved-loads .ensures))
+    let after-move-vertex : tie.After-move-vertex = search needs in
+    let after-moved-loads : tie.After-moved-loads = search needs in
+    let given : tie.Start = search needs in
+    let m = after-move-vertex .move-vertex .ensures in (
+      m .0,
+      m .1,
+      (rw (toZ-ofZ (given .fits .g)) at (c .next-standing .ensures))
+          ∙ ap (λ (l : List ℕ). standingWith (given .args .st) l (given .args .g) (given .args .bad) (given .args .made))
+          (after-moved-loads .moved-loads .ensures),
+    )
 
 pub make-move-spec : {M : Type 1} → statement M
 make-move-spec =

@@ -1,6 +1,6 @@
 -- `fiduccia_mattheyses_pass::moves::move_vertex` meets its contract.  Assumes nothing.
 use mathlib.Core.Path.{refl, _∙_}
-use Prim.Native.Nat.{_+_, _-_}
+use Prim.Native.Nat.{_+_}
 use native.Mathlib.Omega.{arith}
 use lib.ListN.{length-set}
 use Rattle.fiduccia_mattheyses_pass.specs.Choice.{flip}
@@ -38,7 +38,9 @@ shared-slice-read-a : tie.Need-shared-slice-read-a
 shared-slice-read-a c = search needs
 
 cast-a : tie.Need-cast-a
-cast-a c = omega (arith, c .shared-slice-known4 .given (c .before .before .before .before .before .before .args .v))
+cast-a c =
+    let given : tie.Start = search needs in
+    omega (arith, c .shared-slice-known4 .given (given .args .v))
 
 add-b : tie.Need-add-b
 add-b c = search needs
@@ -50,24 +52,26 @@ shared-slice-read-b : tie.Need-shared-slice-read-b
 shared-slice-read-b c = search needs
 
 cast-b : tie.Need-cast-b
-cast-b c = omega (arith, c .shared-slice-known5 .given (c .before .before .before .before .before .before .before .args .v + 1))
+cast-b c =
+    let given : tie.Start = search needs in
+    omega (arith, c .shared-slice-known5 .given (given .args .v + 1))
 
 update-neighbours-requires : tie.Need-update-neighbours-requires
 update-neighbours-requires c κs =
-    let x = c .before .before .before .before .before .before .before .before .before in
-    let r = x .pre .0 in
-    let v = x .args .v in
-    let lv = x .pre .1 in (
+    let given : tie.Start = search needs in
+    let r = given .pre .0 in
+    let v = given .args .v in
+    let lv = given .pre .1 in (
       (
         r .rise v lv,
         r .inside v lv,
         omega (arith, r .inside v lv, r .small),
         r .paired,
-        simp length-set (x .pre .2),
+        simp length-set (given .pre .2),
       ),
       (
         λ e l. simp length-set (r .below e l),
-        λ y. mag-set (x .args .gains .now) v y lock _ (x .pre .4) (omega arith),
+        λ y. mag-set (given .args .gains .now) v y lock _ (given .pre .4) (omega arith),
       ),
     )
 

@@ -6,10 +6,6 @@ use lib.ListN.{getD}
 use borrow.Author.Needs.{needs}
 use Rattle.fiduccia_mattheyses_pass.proofs.moves.moved_loads.Statement.{statement}
 use Rattle.fiduccia_mattheyses_pass.proofs.moves.moved_loads.Tie as tie
-use Rattle.fiduccia_mattheyses_pass.proofs.moves.moved_loads.Reads as reads
-use Rattle.fiduccia_mattheyses_pass.proofs.moves.moved_loads.Lts as lts
-use Rattle.lists.proofs.index.Reads as index-reads
-use Rattle.lists.proofs.wide.Reads as wide-reads
 
 index-requires : tie.Need-index-requires
 index-requires c κs = search needs
@@ -27,7 +23,9 @@ wide-requires : tie.Need-wide-requires
 wide-requires c κs = search needs
 
 sub-next : tie.Need-sub-next
-sub-next c = rw (c .wide .ensures, c .before .before .index .ensures) (c .before .before .before .pre .2)
+sub-next c =
+    let given : tie.Start = search needs in
+    rw (c .wide .ensures, c .before .before .index .ensures) (given .pre .2)
 
 mul-next-2 : tie.Need-mul-next-2
 mul-next-2 c = search needs
@@ -45,7 +43,11 @@ wide-requires-2 : tie.Need-wide-requires-2
 wide-requires-2 c κs = search needs
 
 add-next : tie.Need-add-next
-add-next c = let e = ap (λ (i : ℕ). getD (c .before .before .before .before .args .loads .at) (1 - i) 0) (c .before .before .before .index .ensures) in omega (arith, e, c .before .before .before .before .pre .3, c .wide2 .ensures, c .before .before .before .before .fits .w)
+add-next c =
+    let after-index : tie.After-index = search needs in
+    let given : tie.Start = search needs in
+    let e = ap (λ (i : ℕ). getD (given .args .loads .at) (1 - i) 0) (after-index .index .ensures) in
+    omega (arith, e, given .pre .3, c .wide2 .ensures, given .fits .w)
 
 mul-next-4 : tie.Need-mul-next-4
 mul-next-4 c = search needs
@@ -54,7 +56,9 @@ element-write-next-2 : tie.Need-element-write-next-2
 element-write-next-2 c = search needs
 
 returns : tie.Need-returns
-returns c = rw (c .before .wide .ensures, c .wide2 .ensures, c .before .before .before .index .ensures) refl
+returns c =
+    let after-index : tie.After-index = search needs in
+    rw (c .before .wide .ensures, c .wide2 .ensures, after-index .index .ensures) refl
 
 pub moved-loads-spec : {M : Type 1} → statement M
 moved-loads-spec =

@@ -5,10 +5,9 @@ use borrow.Author.Needs.{sfits-of}
 use lib.IntN.{_-ℤ_}
 use Rattle.lists.proofs.Differences.{mag-minus}
 use Rattle.fiduccia_mattheyses_pass.proofs.Updates.{back}
+use borrow.Author.Needs.{needs}
 use Rattle.fiduccia_mattheyses_pass.proofs.moves.next_standing.Statement.{statement}
 use Rattle.fiduccia_mattheyses_pass.proofs.moves.next_standing.Tie as tie
-use Rattle.fiduccia_mattheyses_pass.proofs.moves.next_standing.Reads as reads
-use Rattle.fiduccia_mattheyses_pass.proofs.moves.next_standing.Lts as lts
 
 sub-cut : tie.Need-sub-cut
 sub-cut c =
@@ -20,8 +19,9 @@ sub-cut c =
 
 returns : tie.Need-returns
 returns c =
-    let x = c .before .before .before .before .args in
-    let q = c .before .before .before .before .pre in
+    let given : tie.Start = search needs in
+    let x = given .args in
+    let q = given .pre in
     let e1 = back (x .st .cut) (let h = q .1 in omega arith) in
     let e2 = back (x .g) (let h = q .0 in omega arith) in
     let e3 = back (x .st .least) (let h = q .2 in omega arith) in
@@ -30,8 +30,9 @@ returns c =
 
 returns-2 : tie.Need-returns-2
 returns-2 c =
-    let x = c .before .before .before .before .args in
-    let q = c .before .before .before .before .pre in
+    let given : tie.Start = search needs in
+    let x = given .args in
+    let q = given .pre in
     let e1 = back (x .st .cut) (let h = q .1 in omega arith) in
     let e2 = back (x .g) (let h = q .0 in omega arith) in
     let e3 = back (x .st .least) (let h = q .2 in omega arith) in

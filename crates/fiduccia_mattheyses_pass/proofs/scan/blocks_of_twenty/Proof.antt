@@ -7,8 +7,6 @@ use Rattle.fiduccia_mattheyses_pass.proofs.Turns.{sweep-none, sweep-twe
 use borrow.Author.Needs.{needs}
 use Rattle.fiduccia_mattheyses_pass.proofs.scan.blocks_of_twenty.Statement.{statement}
 use Rattle.fiduccia_mattheyses_pass.proofs.scan.blocks_of_twenty.Tie as tie
-use Rattle.fiduccia_mattheyses_pass.proofs.scan.blocks_of_twenty.Reads as reads
-use Rattle.fiduccia_mattheyses_pass.proofs.scan.blocks_of_twenty.Lts as lts
 
 abbrev Inv-loop : tie.InvT-loop
 Inv-loop gains labels weights rooms lifts blocks held₀ block₀ held block = (block ≤ blocks) × Swept rooms lifts gains labels weights held₀ (block * 20) held
@@ -17,16 +15,15 @@ abbrev μ-loop : tie.MeasureT-loop
 μ-loop gains labels weights rooms lifts blocks held₀ block₀ held block = blocks - block
 
 loop-holds : tie.Need-loop-holds Inv-loop μ-loop
-loop-holds c = (search needs, sweep-none _ _ _ _ _ _ (c .before .before .before .before .pre .2))
+loop-holds c =
+    let given : tie.Start Inv-loop μ-loop = search needs in
+    (search needs, sweep-none _ _ _ _ _ _ (given .pre .2))
 
 mul-twenty : tie.Need-mul-twenty Inv-loop μ-loop
-mul-twenty c = let l = c .before .before .before .before .before .before .pre .1 in search needs
+mul-twenty c = search needs
 
 twenty-requires : tie.Need-twenty-requires Inv-loop μ-loop
-twenty-requires c κs =
-    let q = c .before .before .before .before .before .before .pre in
-    let l = q .1 in
-    (q .0, omega arith)
+twenty-requires c κs = search needs
 
 add-block : tie.Need-add-block Inv-loop μ-loop
 add-block c = search needs
@@ -36,12 +33,14 @@ loop-less c = search needs
 
 loop-again : tie.Need-loop-again Inv-loop μ-loop
 loop-again c =
-    let l = c .before .before .before .before .before .before .before .pre .1 in
+    let given : tie.Start Inv-loop μ-loop = search needs in
+    let l = given .pre .1 in
     (search needs, sweep-twenty _ _ _ _ _ _ _ _ _ (omega arith) (c .twenty .ensures) (c .before .before .loop .inv .1))
 
 returns : tie.Need-returns Inv-loop μ-loop
 returns c =
-    let e : c .before .loop .block ≡ c .before .before .before .before .before .before .args .blocks = omega arith in
+    let given : tie.Start Inv-loop μ-loop = search needs in
+    let e : c .before .loop .block ≡ given .args .blocks = omega arith in
     rw e at (c .before .loop .inv .1)
 
 pub blocks-of-twenty-spec : {M : Type 1} → statement M

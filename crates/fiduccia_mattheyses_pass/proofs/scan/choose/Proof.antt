@@ -9,24 +9,28 @@ use Rattle.fiduccia_mattheyses_pass.proofs.Scans.{startOf, swept-from, 
 use borrow.Author.Needs.{needs}
 use Rattle.fiduccia_mattheyses_pass.proofs.scan.choose.Statement.{statement}
 use Rattle.fiduccia_mattheyses_pass.proofs.scan.choose.Tie as tie
-use Rattle.fiduccia_mattheyses_pass.proofs.scan.choose.Reads as reads
-use Rattle.fiduccia_mattheyses_pass.proofs.scan.choose.Lts as lts
 
 rooms-of-requires : tie.Need-rooms-of-requires
 rooms-of-requires c κs = let q = c .before .before .pre in (q .0 .sixteen, q .1)
 
 lifts-of-requires : tie.Need-lifts-of-requires
-lifts-of-requires c κs = c .before .before .before .pre .0 .sixteen
+lifts-of-requires c κs = search needs
 
 narrow : (c : tie.After-shared-slice-known2) (v : ℕ) → getD (c .before .before .args .weights .now) v 0 < 4294967296
 narrow c v = c .shared-slice-known2 .given v .fits
 
 -- what the scan asks
-sees : (c : tie.After-lifts-of) → let x = c .before .before .before .before .args in Sighted (x .gains .now) (x .labels .now) (x .weights .now) (c .before .rooms-of .result) (c .lifts-of .result)
+sees :
+    (c : tie.After-lifts-of)
+    → let given : tie.Start = search needs in
+    let x = given .args in
+    Sighted (x .gains .now) (x .labels .now) (x .weights .now) (c .before .rooms-of .result) (c .lifts-of .result)
 sees c =
-    let s = c .before .before .before .before in
-    let x = s .args in
-    rw (c .before .rooms-of .ensures, c .lifts-of .ensures) (sighted (x .gains .now) (x .labels .now) (x .weights .now) (x .loads .at) (x .ceilings .at) (s .pre .0) (narrow (c .before .before)))
+    let given : tie.Start = search needs in
+    let x = given .args in
+    rw (c .before .rooms-of .ensures, c .lifts-of .ensures)
+    (sighted (x .gains .now) (x .labels .now) (x .weights .now) (x .loads .at) (x .ceilings .at) (given .pre .0)
+    (narrow (c .before .before)))
 
 slice-aggregate-sample : tie.Need-slice-aggregate-sample
 slice-aggregate-sample c = search needs
@@ -38,15 +42,28 @@ sample-requires : tie.Need-sample-requires
 sample-requires c κs = sees (c .before .before)
 
 -- what the sample found, by loads and ceilings
-found-is : (c : tie.After-sample) → let x = c .before .before .before .before .before .before .before .args in Holds (roomsOf (x .loads .at) (x .ceilings .at)) (liftsOf (x .loads .at)) (x .gains .now) (x .labels .now) (x .weights .now) nobody (c .sample .result)
-found-is c = rw (c .before .before .before .before .rooms-of .ensures, c .before .before .before .lifts-of .ensures) at (c .sample .ensures)
+found-is :
+    (c : tie.After-sample)
+    → let given : tie.Start = search needs in
+    let x = given .args in
+    Holds (roomsOf (x .loads .at) (x .ceilings .at)) (liftsOf (x .loads .at)) (x .gains .now) (x .labels .now) (x .weights .now) nobody
+    (c .sample .result)
+found-is c =
+    let after-lifts-of : tie.After-lifts-of = search needs in
+    let after-rooms-of : tie.After-rooms-of = search needs in
+    rw (after-rooms-of .rooms-of .ensures, after-lifts-of .lifts-of .ensures) at (c .sample .ensures)
 
 add-t17 : tie.Need-add-t17
 add-t17 c =
+    let after-shared-slice-known2 : tie.After-shared-slice-known2 = search needs in
+    let given : tie.Start = search needs in
     let a = c .before in
-    let s = a .before .before .before .before .before .before .before in
-    let x = s .args in
-    omega (arith, sample-near (x .gains .now) (x .labels .now) (x .weights .now) (x .loads .at) (x .ceilings .at) (s .pre .0) (narrow (a .before .before .before .before .before)) (a .sample .result) (found-is a))
+    let x = given .args in
+    omega (
+      arith,
+      sample-near (x .gains .now) (x .labels .now) (x .weights .now) (x .loads .at) (x .ceilings .at) (given .pre .0)
+          (narrow after-shared-slice-known2) (a .sample .result) (found-is a),
+    )
 
 slice-aggregate-sweep : tie.Need-slice-aggregate-sweep
 slice-aggregate-sweep c = search needs
@@ -56,58 +73,85 @@ slice-aggregate-sweep-2 c = search needs
 
 sweep-requires : tie.Need-sweep-requires
 sweep-requires c κs =
+    let after-sample : tie.After-sample = search needs in
+    let after-lifts-of : tie.After-lifts-of = search needs in
     let t = c .before .before in
-    let a = t .before .before in
-    let z = toZ-ofZ w64 (a .sample .result .gain) (record { sfits = t .struct-told .given .1 .0 .1 }) in
-    (sees (a .before .before .before), rw z (a .sample .ensures .free))
+    let z = toZ-ofZ w64 (after-sample .sample .result .gain) (record { sfits = t .struct-told .given .1 .0 .1 }) in
+    (sees after-lifts-of, rw z (after-sample .sample .ensures .free))
 
 -- all vertices have had their turn, by loads and ceilings
-swept : (c : tie.After-sweep) → let x = c .before .before .before .before .before .before .before .before .before .before .before .before .args in Swept (roomsOf (x .loads .at) (x .ceilings .at)) (liftsOf (x .loads .at)) (x .gains .now) (x .labels .now) (x .weights .now) (startOf (c .before .before .before .before .before .sample .result)) (length (x .labels .now)) (c .sweep .result)
+swept :
+    (c : tie.After-sweep)
+    → let after-sample : tie.After-sample = search needs in
+    let given : tie.Start = search needs in
+    let x = given .args in
+    Swept (roomsOf (x .loads .at) (x .ceilings .at)) (liftsOf (x .loads .at)) (x .gains .now) (x .labels .now) (x .weights .now)
+    (startOf (after-sample .sample .result)) (length (x .labels .now)) (c .sweep .result)
 swept c =
-    let t = c .before .before .before in
-    let a = t .before .before in
-    let z = toZ-ofZ w64 (a .sample .result .gain) (record { sfits = t .struct-told .given .1 .0 .1 }) in
-    swept-from _ _ _ _ _ (a .sample .result) _ _ _ _ (rw (a .before .before .before .before .rooms-of .ensures, a .before .before .before .lifts-of .ensures) at (c .sweep .ensures)) z (omega arith)
+    let after-struct-told : tie.After-struct-told = search needs in
+    let after-sample : tie.After-sample = search needs in
+    let after-lifts-of : tie.After-lifts-of = search needs in
+    let after-rooms-of : tie.After-rooms-of = search needs in
+    let z = toZ-ofZ w64 (after-sample .sample .result .gain) (record { sfits = after-struct-told .struct-told .given .1 .0 .1 }) in
+    swept-from _ _ _ _ _ (after-sample .sample .result) _ _ _ _
+    (rw (after-rooms-of .rooms-of .ensures, after-lifts-of .lifts-of .ensures) at (c .sweep .ensures)) z (omega arith)
 
 past-one : (c : tie.After-sweep) → c .sweep .result .load < far → 1 ≤ c .sweep .result .past
 past-one c =
-    let a = c .before .before .before .before .before in
-    let s = a .before .before .before .before .before .before .before in
-    let x = s .args in
-    scan-past (x .gains .now) (x .labels .now) (x .weights .now) (x .loads .at) (x .ceilings .at) (s .pre .0) (narrow (a .before .before .before .before .before)) _ _ (found-is a) (swept c)
+    let after-sample : tie.After-sample = search needs in
+    let after-shared-slice-known2 : tie.After-shared-slice-known2 = search needs in
+    let given : tie.Start = search needs in
+    let x = given .args in
+    scan-past (x .gains .now) (x .labels .now) (x .weights .now) (x .loads .at) (x .ceilings .at) (given .pre .0)
+    (narrow after-shared-slice-known2) _ _ (found-is after-sample) (swept c)
 
 sub-t23 : tie.Need-sub-t23
-sub-t23 c = past-one (c .before .before .before) (c .before .if1 .taken)
+sub-t23 c =
+    let after-sweep : tie.After-sweep = search needs in
+    past-one after-sweep (c .before .if1 .taken)
 
 lesser-load-requires : tie.Need-lesser-load-requires
-lesser-load-requires c κs = c .before .before .before .before .before .before .before .before .before .before .before .before .before .before .before .pre .0 .sixteen
+lesser-load-requires c κs =
+    let given : tie.Start = search needs in
+    given .pre .0 .sixteen
+
+-- the stations that lie far back, each from a nearer one
+abbrev start-of : tie.Then1 → tie.Start
+start-of c = search needs
 
 add-t25 : tie.Need-add-t25
 add-t25 c =
-    let s = c .before .before .before .before .before .before .before .before .before .before .before .before .before .before .before .before .before in
-    let l = s .pre .0 .light 0 (omega arith) in
-    let m = lesser-least (s .args .loads .at) .0 in
-    let k = c .before .before .before .if1 .taken in
+    let then1 : tie.Then1 = search needs in
+    let given = start-of then1 in
+    let l = given .pre .0 .light 0 (omega arith) in
+    let m = lesser-least (given .args .loads .at) .0 in
+    let k = then1 .if1 .taken in
     omega (arith, c .before .lesser-load .ensures)
 
 returns : tie.Need-returns
 returns c =
-    let w = c .before .before .before .before .before .before in
-    let a = w .before .before .before .before .before in
-    let s = a .before .before .before .before .before .before .before in
-    let x = s .args in
-    let y = toZ-ofZ w64 (w .sweep .result .gain) (record { sfits = c .struct-told2 .given .1 .0 .1 }) in
-    let l = c .before .before .before .before .if1 .taken in
-    let p = past-one w l in
-    scan-found (x .gains .now) (x .labels .now) (x .weights .now) (x .loads .at) (x .ceilings .at) (s .pre .0) (narrow (a .before .before .before .before .before)) _ _ (found-is a) (swept w) l _ _ _ (omega arith) y (c .before .before .lesser-load .ensures)
+    let then1 : tie.Then1 = search needs in
+    let after-sweep : tie.After-sweep = search needs in
+    let after-sample : tie.After-sample = search needs in
+    let after-shared-slice-known2 : tie.After-shared-slice-known2 = search needs in
+    let given : tie.Start = search needs in
+    let x = given .args in
+    let y = toZ-ofZ w64 (after-sweep .sweep .result .gain) (record { sfits = c .struct-told2 .given .1 .0 .1 }) in
+    let l = then1 .if1 .taken in
+    let p = past-one after-sweep l in
+    scan-found (x .gains .now) (x .labels .now) (x .weights .now) (x .loads .at) (x .ceilings .at) (given .pre .0)
+    (narrow after-shared-slice-known2) _ _ (found-is after-sample) (swept after-sweep) l _ _ _ (omega arith) y
+    (c .before .before .lesser-load .ensures)
 
 returns-2 : tie.Need-returns-2
 returns-2 c =
+    let after-sample : tie.After-sample = search needs in
+    let after-shared-slice-known2 : tie.After-shared-slice-known2 = search needs in
+    let given : tie.Start = search needs in
     let w = c .before .before in
-    let a = w .before .before .before .before .before in
-    let s = a .before .before .before .before .before .before .before in
-    let x = s .args in
-    scan-nobody (x .gains .now) (x .labels .now) (x .weights .now) (x .loads .at) (x .ceilings .at) (s .pre .0) (narrow (a .before .before .before .before .before)) _ _ (found-is a) (swept w) (c .if1 .left)
+    let x = given .args in
+    scan-nobody (x .gains .now) (x .labels .now) (x .weights .now) (x .loads .at) (x .ceilings .at) (given .pre .0)
+    (narrow after-shared-slice-known2) _ _ (found-is after-sample) (swept w) (c .if1 .left)
 
 pub choose-spec : {M : Type 1} → statement M
 choose-spec =

@@ -3,8 +3,6 @@ use borrow.Author.Tests.{lt-ltb, le-ltb}
 use borrow.Author.Needs.{needs}
 use Rattle.fiduccia_mattheyses_pass.proofs.scan.lesser_load.Statement.{statement}
 use Rattle.fiduccia_mattheyses_pass.proofs.scan.lesser_load.Tie as tie
-use Rattle.fiduccia_mattheyses_pass.proofs.scan.lesser_load.Reads as reads
-use Rattle.fiduccia_mattheyses_pass.proofs.scan.lesser_load.Lts as lts
 
 element-copy-out-zero : tie.Need-element-copy-out-zero
 element-copy-out-zero c = search needs

@@ -4,8 +4,6 @@ use borrow.Author.Needs.{needs}
 use Rattle.fiduccia_mattheyses_pass.proofs.Scans.{lesser-least}
 use Rattle.fiduccia_mattheyses_pass.proofs.scan.lifts_of.Statement.{statement}
 use Rattle.fiduccia_mattheyses_pass.proofs.scan.lifts_of.Tie as tie
-use Rattle.fiduccia_mattheyses_pass.proofs.scan.lifts_of.Reads as reads
-use Rattle.fiduccia_mattheyses_pass.proofs.scan.lifts_of.Lts as lts
 
 lesser-load-requires : tie.Need-lesser-load-requires
 lesser-load-requires c κs = search needs
@@ -20,7 +18,9 @@ element-copy-out-t11 : tie.Need-element-copy-out-t11
 element-copy-out-t11 c = search needs
 
 sub-t12 : tie.Need-sub-t12
-sub-t12 c = omega (arith, lesser-least (c .before .before .before .args .t1 .at) .0, c .before .before .lesser-load .ensures)
+sub-t12 c =
+    let given : tie.Start = search needs in
+    omega (arith, lesser-least (given .args .t1 .at) .0, c .before .before .lesser-load .ensures)
 
 returns : tie.Need-returns
 returns c = rw (c .before .before .lesser-load .ensures)

@@ -2,8 +2,6 @@
 use mir.Facts.{toZ-ofZ}
 use Rattle.fiduccia_mattheyses_pass.proofs.scan.outranks.Statement.{statement}
 use Rattle.fiduccia_mattheyses_pass.proofs.scan.outranks.Tie as tie
-use Rattle.fiduccia_mattheyses_pass.proofs.scan.outranks.Reads as reads
-use Rattle.fiduccia_mattheyses_pass.proofs.scan.outranks.Lts as lts
 
 returns : tie.Need-returns
 returns c = let g = toZ-ofZ (c .before .fits .g) in let h = toZ-ofZ (c .before .fits .h) in rw (rw (g, h) at (c .if1 .taken))

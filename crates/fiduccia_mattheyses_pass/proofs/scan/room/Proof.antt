@@ -3,8 +3,6 @@ use borrow.Author.Tests.{lt-ltb, le-ltb}
 use borrow.Author.Needs.{needs}
 use Rattle.fiduccia_mattheyses_pass.proofs.scan.room.Statement.{statement}
 use Rattle.fiduccia_mattheyses_pass.proofs.scan.room.Tie as tie
-use Rattle.fiduccia_mattheyses_pass.proofs.scan.room.Reads as reads
-use Rattle.fiduccia_mattheyses_pass.proofs.scan.room.Lts as lts
 
 returns : tie.Need-returns
 returns c = rw (lt-ltb _ _ (c .if1 .taken))

@@ -2,8 +2,6 @@
 use borrow.Author.Needs.{needs}
 use Rattle.fiduccia_mattheyses_pass.proofs.scan.rooms_of.Statement.{statement}
 use Rattle.fiduccia_mattheyses_pass.proofs.scan.rooms_of.Tie as tie
-use Rattle.fiduccia_mattheyses_pass.proofs.scan.rooms_of.Reads as reads
-use Rattle.fiduccia_mattheyses_pass.proofs.scan.rooms_of.Lts as lts
 
 element-copy-out-room : tie.Need-element-copy-out-room
 element-copy-out-room c = search needs
@@ -24,7 +22,7 @@ room-requires-2 : tie.Need-room-requires-2
 room-requires-2 c κs = search needs
 
 returns : tie.Need-returns
-returns c = rw (c .before .before .before .room .ensures, c .room2 .ensures)
+returns c = search needs
 
 pub rooms-of-spec : {M : Type 1} → statement M
 rooms-of-spec = tie.close (tie.spec element-copy-out-room element-copy-out-room-2 room-requires element-copy-out-room-3 element-copy-out-room-4 room-requires-2 returns)

@@ -8,8 +8,6 @@ use Rattle.fiduccia_mattheyses_pass.proofs.Turns.{hold-none, hold-turn}
 use borrow.Author.Needs.{needs}
 use Rattle.fiduccia_mattheyses_pass.proofs.scan.sample.Statement.{statement}
 use Rattle.fiduccia_mattheyses_pass.proofs.scan.sample.Tie as tie
-use Rattle.fiduccia_mattheyses_pass.proofs.scan.sample.Reads as reads
-use Rattle.fiduccia_mattheyses_pass.proofs.scan.sample.Lts as lts
 
 abbrev Inv-loop : tie.InvT-loop
 Inv-loop gains labels weights rooms lifts first held₀ next₀ held next = Holds rooms lifts gains labels weights nobody held
@@ -21,7 +19,7 @@ loop-holds : tie.Need-loop-holds Inv-loop μ-loop
 loop-holds c = hold-none _ _ _ _ _ nobody refl
 
 turn-requires : tie.Need-turn-requires Inv-loop μ-loop
-turn-requires c κs = (c .before .before .before .before .before .before .pre, omega arith)
+turn-requires c κs = search needs
 
 add-next : tie.Need-add-next Inv-loop μ-loop
 add-next c = search needs

@@ -2,8 +2,6 @@
 use mir.Facts.{toZ-ofZ}
 use Rattle.fiduccia_mattheyses_pass.proofs.scan.slot_of.Statement.{statement}
 use Rattle.fiduccia_mattheyses_pass.proofs.scan.slot_of.Tie as tie
-use Rattle.fiduccia_mattheyses_pass.proofs.scan.slot_of.Reads as reads
-use Rattle.fiduccia_mattheyses_pass.proofs.scan.slot_of.Lts as lts
 
 returns : tie.Need-returns
 returns c = let e = toZ-ofZ (c .before .fits .g) in rw (e, rw e at (c .if1 .taken))

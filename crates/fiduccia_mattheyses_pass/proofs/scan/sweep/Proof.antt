@@ -9,8 +9,6 @@ use Rattle.fiduccia_mattheyses_pass.proofs.Turns.{sweep-one}
 use borrow.Author.Needs.{needs}
 use Rattle.fiduccia_mattheyses_pass.proofs.scan.sweep.Statement.{statement}
 use Rattle.fiduccia_mattheyses_pass.proofs.scan.sweep.Tie as tie
-use Rattle.fiduccia_mattheyses_pass.proofs.scan.sweep.Reads as reads
-use Rattle.fiduccia_mattheyses_pass.proofs.scan.sweep.Lts as lts
 
 abbrev Inv-loop : tie.InvT-loop
 Inv-loop gains labels weights rooms lifts blocks held₀ next₀ held next =
@@ -21,9 +19,7 @@ abbrev μ-loop : tie.MeasureT-loop
 μ-loop gains labels weights rooms lifts blocks held₀ next₀ held next = length labels - next
 
 blocks-of-twenty-requires : tie.Need-blocks-of-twenty-requires Inv-loop μ-loop
-blocks-of-twenty-requires c κs =
-    let q = c .before .before .before .before .pre in
-    (q .0, omega arith, q .1)
+blocks-of-twenty-requires c κs = search needs
 
 mul-next : tie.Need-mul-next Inv-loop μ-loop
 mul-next c = search needs
@@ -32,7 +28,7 @@ loop-holds : tie.Need-loop-holds Inv-loop μ-loop
 loop-holds c = (omega arith, λ start s. s)
 
 turn-requires : tie.Need-turn-requires Inv-loop μ-loop
-turn-requires c κs = (c .before .before .before .before .before .before .before .pre .0, omega arith)
+turn-requires c κs = search needs
 
 add-next : tie.Need-add-next Inv-loop μ-loop
 add-next c = search needs
@@ -45,7 +41,8 @@ loop-again c = (search needs, λ start s. sweep-one _ _ _ _ _ start _ _ _ (omega
 
 returns : tie.Need-returns Inv-loop μ-loop
 returns c =
-    let x = c .before .before .before .before .before .before .before .args in
+    let given : tie.Start Inv-loop μ-loop = search needs in
+    let x = given .args in
     let e : c .before .loop .next ≡ length (x .labels .now) = omega arith in
     rw e at (c .before .loop .inv .1 _ (c .before .before .blocks-of-twenty .ensures))
 

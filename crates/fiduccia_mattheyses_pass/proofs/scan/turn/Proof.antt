@@ -9,8 +9,6 @@ use Rattle.fiduccia_mattheyses_pass.proofs.Turns.{turn-lower, turn-leve
 use borrow.Author.Needs.{needs}
 use Rattle.fiduccia_mattheyses_pass.proofs.scan.turn.Statement.{statement}
 use Rattle.fiduccia_mattheyses_pass.proofs.scan.turn.Tie as tie
-use Rattle.fiduccia_mattheyses_pass.proofs.scan.turn.Reads as reads
-use Rattle.fiduccia_mattheyses_pass.proofs.scan.turn.Lts as lts
 
 add-v : tie.Need-add-v
 add-v c = search needs
@@ -26,8 +24,9 @@ below-requires c κs = search needs
 
 returns : tie.Need-returns
 returns c =
+    let given : tie.Start = search needs in
     let t = c .before .before in
-    let x = t .before .before .before .before .before .before .args in
+    let x = given .args in
     turn-lower (x .rooms .now) (x .lifts .now) (x .gains .now) (x .labels .now) (x .weights .now) (x .held) (x .from + x .step) _ _ _ (toZ-ofZ w64 _ (record { sfits = t .before .g .given })) (toZ-ofZ w64 _ (record { sfits = t .struct-told .given .1 .0 .1 })) (c .before .below .ensures) (c .if1 .taken)
 
 mul-wide : tie.Need-mul-wide
@@ -41,10 +40,14 @@ wide-requires c κs = search needs
 
 returns-2 : tie.Need-returns-2
 returns-2 c =
-    let w = c .before .before .before .before .before in
-    let t = w .before .before .before .before in
-    let x = t .before .before .before .before .before .before .args in
-    turn-level (x .rooms .now) (x .lifts .now) (x .gains .now) (x .labels .now) (x .weights .now) (x .held) (x .from + x .step) _ _ _ (toZ-ofZ w64 _ (record { sfits = t .before .g .given })) (toZ-ofZ w64 _ (record { sfits = t .struct-told .given .1 .0 .1 })) (w .wide .ensures) (c .before .before .if2 .taken) (c .if3 .taken)
+    let after-wide : tie.After-wide = search needs in
+    let after-struct-told : tie.After-struct-told = search needs in
+    let given : tie.Start = search needs in
+    let x = given .args in
+    turn-level (x .rooms .now) (x .lifts .now) (x .gains .now) (x .labels .now) (x .weights .now) (x .held) (x .from + x .step) _ _ _
+    (toZ-ofZ w64 _ (record { sfits = after-struct-told .before .g .given }))
+    (toZ-ofZ w64 _ (record { sfits = after-struct-told .struct-told .given .1 .0 .1 })) (after-wide .wide .ensures)
+    (c .before .before .if2 .taken) (c .if3 .taken)
 
 mul-index : tie.Need-mul-index
 mul-index c = search needs
@@ -58,9 +61,9 @@ index-requires c κs = search needs
 -- the label has a room and a lift
 label-low : (c : tie.After-index) → c .index .result < 2
 label-low c =
-    let s = c .before .before .before .before .before .before .before .before .before .before .before .before .before .before .before in
-    let x = s .args in
-    let two = s .pre .0 .two (x .from + x .step) in
+    let given : tie.Start = search needs in
+    let x = given .args in
+    let two = given .pre .0 .two (x .from + x .step) in
     omega (arith, c .index .ensures)
 
 mul-if4 : tie.Need-mul-if4
@@ -68,34 +71,37 @@ mul-if4 c = let l = label-low c in search needs
 
 shared-slice-read-if4 : tie.Need-shared-slice-read-if4
 shared-slice-read-if4 c =
+    let given : tie.Start = search needs in
     let l = label-low (c .before) in
-    let s = c .before .before .before .before .before .before .before .before .before .before .before .before .before .before .before .before in
-    omega (arith, s .pre .0 .roomed)
+    omega (arith, given .pre .0 .roomed)
 
 returns-3 : tie.Need-returns-3
 returns-3 c =
+    let after-wide : tie.After-wide = search needs in
+    let given : tie.Start = search needs in
     let i = c .before .before in
-    let w = i .before .before .before .before .before in
-    let x = w .before .before .before .before .before .before .before .before .before .before .args in
-    turn-heavy (x .rooms .now) (x .lifts .now) (x .gains .now) (x .labels .now) (x .weights .now) (x .held) (x .from + x .step) _ _ (w .wide .ensures) (i .index .ensures) (c .if4 .taken)
+    let x = given .args in
+    turn-heavy (x .rooms .now) (x .lifts .now) (x .gains .now) (x .labels .now) (x .weights .now) (x .held) (x .from + x .step) _ _
+    (after-wide .wide .ensures) (i .index .ensures) (c .if4 .taken)
 
 mul-load : tie.Need-mul-load
 mul-load c = let l = label-low (c .before .before) in search needs
 
 shared-slice-read-load : tie.Need-shared-slice-read-load
 shared-slice-read-load c =
-    let l = label-low (c .before .before .before) in
-    let s = c .before .before .before .before .before .before .before .before .before .before .before .before .before .before .before .before .before .before in
-    omega (arith, s .pre .0 .lifted)
+    let after-index : tie.After-index = search needs in
+    let given : tie.Start = search needs in
+    let l = label-low after-index in
+    omega (arith, given .pre .0 .lifted)
 
 add-load : tie.Need-add-load
 add-load c =
-    let i = c .before .before .before in
-    let w = i .before .before .before .before .before in
-    let s = w .before .before .before .before .before .before .before .before .before .before in
-    let x = s .args in
-    let l = s .pre .0 .light (i .index .result) (label-low i) in
-    omega (arith, w .wide .ensures, w .before .shared-slice-known5 .given (x .from + x .step))
+    let after-index : tie.After-index = search needs in
+    let after-wide : tie.After-wide = search needs in
+    let given : tie.Start = search needs in
+    let x = given .args in
+    let l = given .pre .0 .light (after-index .index .result) (label-low after-index) in
+    omega (arith, after-wide .wide .ensures, after-wide .before .shared-slice-known5 .given (x .from + x .step))
 
 outranks-requires : tie.Need-outranks-requires
 outranks-requires c κs = search needs
@@ -105,19 +111,30 @@ add-t27 c = search needs
 
 returns-4 : tie.Need-returns-4
 returns-4 c =
-    let i = c .before .before .before .before .before .before in
-    let w = i .before .before .before .before .before in
-    let t = w .before .before .before .before in
-    let x = t .before .before .before .before .before .before .args in
-    turn-takes (x .rooms .now) (x .lifts .now) (x .gains .now) (x .labels .now) (x .weights .now) (x .held) (x .from + x .step) _ _ _ _ _ _ (toZ-ofZ w64 _ (record { sfits = t .before .g .given })) (toZ-ofZ w64 _ (record { sfits = t .struct-told .given .1 .0 .1 })) (w .wide .ensures) (i .index .ensures) (ap₂ _+_ (ap (λ p. getD (x .lifts .now) p 0) (i .index .ensures)) (w .wide .ensures)) (c .before .before .before .before .if4 .left) (c .before .outranks .ensures) (c .if5 .taken)
+    let else4 : tie.Else4 = search needs in
+    let after-index : tie.After-index = search needs in
+    let after-wide : tie.After-wide = search needs in
+    let after-struct-told : tie.After-struct-told = search needs in
+    let given : tie.Start = search needs in
+    let x = given .args in
+    turn-takes (x .rooms .now) (x .lifts .now) (x .gains .now) (x .labels .now) (x .weights .now) (x .held) (x .from + x .step) _ _ _ _ _ _
+    (toZ-ofZ w64 _ (record { sfits = after-struct-told .before .g .given }))
+    (toZ-ofZ w64 _ (record { sfits = after-struct-told .struct-told .given .1 .0 .1 })) (after-wide .wide .ensures)
+    (after-index .index .ensures) (ap₂ _+_ (ap (λ p. getD (x .lifts .now) p 0) (after-index .index .ensures))
+    (after-wide .wide .ensures)) (else4 .if4 .left) (c .before .outranks .ensures) (c .if5 .taken)
 
 returns-5 : tie.Need-returns-5
 returns-5 c =
-    let i = c .before .before .before .before .before .before in
-    let w = i .before .before .before .before .before in
-    let t = w .before .before .before .before in
-    let x = t .before .before .before .before .before .before .args in
-    turn-not (x .rooms .now) (x .lifts .now) (x .gains .now) (x .labels .now) (x .weights .now) (x .held) (x .from + x .step) _ _ _ _ (toZ-ofZ w64 _ (record { sfits = t .before .g .given })) (toZ-ofZ w64 _ (record { sfits = t .struct-told .given .1 .0 .1 })) (ap₂ _+_ (ap (λ p. getD (x .lifts .now) p 0) (i .index .ensures)) (w .wide .ensures)) (c .before .outranks .ensures) (c .if5 .left)
+    let after-index : tie.After-index = search needs in
+    let after-wide : tie.After-wide = search needs in
+    let after-struct-told : tie.After-struct-told = search needs in
+    let given : tie.Start = search needs in
+    let x = given .args in
+    turn-not (x .rooms .now) (x .lifts .now) (x .gains .now) (x .labels .now) (x .weights .now) (x .held) (x .from + x .step) _ _ _ _
+    (toZ-ofZ w64 _ (record { sfits = after-struct-told .before .g .given }))
+    (toZ-ofZ w64 _ (record { sfits = after-struct-told .struct-told .given .1 .0 .1 }))
+    (ap₂ _+_ (ap (λ p. getD (x .lifts .now) p 0) (after-index .index .ensures)) (after-wide .wide .ensures))
+    (c .before .outranks .ensures) (c .if5 .left)
 
 pub turn-spec : {M : Type 1} → statement M
 turn-spec =

@@ -4,15 +4,25 @@ use native.Mathlib.Omega.{arith}
 use lib.ListN.{length}
 use Rattle.fiduccia_mattheyses_pass.specs.Turn.{Sighted}
 use Rattle.fiduccia_mattheyses_pass.proofs.Turns.{turns-none, turns-on}
+use borrow.Author.Needs.{needs}
 use Rattle.fiduccia_mattheyses_pass.proofs.scan.twenty.Statement.{statement}
 use Rattle.fiduccia_mattheyses_pass.proofs.scan.twenty.Tie as tie
-use Rattle.fiduccia_mattheyses_pass.proofs.scan.twenty.Reads as reads
-use Rattle.fiduccia_mattheyses_pass.proofs.scan.twenty.Lts as lts
+
+-- ---- what the function was given, from where its lists are known
+abbrev start-of : tie.After-shared-slice-known4 → tie.Start
+start-of c = search needs
 
 -- each of the twenty is a vertex
-asked : (c : tie.After-shared-slice-known4) (step : ℕ) → step < 20 → let x = c .before .before .before .before .args in Sighted (x .gains .now) (x .labels .now) (x .weights .now) (x .rooms .now) (x .lifts .now) × (x .from + step < length (x .labels .now))
+asked :
+    (c : tie.After-shared-slice-known4) (step : ℕ)
+    → let given : tie.Start = search needs in
+    step < 20
+    → let x = given .args in
+    Sighted (x .gains .now) (x .labels .now) (x .weights .now) (x .rooms .now) (x .lifts .now)
+    × (x .from + step < length (x .labels .now))
 asked c step l =
-    let q = c .before .before .before .before .pre in
+    let given : tie.Start = search needs in
+    let q = given .pre in
     let m = q .1 in
     (q .0, omega arith)
 
@@ -26,55 +36,107 @@ turn-requires-3 : tie.Need-turn-requires-3
 turn-requires-3 c κs = asked (c .before .before) 2 (omega arith)
 
 turn-requires-4 : tie.Need-turn-requires-4
-turn-requires-4 c κs = asked (c .before .before .before) 3 (omega arith)
+turn-requires-4 c κs =
+    let after-shared-slice-known4 : tie.After-shared-slice-known4 = search needs in
+    asked after-shared-slice-known4 3 (omega arith)
 
 turn-requires-5 : tie.Need-turn-requires-5
-turn-requires-5 c κs = asked (c .before .before .before .before) 4 (omega arith)
+turn-requires-5 c κs =
+    let after-shared-slice-known4 : tie.After-shared-slice-known4 = search needs in
+    asked after-shared-slice-known4 4 (omega arith)
 
 turn-requires-6 : tie.Need-turn-requires-6
-turn-requires-6 c κs = asked (c .before .before .before .before .before) 5 (omega arith)
+turn-requires-6 c κs =
+    let after-shared-slice-known4 : tie.After-shared-slice-known4 = search needs in
+    asked after-shared-slice-known4 5 (omega arith)
 
 turn-requires-7 : tie.Need-turn-requires-7
-turn-requires-7 c κs = asked (c .before .before .before .before .before .before) 6 (omega arith)
+turn-requires-7 c κs =
+    let after-shared-slice-known4 : tie.After-shared-slice-known4 = search needs in
+    asked after-shared-slice-known4 6 (omega arith)
 
 turn-requires-8 : tie.Need-turn-requires-8
-turn-requires-8 c κs = asked (c .before .before .before .before .before .before .before) 7 (omega arith)
+turn-requires-8 c κs =
+    let after-shared-slice-known4 : tie.After-shared-slice-known4 = search needs in
+    asked after-shared-slice-known4 7 (omega arith)
 
 turn-requires-9 : tie.Need-turn-requires-9
-turn-requires-9 c κs = asked (c .before .before .before .before .before .before .before .before) 8 (omega arith)
+turn-requires-9 c κs =
+    let after-shared-slice-known4 : tie.After-shared-slice-known4 = search needs in
+    asked after-shared-slice-known4 8 (omega arith)
 
 turn-requires-10 : tie.Need-turn-requires-10
-turn-requires-10 c κs = asked (c .before .before .before .before .before .before .before .before .before) 9 (omega arith)
+turn-requires-10 c κs =
+    let after-shared-slice-known4 : tie.After-shared-slice-known4 = search needs in
+    asked after-shared-slice-known4 9 (omega arith)
+
+-- the stations that lie far back, each from a nearer one
+abbrev shared-slice-known4-of : tie.After-turn9 → tie.After-shared-slice-known4
+shared-slice-known4-of c = search needs
+
+abbrev turn9-of : tie.After-turn12 → tie.After-turn9
+turn9-of c = search needs
 
 turn-requires-11 : tie.Need-turn-requires-11
-turn-requires-11 c κs = asked (c .before .before .before .before .before .before .before .before .before .before) 10 (omega arith)
+turn-requires-11 c κs =
+    let after-turn9 : tie.After-turn9 = search needs in
+    let after-shared-slice-known4 = shared-slice-known4-of after-turn9 in
+    asked after-shared-slice-known4 10 (omega arith)
 
 turn-requires-12 : tie.Need-turn-requires-12
-turn-requires-12 c κs = asked (c .before .before .before .before .before .before .before .before .before .before .before) 11 (omega arith)
+turn-requires-12 c κs =
+    let after-turn9 : tie.After-turn9 = search needs in
+    let after-shared-slice-known4 = shared-slice-known4-of after-turn9 in
+    asked after-shared-slice-known4 11 (omega arith)
 
 turn-requires-13 : tie.Need-turn-requires-13
-turn-requires-13 c κs = asked (c .before .before .before .before .before .before .before .before .before .before .before .before) 12 (omega arith)
+turn-requires-13 c κs =
+    let after-turn9 : tie.After-turn9 = search needs in
+    let after-shared-slice-known4 = shared-slice-known4-of after-turn9 in
+    asked after-shared-slice-known4 12 (omega arith)
 
 turn-requires-14 : tie.Need-turn-requires-14
-turn-requires-14 c κs = asked (c .before .before .before .before .before .before .before .before .before .before .before .before .before) 13 (omega arith)
+turn-requires-14 c κs =
+    let after-turn9 : tie.After-turn9 = search needs in
+    let after-shared-slice-known4 = shared-slice-known4-of after-turn9 in
+    asked after-shared-slice-known4 13 (omega arith)
 
 turn-requires-15 : tie.Need-turn-requires-15
-turn-requires-15 c κs = asked (c .before .before .before .before .before .before .before .before .before .before .before .before .before .before) 14 (omega arith)
+turn-requires-15 c κs =
+    let after-turn9 : tie.After-turn9 = search needs in
+    let after-shared-slice-known4 = shared-slice-known4-of after-turn9 in
+    asked after-shared-slice-known4 14 (omega arith)
 
 turn-requires-16 : tie.Need-turn-requires-16
-turn-requires-16 c κs = asked (c .before .before .before .before .before .before .before .before .before .before .before .before .before .before .before) 15 (omega arith)
+turn-requires-16 c κs =
+    let after-turn9 : tie.After-turn9 = search needs in
+    let after-shared-slice-known4 = shared-slice-known4-of after-turn9 in
+    asked after-shared-slice-known4 15 (omega arith)
 
 turn-requires-17 : tie.Need-turn-requires-17
-turn-requires-17 c κs = asked (c .before .before .before .before .before .before .before .before .before .before .before .before .before .before .before .before) 16 (omega arith)
+turn-requires-17 c κs =
+    let after-turn9 : tie.After-turn9 = search needs in
+    let after-shared-slice-known4 = shared-slice-known4-of after-turn9 in
+    asked after-shared-slice-known4 16 (omega arith)
 
 turn-requires-18 : tie.Need-turn-requires-18
-turn-requires-18 c κs = asked (c .before .before .before .before .before .before .before .before .before .before .before .before .before .before .before .before .before) 17 (omega arith)
+turn-requires-18 c κs =
+    let after-turn9 : tie.After-turn9 = search needs in
+    let after-shared-slice-known4 = shared-slice-known4-of after-turn9 in
+    asked after-shared-slice-known4 17 (omega arith)
 
 turn-requires-19 : tie.Need-turn-requires-19
-turn-requires-19 c κs = asked (c .before .before .before .before .before .before .before .before .before .before .before .before .before .before .before .before .before .before) 18 (omega arith)
+turn-requires-19 c κs =
+    let after-turn9 : tie.After-turn9 = search needs in
+    let after-shared-slice-known4 = shared-slice-known4-of after-turn9 in
+    asked after-shared-slice-known4 18 (omega arith)
 
 turn-requires-20 : tie.Need-turn-requires-20
-turn-requires-20 c κs = asked (c .before .before .before .before .before .before .before .before .before .before .before .before .before .before .before .before .before .before .before) 19 (omega arith)
+turn-requires-20 c κs =
+    let after-turn12 : tie.After-turn12 = search needs in
+    let after-turn9 = turn9-of after-turn12 in
+    let after-shared-slice-known4 = shared-slice-known4-of after-turn9 in
+    asked after-shared-slice-known4 19 (omega arith)
 
 returns : tie.Need-returns
 returns c =
@@ -97,7 +159,7 @@ returns c =
     let c3 = c4 .before in
     let c2 = c3 .before in
     let c1 = c2 .before in
-    let x = c1 .before .before .before .before .before .args in
+    let x = start-of (c1 .before) .args in
     let t0 = turns-none (x .rooms .now) (x .lifts .now) (x .gains .now) (x .labels .now) (x .weights .now) (x .held) (x .from) in
     let t1 = turns-on (x .rooms .now) (x .lifts .now) (x .gains .now) (x .labels .now) (x .weights .now) (x .held) _ _ (x .from) 0 t0 (c1 .turn .ensures) in
     let t2 = turns-on (x .rooms .now) (x .lifts .now) (x .gains .now) (x .labels .now) (x .weights .now) (x .held) _ _ (x .from) 1 t1 (c2 .turn2 .ensures) in

@@ -24,7 +24,7 @@ has-label-requires : tie.Need-has-label-requires Inv-loop μ-loop
 has-label-requires c κs = search needs
 
 add-count : tie.Need-add-count Inv-loop μ-loop
-add-count c = omega (arith, c .before .before .before .loop .inv .2, c .before .before .loop-test .taken)
+add-count c = search needs
 
 add-t : tie.Need-add-t Inv-loop μ-loop
 add-t c = search needs
@@ -34,8 +34,10 @@ loop-less c = search needs
 
 loop-again : tie.Need-loop-again Inv-loop μ-loop
 loop-again c =
-    let l = c .before .before .before .loop in
-    let a = c .before .before .before .before .before .args in
+    let entered : tie.At-loop Inv-loop μ-loop = search needs in
+    let given : tie.Start Inv-loop μ-loop = search needs in
+    let l = entered .loop in
+    let a = given .args in
     let h = c .before .before .loop-test .taken in
     ⊎-elim
     (λ w. (omega arith, rw (w .1) (sum-step (l .t) (l .count) 1 (λ i. weigh (uses (a .labels .now) i) 1) (l .inv .1) (rw (sym (c .before .has-label .ensures) ∙ w .0 .taken) refl)), omega (arith, w .1, l .inv .2)))

@@ -32,8 +32,11 @@ shared-slice-read-if1 c = search needs
 returns : tie.Need-returns Inv-loop μ-loop
 unfolding uses
 returns c =
-    let a = c .before .before .before .before .args in
-    sym (some-holds (length (a .labels .now)) (c .before .before .before .loop .v) (λ i. eqb (part (a .labels .now) i) (a .t)) (c .before .before .loop-test .taken) (eq-eqb _ _ (c .if1 .taken)))
+    let entered : tie.At-loop Inv-loop μ-loop = search needs in
+    let given : tie.Start Inv-loop μ-loop = search needs in
+    let a = given .args in
+    sym (some-holds (length (a .labels .now)) (entered .loop .v) (λ i. eqb (part (a .labels .now) i) (a .t))
+    (c .before .before .loop-test .taken) (eq-eqb _ _ (c .if1 .taken)))
 
 add-v : tie.Need-add-v Inv-loop μ-loop
 add-v c = search needs
@@ -42,7 +45,9 @@ loop-less : tie.Need-loop-less Inv-loop μ-loop
 loop-less c = search needs
 
 loop-again : tie.Need-loop-again Inv-loop μ-loop
-loop-again c = (search needs, some-more _ _ (c .before .before .before .loop .inv .1) (ne-eqb _ _ (c .if1 .left)))
+loop-again c =
+    let entered : tie.At-loop Inv-loop μ-loop = search needs in
+    (search needs, some-more _ _ (entered .loop .inv .1) (ne-eqb _ _ (c .if1 .left)))
 
 returns-2 : tie.Need-returns-2 Inv-loop μ-loop
 unfolding uses

@@ -37,40 +37,106 @@ within-one : (s : tie.Start) → Within 17594333528064 (gains-one s)
 within-one s = added-within (graph s) (s .args .labels .now) (s .pre .0) 17592186044416 (s .args .gains .now) (s .pre .3)
 
 -- the first choice
-at-one : (c : tie.After-largest-on) → c .largest-on .result ≡ placeOf (length (c .before .before .before .before .before .before .before .before .before .before .args .labels .now)) (choice-one (c .before .before .before .before .before .before .before .before .before .before))
-at-one c = rw (c .before .before .before .add-fresh .ensures) at (c .largest-on .ensures)
+at-one :
+    (c : tie.After-largest-on)
+    → let given : tie.Start = search needs in
+    c .largest-on .result ≡ placeOf (length (given .args .labels .now)) (choice-one given)
+at-one c =
+    let after-add-fresh : tie.After-add-fresh = search needs in
+    rw (after-add-fresh .add-fresh .ensures) at (c .largest-on .ensures)
 
-one : (c : tie.Else1) → (choice-one (c .before .before .before .before .before .before .before .before .before .before .before) ≡ some (c .before .largest-on .result)) × (c .before .largest-on .result < length (c .before .before .before .before .before .before .before .before .before .before .before .args .labels .now))
+one :
+    (c : tie.Else1)
+    → let given : tie.Start = search needs in
+    (choice-one given ≡ some (c .before .largest-on .result)) × (c .before .largest-on .result < length (given .args .labels .now))
 one c =
-    let s = c .before .before .before .before .before .before .before .before .before .before .before in
-    let o = place-some (length (s .args .labels .now)) (c .before .largest-on .result) (choice-one s) (at-one (c .before)) (c .if1 .left) in
-    (o, largest-in (λ v. true) (s .args .first) true (s .args .labels .now) (gains-one s) (s .args .locks .now) (c .before .largest-on .result) o .0)
+    let given : tie.Start = search needs in
+    let o = place-some (length (given .args .labels .now)) (c .before .largest-on .result) (choice-one given) (at-one (c .before)) (c .if1 .left) in (
+      o,
+      largest-in (λ v. true) (given .args .first) true (given .args .labels .now) (gains-one given) (given .args .locks .now)
+          (c .before .largest-on .result) o .0,
+    )
 
 -- the gains that the neighbours were told
-told-is : (c : tie.After-tell) → c .tell .last .1 .1 .1 .1 .0 ≡ told (graph (c .before .before .before .before .before .before .before .before .before .before .before .before .before .before)) (c .before .before .before .before .before .before .before .before .before .before .before .before .before .before .args .labels .now) (c .before .before .before .before .largest-on .result) (gains-one (c .before .before .before .before .before .before .before .before .before .before .before .before .before .before))
-told-is c = rw (c .before .before .before .before .before .before .before .add-fresh .ensures) at (c .tell .ensures)
+told-is :
+    (c : tie.After-tell)
+    → let after-largest-on : tie.After-largest-on = search needs in
+    let given : tie.Start = search needs in
+    c .tell .last .1 .1 .1 .1 .0 ≡ told (graph given) (given .args .labels .now) (after-largest-on .largest-on .result) (gains-one given)
+told-is c =
+    let after-add-fresh : tie.After-add-fresh = search needs in
+    rw (after-add-fresh .add-fresh .ensures) at (c .tell .ensures)
 
-within-two : (c : tie.Else1) → Within 17598628495358 (told (graph (c .before .before .before .before .before .before .before .before .before .before .before)) (c .before .before .before .before .before .before .before .before .before .before .before .args .labels .now) (c .before .largest-on .result) (gains-one (c .before .before .before .before .before .before .before .before .before .before .before)))
-within-two c = let s = c .before .before .before .before .before .before .before .before .before .before .before in told-within (graph s) (s .args .labels .now) (s .pre .0) 17594333528064 (gains-one s) (within-one s) (c .before .largest-on .result) (one c .1)
+within-two :
+    (c : tie.Else1)
+    → let given : tie.Start = search needs in
+    Within 17598628495358 (told (graph given) (given .args .labels .now) (c .before .largest-on .result) (gains-one given))
+within-two c =
+    let given : tie.Start = search needs in
+    told-within (graph given) (given .args .labels .now) (given .pre .0) 17594333528064 (gains-one given) (within-one given)
+    (c .before .largest-on .result) (one c .1)
 
 -- the second choice
-at-two : (c : tie.After-largest-on2) → c .largest-on2 .result ≡ placeOf (length (c .before .before .before .before .before .before .before .before .before .before .before .before .before .before .before .before .before .args .labels .now)) (choice-two (c .before .before .before .before .before .before .before .before .before .before .before .before .before .before .before .before .before) (c .before .before .before .before .before .before .before .largest-on .result))
-at-two c = rw (told-is (c .before .before .before)) at (c .largest-on2 .ensures)
+at-two :
+    (c : tie.After-largest-on2)
+    → let after-largest-on : tie.After-largest-on = search needs in
+    let given : tie.Start = search needs in
+    c .largest-on2 .result ≡ placeOf (length (given .args .labels .now)) (choice-two given (after-largest-on .largest-on .result))
+at-two c =
+    let after-tell : tie.After-tell = search needs in
+    rw (told-is after-tell) at (c .largest-on2 .ensures)
 
-two : (c : tie.Else2) → (choice-two (c .before .before .before .before .before .before .before .before .before .before .before .before .before .before .before .before .before .before) (c .before .before .before .before .before .before .before .before .largest-on .result) ≡ some (c .before .largest-on2 .result)) × (c .before .largest-on2 .result < length (c .before .before .before .before .before .before .before .before .before .before .before .before .before .before .before .before .before .before .args .labels .now))
+two :
+    (c : tie.Else2)
+    → let after-largest-on : tie.After-largest-on = search needs in
+    let given : tie.Start = search needs in
+    (choice-two given (after-largest-on .largest-on .result) ≡ some (c .before .largest-on2 .result))
+    × (c .before .largest-on2 .result < length (given .args .labels .now))
 two c =
-    let s = c .before .before .before .before .before .before .before .before .before .before .before .before .before .before .before .before .before .before in
-    let o = place-some (length (s .args .labels .now)) (c .before .largest-on2 .result) (choice-two s (c .before .before .before .before .before .before .before .before .largest-on .result)) (at-two (c .before)) (c .if2 .left) in
-    (o, largest-in (λ v. true) (s .args .first) false (s .args .labels .now) _ (s .args .locks .now) (c .before .largest-on2 .result) o .0)
+    let after-largest-on : tie.After-largest-on = search needs in
+    let given : tie.Start = search needs in
+    let o = place-some (length (given .args .labels .now)) (c .before .largest-on2 .result)
+    (choice-two given (after-largest-on .largest-on .result)) (at-two (c .before)) (c .if2 .left) in (
+      o,
+      largest-in (λ v. true) (given .args .first) false (given .args .labels .now) _ (given .args .locks .now)
+          (c .before .largest-on2 .result) o .0,
+    )
 
 -- the two gains, as they were read
-g-is : (c : tie.After-h) → toZ w64 (ofZ w64 (getD (c .before .before .before .before .before .before .before .before .before .before .before .before .add-fresh .last .1 .1 .1 .1 .0) (c .before .before .before .before .before .before .before .before .before .largest-on .result) (pos 0))) ≡ getD (gains-one (c .before .before .before .before .before .before .before .before .before .before .before .before .before .before .before .before .before .before .before)) (c .before .before .before .before .before .before .before .before .before .largest-on .result) (pos 0)
-g-is c = place-read _ _ (c .before .before .before .before .before .before .before .before .before .largest-on .result) 17594333528064 (c .before .before .before .before .before .before .before .before .before .before .before .before .add-fresh .ensures) (within-one (c .before .before .before .before .before .before .before .before .before .before .before .before .before .before .before .before .before .before .before)) (omega arith)
+g-is :
+    (c : tie.After-h)
+    → let after-largest-on : tie.After-largest-on = search needs in
+    let after-add-fresh : tie.After-add-fresh = search needs in
+    let given : tie.Start = search needs in
+    toZ w64 (ofZ w64 (getD (after-add-fresh .add-fresh .last .1 .1 .1 .1 .0) (after-largest-on .largest-on .result) (pos 0)))
+    ≡ getD (gains-one given) (after-largest-on .largest-on .result) (pos 0)
+g-is c =
+    let after-largest-on : tie.After-largest-on = search needs in
+    let after-add-fresh : tie.After-add-fresh = search needs in
+    let given : tie.Start = search needs in
+    place-read _ _ (after-largest-on .largest-on .result) 17594333528064 (after-add-fresh .add-fresh .ensures) (within-one given) (omega arith)
 
-h-is : (c : tie.After-h) → toZ w64 (ofZ w64 (getD (c .before .before .before .before .before .tell .last .1 .1 .1 .1 .0) (c .before .before .largest-on2 .result) (pos 0))) ≡ getD (told (graph (c .before .before .before .before .before .before .before .before .before .before .before .before .before .before .before .before .before .before .before)) (c .before .before .before .before .before .before .before .before .before .before .before .before .before .before .before .before .before .before .before .args .labels .now) (c .before .before .before .before .before .before .before .before .before .largest-on .result) (gains-one (c .before .before .before .before .before .before .before .before .before .before .before .before .before .before .before .before .before .before .before))) (c .before .before .largest-on2 .result) (pos 0)
-h-is c = place-read _ _ (c .before .before .largest-on2 .result) 17598628495358 (told-is (c .before .before .before .before .before)) (within-two (c .before .before .before .before .before .before .before .before)) (omega arith)
+h-is :
+    (c : tie.After-h)
+    → let after-tell : tie.After-tell = search needs in
+    let after-largest-on : tie.After-largest-on = search needs in
+    let given : tie.Start = search needs in
+    toZ w64 (ofZ w64 (getD (after-tell .tell .last .1 .1 .1 .1 .0) (c .before .before .largest-on2 .result) (pos 0)))
+    ≡ getD (told (graph given) (given .args .labels .now) (after-largest-on .largest-on .result) (gains-one given))
+    (c .before .before .largest-on2 .result) (pos 0)
+h-is c =
+    let after-tell : tie.After-tell = search needs in
+    let else1 : tie.Else1 = search needs in
+    place-read _ _ (c .before .before .largest-on2 .result) 17598628495358 (told-is after-tell) (within-two else1) (omega arith)
 
-stop-is : (c : tie.After-stops) → let s = c .before .before .before .before .before .before .before .before .before .before .before .before .before .before .before .before .before .before .before .before in let v = c .before .before .before .before .before .before .before .before .before .before .largest-on .result in c .stops .result ≡ leZ (getD (gains-one s) v (pos 0) +ℤ getD (told (graph s) (s .args .labels .now) v (gains-one s)) (c .before .before .before .largest-on2 .result) (pos 0)) (pos 0) && eqb (s .args .bad) 0
+stop-is :
+    (c : tie.After-stops)
+    → let after-largest-on2 : tie.After-largest-on2 = search needs in
+    let after-largest-on : tie.After-largest-on = search needs in
+    let given : tie.Start = search needs in
+    let v = after-largest-on .largest-on .result in
+    c .stops .result ≡ leZ (getD (gains-one given) v (pos 0) +ℤ getD (told (graph given) (given .args .labels .now) v (gains-one given))
+    (after-largest-on2 .largest-on2 .result) (pos 0)) (pos 0) && eqb (given .args .bad) 0
 stop-is c = rw (g-is (c .before), h-is (c .before)) at (c .stops .ensures)
 
 add-fresh-requires : tie.Need-add-fresh-requires
@@ -78,65 +144,116 @@ add-fresh-requires c κs = search needs
 
 largest-on-requires : tie.Need-largest-on-requires
 largest-on-requires c κs =
-    let s = c .before .before .before .before .before .before .before .before .before in
-    (c .before .before .add-fresh .kept .1 .1 .1 .1 .0 ∙ s .pre .1, s .pre .2, s .pre .0 .rows .few, rw (c .before .before .add-fresh .ensures) (λ u. omega (arith, within-one s u)))
+    let given : tie.Start = search needs in (
+      c .before .before .add-fresh .kept .1 .1 .1 .1 .0 ∙ given .pre .1,
+      given .pre .2,
+      given .pre .0 .rows .few,
+      rw (c .before .before .add-fresh .ensures) (λ u. omega (arith, within-one given u)),
+    )
 
 same-length : tie.Need-same-length
 same-length c = search needs
 
 returns : tie.Need-returns
 returns c =
-    let s = c .before .before .before .before .before .before .before .before .before .before .before in
-    chose-none (setting (graph s) (s .args .first) (s .args .bad)) (s .args .labels .now) (s .args .gains .now) (s .args .locks .now) _ _
-    (pair-one-out (setting (graph s) (s .args .first) (s .args .bad)) (s .args .labels .now) (s .args .gains .now) (s .args .locks .now)
-    (place-none (length (s .args .labels .now)) _ (choice-one s) (λ u e. largest-in (λ v. true) (s .args .first) true (s .args .labels .now) (gains-one s) (s .args .locks .now) u e .0) (at-one (c .before)) (c .if1 .taken)))
+    let given : tie.Start = search needs in
+    chose-none (setting (graph given) (given .args .first) (given .args .bad)) (given .args .labels .now) (given .args .gains .now)
+    (given .args .locks .now) _ _
+    (pair-one-out (setting (graph given) (given .args .first) (given .args .bad)) (given .args .labels .now) (given .args .gains .now)
+    (given .args .locks .now)
+    (place-none (length (given .args .labels .now)) _ (choice-one given)
+    (λ u e. largest-in (λ v. true) (given .args .first) true (given .args .labels .now) (gains-one given)
+    (given .args .locks .now) u e .0) (at-one (c .before)) (c .if1 .taken)))
     refl
 
 mul-g : tie.Need-mul-g
-mul-g c = omega (arith, one c .1, c .before .before .before .before .before .before .before .before .before .before .before .pre .0 .rows .few)
+mul-g c =
+    let given : tie.Start = search needs in
+    omega (arith, one c .1, given .pre .0 .rows .few)
 
 slice-copy-out-g : tie.Need-slice-copy-out-g
-slice-copy-out-g c = omega (arith, one c .1, c .before .before .before .before .add-fresh .kept .1 .1 .1 .1 .0, c .before .before .before .before .before .before .before .before .before .before .before .pre .1)
+slice-copy-out-g c =
+    let after-add-fresh : tie.After-add-fresh = search needs in
+    let given : tie.Start = search needs in
+    omega (arith, one c .1, after-add-fresh .add-fresh .kept .1 .1 .1 .1 .0, given .pre .1)
 
 tell-requires : tie.Need-tell-requires
 tell-requires c κs =
-    let s = c .before .before .before .before .before .before .before .before .before .before .before .before .before in
-    (s .pre .0, c .before .before .before .before .before .before .add-fresh .kept .1 .1 .1 .1 .0 ∙ s .pre .1, one (c .before .before) .1, rw (c .before .before .before .before .before .before .add-fresh .ensures) (λ u. omega (arith, within-one s u)))
+    let after-add-fresh : tie.After-add-fresh = search needs in
+    let given : tie.Start = search needs in (
+      given .pre .0,
+      after-add-fresh .add-fresh .kept .1 .1 .1 .1 .0 ∙ given .pre .1,
+      one (c .before .before) .1,
+      rw (after-add-fresh .add-fresh .ensures) (λ u. omega (arith, within-one given u)),
+    )
 
 largest-on-requires-2 : tie.Need-largest-on-requires-2
 largest-on-requires-2 c κs =
-    let s = c .before .before .before .before .before .before .before .before .before .before .before .before .before .before .before .before in
-    (c .before .before .tell .kept .1 .1 .1 .1 .0 ∙ c .before .before .before .before .before .before .before .before .before .add-fresh .kept .1 .1 .1 .1 .0 ∙ s .pre .1, s .pre .2, s .pre .0 .rows .few, rw (told-is (c .before .before)) (λ u. omega (arith, within-two (c .before .before .before .before .before) u)))
+    let else1 : tie.Else1 = search needs in
+    let after-add-fresh : tie.After-add-fresh = search needs in
+    let given : tie.Start = search needs in (
+      c .before .before .tell .kept .1 .1 .1 .1 .0 ∙ after-add-fresh .add-fresh .kept .1 .1 .1 .1 .0 ∙ given .pre .1,
+      given .pre .2,
+      given .pre .0 .rows .few,
+      rw (told-is (c .before .before)) (λ u. omega (arith, within-two else1 u)),
+    )
 
 same-length-2 : tie.Need-same-length-2
 same-length-2 c = search needs
 
 returns-2 : tie.Need-returns-2
 returns-2 c =
-    let s = c .before .before .before .before .before .before .before .before .before .before .before .before .before .before .before .before .before .before in
-    chose-none (setting (graph s) (s .args .first) (s .args .bad)) (s .args .labels .now) (s .args .gains .now) (s .args .locks .now) _ _
-    (pair-two-out (setting (graph s) (s .args .first) (s .args .bad)) (s .args .labels .now) (s .args .gains .now) (s .args .locks .now) (c .before .before .before .before .before .before .before .before .largest-on .result) (one (c .before .before .before .before .before .before .before) .0)
-    (place-none (length (s .args .labels .now)) _ (choice-two s (c .before .before .before .before .before .before .before .before .largest-on .result)) (λ u e. largest-in (λ v. true) (s .args .first) false (s .args .labels .now) _ (s .args .locks .now) u e .0) (at-two (c .before)) (c .if2 .taken)))
+    let else1 : tie.Else1 = search needs in
+    let after-largest-on : tie.After-largest-on = search needs in
+    let given : tie.Start = search needs in
+    chose-none (setting (graph given) (given .args .first) (given .args .bad)) (given .args .labels .now) (given .args .gains .now)
+    (given .args .locks .now) _ _
+    (pair-two-out (setting (graph given) (given .args .first) (given .args .bad)) (given .args .labels .now) (given .args .gains .now)
+    (given .args .locks .now) (after-largest-on .largest-on .result) (one else1 .0)
+    (place-none (length (given .args .labels .now)) _ (choice-two given (after-largest-on .largest-on .result))
+    (λ u e. largest-in (λ v. true) (given .args .first) false (given .args .labels .now) _ (given .args .locks .now) u e .0)
+    (at-two (c .before)) (c .if2 .taken)))
     refl
 
 mul-h : tie.Need-mul-h
-mul-h c = omega (arith, two c .1, c .before .before .before .before .before .before .before .before .before .before .before .before .before .before .before .before .before .before .pre .0 .rows .few)
+mul-h c =
+    let given : tie.Start = search needs in
+    omega (arith, two c .1, given .pre .0 .rows .few)
 
 slice-copy-out-h : tie.Need-slice-copy-out-h
-slice-copy-out-h c = omega (arith, two c .1, c .before .before .before .before .tell .kept .1 .1 .1 .1 .0, c .before .before .before .before .before .before .before .before .before .before .before .add-fresh .kept .1 .1 .1 .1 .0, c .before .before .before .before .before .before .before .before .before .before .before .before .before .before .before .before .before .before .pre .1)
+slice-copy-out-h c =
+    let after-tell : tie.After-tell = search needs in
+    let after-add-fresh : tie.After-add-fresh = search needs in
+    let given : tie.Start = search needs in
+    omega (arith, two c .1, after-tell .tell .kept .1 .1 .1 .1 .0, after-add-fresh .add-fresh .kept .1 .1 .1 .1 .0, given .pre .1)
 
 stops-requires : tie.Need-stops-requires
-stops-requires c κs = (rw (g-is c) (omega (arith, within-one (c .before .before .before .before .before .before .before .before .before .before .before .before .before .before .before .before .before .before .before) (c .before .before .before .before .before .before .before .before .before .largest-on .result))), rw (h-is c) (omega (arith, within-two (c .before .before .before .before .before .before .before .before) (c .before .before .largest-on2 .result))))
+stops-requires c κs =
+    let else1 : tie.Else1 = search needs in
+    let after-largest-on : tie.After-largest-on = search needs in
+    let given : tie.Start = search needs in (
+      rw (g-is c) (omega (arith, within-one given (after-largest-on .largest-on .result))),
+      rw (h-is c) (omega (arith, within-two else1 (c .before .before .largest-on2 .result))),
+    )
 
 same-length-3 : tie.Need-same-length-3
 same-length-3 c = search needs
 
+-- the stations that lie far back, each from a nearer one
+abbrev start-of : tie.After-largest-on → tie.Start
+start-of c = search needs
+
 returns-3 : tie.Need-returns-3
 returns-3 c =
-    let s = c .before .before .before .before .before .before .before .before .before .before .before .before .before .before .before .before .before .before .before .before .before in
-    let S = setting (graph s) (s .args .first) (s .args .bad) in
-    chose-none S (s .args .labels .now) (s .args .gains .now) (s .args .locks .now) _ _
-    (pair-stops S (s .args .labels .now) (s .args .gains .now) (s .args .locks .now) (c .before .before .before .before .before .before .before .before .before .before .before .largest-on .result) (c .before .before .before .before .largest-on2 .result) (one (c .before .before .before .before .before .before .before .before .before .before) .0) (two (c .before .before .before) .0) (sym (stop-is (c .before)) ∙ c .if3 .taken))
+    let else2 : tie.Else2 = search needs in
+    let after-largest-on2 : tie.After-largest-on2 = search needs in
+    let else1 : tie.Else1 = search needs in
+    let after-largest-on : tie.After-largest-on = search needs in
+    let given = start-of after-largest-on in
+    let S = setting (graph given) (given .args .first) (given .args .bad) in
+    chose-none S (given .args .labels .now) (given .args .gains .now) (given .args .locks .now) _ _
+    (pair-stops S (given .args .labels .now) (given .args .gains .now) (given .args .locks .now) (after-largest-on .largest-on .result)
+    (after-largest-on2 .largest-on2 .result) (one else1 .0) (two else2 .0) (sym (stop-is (c .before)) ∙ c .if3 .taken))
     refl
 
 same-length-4 : tie.Need-same-length-4
@@ -144,11 +261,18 @@ same-length-4 c = search needs
 
 returns-4 : tie.Need-returns-4
 returns-4 c =
-    let s = c .before .before .before .before .before .before .before .before .before .before .before .before .before .before .before .before .before .before .before .before .before in
-    let S = setting (graph s) (s .args .first) (s .args .bad) in
-    chose-some S (s .args .labels .now) (s .args .gains .now) (s .args .locks .now) (c .before .before .before .before .before .before .before .before .before .before .before .largest-on .result) (c .before .before .before .before .largest-on2 .result) _
-    (pair-goes S (s .args .labels .now) (s .args .gains .now) (s .args .locks .now) (c .before .before .before .before .before .before .before .before .before .before .before .largest-on .result) (c .before .before .before .before .largest-on2 .result) (one (c .before .before .before .before .before .before .before .before .before .before) .0) (two (c .before .before .before) .0) (sym (stop-is (c .before)) ∙ c .if3 .left))
-    (told-is (c .before .before .before .before .before .before .before))
+    let else2 : tie.Else2 = search needs in
+    let after-largest-on2 : tie.After-largest-on2 = search needs in
+    let after-tell : tie.After-tell = search needs in
+    let else1 : tie.Else1 = search needs in
+    let after-largest-on : tie.After-largest-on = search needs in
+    let given = start-of after-largest-on in
+    let S = setting (graph given) (given .args .first) (given .args .bad) in
+    chose-some S (given .args .labels .now) (given .args .gains .now) (given .args .locks .now) (after-largest-on .largest-on .result)
+    (after-largest-on2 .largest-on2 .result) _
+    (pair-goes S (given .args .labels .now) (given .args .gains .now) (given .args .locks .now) (after-largest-on .largest-on .result)
+    (after-largest-on2 .largest-on2 .result) (one else1 .0) (two else2 .0) (sym (stop-is (c .before)) ∙ c .if3 .left))
+    (told-is after-tell)
 
 pub choose-pair-spec : {M : Type 1} → statement M
 choose-pair-spec =

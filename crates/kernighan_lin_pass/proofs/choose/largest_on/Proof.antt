@@ -20,8 +20,16 @@ abbrev μ-loop : tie.MeasureT-loop
 μ-loop labels gains locks first side at₀ most₀ v₀ at most v = length labels - v
 
 -- the gain that was read
-read : (c : tie.After-takes Inv-loop μ-loop) → let s = c .before .before .before .before .before .before .before .before in toZ w64 (ofZ w64 (getD (s .args .gains .now) (c .before .before .before .before .before .loop .v) (pos 0))) ≡ getD (s .args .gains .now) (c .before .before .before .before .before .loop .v) (pos 0)
-read c = toZ-ofZ w64 _ (sfits-of (omega (arith, c .before .before .before .before .before .before .before .before .pre .3 (c .before .before .before .before .before .loop .v))))
+read :
+    (c : tie.After-takes Inv-loop μ-loop)
+    → let entered : tie.At-loop Inv-loop μ-loop = search needs in
+    let given : tie.Start Inv-loop μ-loop = search needs in
+    toZ w64 (ofZ w64 (getD (given .args .gains .now) (entered .loop .v) (pos 0)))
+    ≡ getD (given .args .gains .now) (entered .loop .v) (pos 0)
+read c =
+    let entered : tie.At-loop Inv-loop μ-loop = search needs in
+    let given : tie.Start Inv-loop μ-loop = search needs in
+    toZ-ofZ w64 _ (sfits-of (omega (arith, given .pre .3 (entered .loop .v))))
 
 loop-holds : tie.Need-loop-holds Inv-loop μ-loop
 loop-holds c = held-none _ _ _ _ _
@@ -52,14 +60,17 @@ loop-less c = search needs
 
 loop-again : tie.Need-loop-again Inv-loop μ-loop
 loop-again c =
-    let s = c .before .before .before .before .before .before .before .before .before in
-    let a = s .args in
-    let l = c .before .before .before .before .before .before .loop in
+    let turn : tie.In-loop Inv-loop μ-loop = search needs in
+    let given : tie.Start Inv-loop μ-loop = search needs in
+    let a = given .args in
+    let l = turn .before .loop in
     let r = read (c .before) in
     let e = rw r at (c .before .takes .ensures) in
     ⊎-elim
-    (λ w. rw (w .1, w .2, r) (turn-taken (a .first) (a .side) (a .labels .now) (a .gains .now) (a .locks .now) (s .pre .3) (l .v) (l .at) _ (l .inv) (c .before .before .before .before .before .loop-test .taken) (sym e ∙ w .0 .taken)))
-    (λ w. rw (w .1, w .2) (turn-left (a .first) (a .side) (a .labels .now) (a .gains .now) (a .locks .now) (s .pre .3) (l .v) (l .at) _ (l .inv) (c .before .before .before .before .before .loop-test .taken) (sym e ∙ w .0 .left)))
+    (λ w. rw (w .1, w .2, r) (turn-taken (a .first) (a .side) (a .labels .now) (a .gains .now) (a .locks .now) (given .pre .3) (l .v)
+    (l .at) _ (l .inv) (turn .loop-test .taken) (sym e ∙ w .0 .taken)))
+    (λ w. rw (w .1, w .2) (turn-left (a .first) (a .side) (a .labels .now) (a .gains .now) (a .locks .now) (given .pre .3) (l .v) (l .at) _
+    (l .inv) (turn .loop-test .taken) (sym e ∙ w .0 .left)))
     (c .if1 .came)
 
 returns : tie.Need-returns Inv-loop μ-loop

@@ -25,25 +25,45 @@ abbrev μ-loop : tie.MeasureT-loop
 abbrev graph : tie.Start Inv-loop μ-loop → Graph
 graph s = inRows (s .args .starts .now) (s .args .neighbours .now) (s .args .arc-weights .now)
 
-long : (c : tie.At-loop Inv-loop μ-loop) → length (c .loop .gains) ≡ length (c .before .before .before .before .before .args .labels .now)
-long c = rw (c .loop .inv .1) (length-written _ (c .loop .u) (c .before .before .before .before .before .args .gains .now) ∙ c .before .before .before .before .before .pre .1)
+long :
+    (c : tie.At-loop Inv-loop μ-loop)
+    → let given : tie.Start Inv-loop μ-loop = search needs in
+    length (c .loop .gains) ≡ length (given .args .labels .now)
+long c =
+    let given : tie.Start Inv-loop μ-loop = search needs in
+    rw (c .loop .inv .1) (length-written _ (c .loop .u) (given .args .gains .now) ∙ given .pre .1)
 
 -- the place is not written yet
-old : (c : tie.At-loop Inv-loop μ-loop) → getD (c .loop .gains) (c .loop .u) (pos 0) ≡ getD (c .before .before .before .before .before .args .gains .now) (c .loop .u) (pos 0)
-old c = rw (c .loop .inv .1) (written-past _ (pos 0) (c .loop .u) (c .before .before .before .before .before .args .gains .now) (c .loop .u) (omega arith))
+old :
+    (c : tie.At-loop Inv-loop μ-loop)
+    → let given : tie.Start Inv-loop μ-loop = search needs in
+    getD (c .loop .gains) (c .loop .u) (pos 0) ≡ getD (given .args .gains .now) (c .loop .u) (pos 0)
+old c =
+    let given : tie.Start Inv-loop μ-loop = search needs in
+    rw (c .loop .inv .1) (written-past _ (pos 0) (c .loop .u) (given .args .gains .now) (c .loop .u) (omega arith))
 
 -- both numbers are far from the ends of the range
-far : (c : tie.After-fresh-gain Inv-loop μ-loop) → (mag (getD (c .before .before .before .loop .gains) (c .before .before .before .loop .u) (pos 0)) < 2 ^ 62) × (mag (c .fresh-gain .result) < 2 ^ 62 - 1)
+far :
+    (c : tie.After-fresh-gain Inv-loop μ-loop)
+    → let entered : tie.At-loop Inv-loop μ-loop = search needs in
+    (mag (getD (entered .loop .gains) (entered .loop .u) (pos 0)) < 2 ^ 62) × (mag (c .fresh-gain .result) < 2 ^ 62 - 1)
 far c =
-    let s = c .before .before .before .before .before .before .before .before in
-    let l = c .before .before .before .loop in
-    (rw (old (c .before .before .before)) (omega (arith, s .pre .2 (l .u))), rw (c .fresh-gain .ensures) (omega (arith, fresh-small (length (s .args .labels .now)) (graph s) (s .pre .0) (l .u) (c .before .before .loop-test .taken) (s .args .labels .now))))
+    let entered : tie.At-loop Inv-loop μ-loop = search needs in
+    let given : tie.Start Inv-loop μ-loop = search needs in
+    let l = entered .loop in (
+      rw (old entered) (omega (arith, given .pre .2 (l .u))),
+      rw (c .fresh-gain .ensures) (omega (
+        arith,
+        fresh-small (length (given .args .labels .now)) (graph given) (given .pre .0) (l .u) (c .before .before .loop-test .taken)
+            (given .args .labels .now),
+      )),
+    )
 
 loop-holds : tie.Need-loop-holds Inv-loop μ-loop
 loop-holds c = (search needs, written-none _ _)
 
 mul-g : tie.Need-mul-g Inv-loop μ-loop
-mul-g c = omega (arith, c .before .before .before .before .before .before .pre .0 .rows .few)
+mul-g c = search needs
 
 slice-copy-out-g : tie.Need-slice-copy-out-g Inv-loop μ-loop
 slice-copy-out-g c = rw (long (c .before)) (c .loop-test .taken)
@@ -52,13 +72,17 @@ fresh-gain-requires : tie.Need-fresh-gain-requires Inv-loop μ-loop
 fresh-gain-requires c κs = search needs
 
 add-gains : tie.Need-add-gains Inv-loop μ-loop
-add-gains c = sum-fits (getD (c .before .before .before .loop .gains) (c .before .before .before .loop .u) (pos 0)) (c .fresh-gain .result) (far c .0) (far c .1)
+add-gains c =
+    let entered : tie.At-loop Inv-loop μ-loop = search needs in
+    sum-fits (getD (entered .loop .gains) (entered .loop .u) (pos 0)) (c .fresh-gain .result) (far c .0) (far c .1)
 
 mul-t8 : tie.Need-mul-t8 Inv-loop μ-loop
-mul-t8 c = omega (arith, c .before .before .before .before .before .before .before .before .pre .0 .rows .few, c .before .before .loop-test .taken)
+mul-t8 c = search needs
 
 slice-set-from-gains : tie.Need-slice-set-from-gains Inv-loop μ-loop
-slice-set-from-gains c = rw (long (c .before .before .before)) (c .before .before .loop-test .taken)
+slice-set-from-gains c =
+    let entered : tie.At-loop Inv-loop μ-loop = search needs in
+    rw (long entered) (c .before .before .loop-test .taken)
 
 add-u : tie.Need-add-u Inv-loop μ-loop
 add-u c = search needs
@@ -68,23 +92,27 @@ loop-less c = search needs
 
 loop-again : tie.Need-loop-again Inv-loop μ-loop
 loop-again c =
-    let s = c .before .before .before .before .before .before .before .before in
-    let l = c .before .before .before .loop in
+    let entered : tie.At-loop Inv-loop μ-loop = search needs in
+    let given : tie.Start Inv-loop μ-loop = search needs in
+    let l = entered .loop in
     let kept = sum-kept (getD (l .gains) (l .u) (pos 0)) (c .fresh-gain .result) (far c .0) (far c .1) in (
       search needs,
-      written-more _ (l .u) (s .args .gains .now) (l .gains) _ (ap (set (l .gains) (l .u)) (kept ∙ ap₂ _+ℤ_ (old (c .before .before .before)) (c .fresh-gain .ensures))) (l .inv .1),
+      written-more _ (l .u) (given .args .gains .now) (l .gains) _
+          (ap (set (l .gains) (l .u)) (kept ∙ ap₂ _+ℤ_ (old entered) (c .fresh-gain .ensures))) (l .inv .1),
     )
 
 same-length : tie.Need-same-length Inv-loop μ-loop
-same-length c = long (c .before) ∙ sym (c .before .before .before .before .before .before .pre .1)
+same-length c =
+    let given : tie.Start Inv-loop μ-loop = search needs in
+    long (c .before) ∙ sym (given .pre .1)
 
 returns : tie.Need-returns Inv-loop μ-loop
 unfolding added
 returns c =
-    let s = c .before .before .before .before .before .before in
+    let given : tie.Start Inv-loop μ-loop = search needs in
     let l = c .before .loop in
-    let e : l .u ≡ length (s .args .labels .now) = omega arith in
-    (rw e at (l .inv .1)) ∙ written-whole (length (s .args .labels .now)) (pos 0) _ (s .args .gains .now) (s .pre .1)
+    let e : l .u ≡ length (given .args .labels .now) = omega arith in
+    (rw e at (l .inv .1)) ∙ written-whole (length (given .args .labels .now)) (pos 0) _ (given .args .gains .now) (given .pre .1)
 
 pub add-fresh-spec : {M : Type 1} → statement M
 add-fresh-spec =

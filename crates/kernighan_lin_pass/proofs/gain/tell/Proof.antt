@@ -25,39 +25,72 @@ abbrev graph : tie.Start Inv-loop μ-loop → Graph
 graph s = inRows (s .args .starts .now) (s .args .neighbours .now) (s .args .arc-weights .now)
 
 -- the arc is one of the lists
-inside : (c : tie.In-loop Inv-loop μ-loop) → let s = c .before .before .before .before .before .before .before .before .before .before .before in let e = c .before .loop .e in (e < length (s .args .neighbours .now)) × (e < length (s .args .arc-weights .now)) × (e < 65535)
+inside :
+    (c : tie.In-loop Inv-loop μ-loop)
+    → let given : tie.Start Inv-loop μ-loop = search needs in
+    let e = c .before .loop .e in
+    (e < length (given .args .neighbours .now)) × (e < length (given .args .arc-weights .now)) × (e < 65535)
 inside c =
-    let s = c .before .before .before .before .before .before .before .before .before .before .before in
+    let given : tie.Start Inv-loop μ-loop = search needs in
     let l = c .before .loop in
-    arc-inside (length (s .args .labels .now)) (graph s) (s .pre .0 .rows) (s .args .v) (s .pre .2) (l .e) (omega (arith, c .loop-test .taken, l .inv .end-is))
+    arc-inside (length (given .args .labels .now)) (graph given) (given .pre .0 .rows) (given .args .v) (given .pre .2) (l .e)
+    (omega (arith, c .loop-test .taken, l .inv .end-is))
 
 -- and goes to a vertex
-goes : (c : tie.After-index3 Inv-loop μ-loop) → (c .index3 .result < length (c .before .before .before .before .before .before .before .before .before .before .before .before .before .args .labels .now)) × (c .index3 .result < 4096)
+goes :
+    (c : tie.After-index3 Inv-loop μ-loop)
+    → let given : tie.Start Inv-loop μ-loop = search needs in
+    (c .index3 .result < length (given .args .labels .now)) × (c .index3 .result < 4096)
 goes c =
-    let s = c .before .before .before .before .before .before .before .before .before .before .before .before .before in
-    let l = c .before .before .before .loop in
-    arc-goes (length (s .args .labels .now)) (graph s) (s .pre .0 .rows) (s .args .v) (s .pre .2) (l .e) (omega (arith, c .before .before .loop-test .taken, l .inv .end-is)) (c .index3 .result) (c .index3 .ensures)
+    let entered : tie.At-loop Inv-loop μ-loop = search needs in
+    let given : tie.Start Inv-loop μ-loop = search needs in
+    let l = entered .loop in
+    arc-goes (length (given .args .labels .now)) (graph given) (given .pre .0 .rows) (given .args .v) (given .pre .2) (l .e)
+    (omega (arith, c .before .before .loop-test .taken, l .inv .end-is)) (c .index3 .result) (c .index3 .ensures)
 
-long : (c : tie.At-loop Inv-loop μ-loop) → length (c .loop .gains) ≡ length (c .before .before .before .before .before .before .before .before .before .before .args .labels .now)
-long c = let s = c .before .before .before .before .before .before .before .before .before .before in long-kept (graph s) (s .args .labels .now) (s .args .v) (s .args .gains .now) (s .pre .0) (s .pre .2) _ (c .loop .e) (c .loop .gains) (c .loop .inv)
+long :
+    (c : tie.At-loop Inv-loop μ-loop)
+    → let given : tie.Start Inv-loop μ-loop = search needs in
+    length (c .loop .gains) ≡ length (given .args .labels .now)
+long c =
+    let given : tie.Start Inv-loop μ-loop = search needs in
+    long-kept (graph given) (given .args .labels .now) (given .args .v) (given .args .gains .now) (given .pre .0) (given .pre .2) _
+    (c .loop .e) (c .loop .gains) (c .loop .inv)
 
 -- the gain is far from the ends of the range, and so is what is added
-gain-far : (c : tie.After-index3 Inv-loop μ-loop) → mag (getD (c .before .before .before .loop .gains) (c .index3 .result) (pos 0)) ≤ 35188667056126
+gain-far :
+    (c : tie.After-index3 Inv-loop μ-loop)
+    → let entered : tie.At-loop Inv-loop μ-loop = search needs in
+    mag (getD (entered .loop .gains) (c .index3 .result) (pos 0)) ≤ 35188667056126
 gain-far c =
-    let s = c .before .before .before .before .before .before .before .before .before .before .before .before .before in
-    let l = c .before .before .before .loop in
-    gain-small (graph s) (s .args .labels .now) (s .args .v) (s .args .gains .now) (s .pre .0) (s .pre .2) _ (l .e) (l .gains) (l .inv) 35184372088832 (s .pre .3) (c .index3 .result) (goes c .0)
+    let entered : tie.At-loop Inv-loop μ-loop = search needs in
+    let given : tie.Start Inv-loop μ-loop = search needs in
+    let l = entered .loop in
+    gain-small (graph given) (given .args .labels .now) (given .args .v) (given .args .gains .now) (given .pre .0) (given .pre .2) _ (l .e)
+    (l .gains) (l .inv) 35184372088832 (given .pre .3) (c .index3 .result) (goes c .0)
 
 added-far : (c : tie.After-twice Inv-loop μ-loop) → mag (c .twice .result) ≤ 8589934592
 added-far c =
-    let s = c .before .before .before .before .before .before .before .before .before .before .before .before .before .before .before .before .before in
-    let w = getD (s .args .arc-weights .now) (c .before .before .before .before .before .before .before .loop .e) 0 in
-    let h : w < 4294967296 = omega (arith, c .before .before .shared-slice-known9 .given (c .before .before .before .before .before .before .before .loop .e)) in
-    rw (c .twice .ensures) (omega (arith, twice-small w h (eqb (getD (s .args .labels .now) (c .before .before .before .before .index3 .result) 0) (getD (s .args .labels .now) (s .args .v) 0))))
+    let after-index3 : tie.After-index3 Inv-loop μ-loop = search needs in
+    let entered : tie.At-loop Inv-loop μ-loop = search needs in
+    let given : tie.Start Inv-loop μ-loop = search needs in
+    let w = getD (given .args .arc-weights .now) (entered .loop .e) 0 in
+    let h : w < 4294967296 = omega (arith, c .before .before .shared-slice-known9 .given (entered .loop .e)) in
+    rw (c .twice .ensures) (omega (
+      arith,
+      twice-small w h
+          (eqb (getD (given .args .labels .now) (after-index3 .index3 .result) 0) (getD (given .args .labels .now) (given .args .v) 0)),
+    ))
 
 -- the two added
-far : (c : tie.After-twice Inv-loop μ-loop) → (mag (getD (c .before .before .before .before .before .before .before .loop .gains) (c .before .before .before .before .index3 .result) (pos 0)) < 2 ^ 62) × (mag (c .twice .result) < 2 ^ 62 - 1)
-far c = (omega (arith, gain-far (c .before .before .before .before)), omega (arith, added-far c))
+far :
+    (c : tie.After-twice Inv-loop μ-loop)
+    → let after-index3 : tie.After-index3 Inv-loop μ-loop = search needs in
+    let entered : tie.At-loop Inv-loop μ-loop = search needs in
+    (mag (getD (entered .loop .gains) (after-index3 .index3 .result) (pos 0)) < 2 ^ 62) × (mag (c .twice .result) < 2 ^ 62 - 1)
+far c =
+    let after-index3 : tie.After-index3 Inv-loop μ-loop = search needs in
+    (omega (arith, gain-far after-index3), omega (arith, added-far c))
 
 mul-own : tie.Need-mul-own Inv-loop μ-loop
 mul-own c = search needs
@@ -87,7 +120,9 @@ index-requires-2 : tie.Need-index-requires-2 Inv-loop μ-loop
 index-requires-2 c κs = search needs
 
 loop-holds : tie.Need-loop-holds Inv-loop μ-loop
-loop-holds c = begins (graph (c .before .before .before .before .before .before .before .before .before)) _ _ _ (c .before .before .before .before .before .before .before .before .before .pre .0) (c .before .before .before .before .before .before .before .before .before .pre .2) (c .before .before .before .before .before .before .before .before .before .pre .1) _ _ (c .before .before .index .ensures) (c .index2 .ensures)
+loop-holds c =
+    let given : tie.Start Inv-loop μ-loop = search needs in
+    begins (graph given) _ _ _ (given .pre .0) (given .pre .2) (given .pre .1) _ _ (c .before .before .index .ensures) (c .index2 .ensures)
 
 mul-index-3 : tie.Need-mul-index-3 Inv-loop μ-loop
 mul-index-3 c = omega (arith, inside c .2)
@@ -102,32 +137,47 @@ mul-g : tie.Need-mul-g Inv-loop μ-loop
 mul-g c = omega (arith, goes c .1)
 
 slice-copy-out-g : tie.Need-slice-copy-out-g Inv-loop μ-loop
-slice-copy-out-g c = rw (long (c .before .before .before)) (goes c .0)
+slice-copy-out-g c =
+    let entered : tie.At-loop Inv-loop μ-loop = search needs in
+    rw (long entered) (goes c .0)
 
 mul-twice : tie.Need-mul-twice Inv-loop μ-loop
-mul-twice c = omega (arith, inside (c .before .before .before) .2)
+mul-twice c =
+    let in-turn : tie.In-loop Inv-loop μ-loop = search needs in
+    omega (arith, inside in-turn .2)
 
 shared-slice-read-twice : tie.Need-shared-slice-read-twice Inv-loop μ-loop
-shared-slice-read-twice c = inside (c .before .before .before .before) .1
+shared-slice-read-twice c =
+    let in-turn : tie.In-loop Inv-loop μ-loop = search needs in
+    inside in-turn .1
 
 mul-twice-2 : tie.Need-mul-twice-2 Inv-loop μ-loop
 mul-twice-2 c = omega (arith, goes (c .before .before) .1)
 
 shared-slice-read-twice-2 : tie.Need-shared-slice-read-twice-2 Inv-loop μ-loop
-shared-slice-read-twice-2 c = goes (c .before .before .before) .0
+shared-slice-read-twice-2 c =
+    let after-index3 : tie.After-index3 Inv-loop μ-loop = search needs in
+    goes after-index3 .0
 
 twice-requires : tie.Need-twice-requires Inv-loop μ-loop
 twice-requires c κs = search needs
 
 add-gains : tie.Need-add-gains Inv-loop μ-loop
 add-gains c =
-    sum-fits (getD (c .before .before .before .before .before .before .before .loop .gains) (c .before .before .before .before .index3 .result) (pos 0)) (c .twice .result) (far c .0) (far c .1)
+    let after-index3 : tie.After-index3 Inv-loop μ-loop = search needs in
+    let entered : tie.At-loop Inv-loop μ-loop = search needs in
+    sum-fits (getD (entered .loop .gains) (after-index3 .index3 .result) (pos 0)) (c .twice .result) (far c .0) (far c .1)
 
 mul-t29 : tie.Need-mul-t29 Inv-loop μ-loop
-mul-t29 c = omega (arith, goes (c .before .before .before .before) .1)
+mul-t29 c =
+    let after-index3 : tie.After-index3 Inv-loop μ-loop = search needs in
+    omega (arith, goes after-index3 .1)
 
 slice-set-from-gains : tie.Need-slice-set-from-gains Inv-loop μ-loop
-slice-set-from-gains c = rw (long (c .before .before .before .before .before .before .before)) (goes (c .before .before .before .before) .0)
+slice-set-from-gains c =
+    let after-index3 : tie.After-index3 Inv-loop μ-loop = search needs in
+    let entered : tie.At-loop Inv-loop μ-loop = search needs in
+    rw (long entered) (goes after-index3 .0)
 
 add-e : tie.Need-add-e Inv-loop μ-loop
 add-e c = search needs
@@ -137,17 +187,25 @@ loop-less c = search needs
 
 loop-again : tie.Need-loop-again Inv-loop μ-loop
 loop-again c =
-    let s = c .before .before .before .before .before .before .before .before .before .before .before .before .before .before .before .before .before in
-    let l = c .before .before .before .before .before .before .before .loop in
-    let x = c .before .before .before .before .index3 .result in
+    let after-index3 : tie.After-index3 Inv-loop μ-loop = search needs in
+    let in-turn : tie.In-loop Inv-loop μ-loop = search needs in
+    let given : tie.Start Inv-loop μ-loop = search needs in
+    let l = in-turn .before .loop in
+    let x = after-index3 .index3 .result in
     let kept = sum-kept (getD (l .gains) x (pos 0)) (c .twice .result) (far c .0) (far c .1) in
-    turn (graph s) (s .args .labels .now) (s .args .v) (s .args .gains .now) (s .pre .0) (s .pre .2) _ (l .e) (l .gains) (l .inv) (c .before .before .before .before .before .before .loop-test .taken) x (getD (s .args .arc-weights .now) (l .e) 0) _ (c .before .before .before .before .index3 .ensures) (goes (c .before .before .before .before) .0) refl (rw (← c .twice .ensures) kept)
+    turn (graph given) (given .args .labels .now) (given .args .v) (given .args .gains .now) (given .pre .0) (given .pre .2) _ (l .e)
+    (l .gains) (l .inv) (in-turn .loop-test .taken) x (getD (given .args .arc-weights .now) (l .e) 0) _ (after-index3 .index3 .ensures)
+    (goes after-index3 .0) refl (rw (← c .twice .ensures) kept)
 
 same-length : tie.Need-same-length Inv-loop μ-loop
-same-length c = long (c .before) ∙ sym (c .before .before .before .before .before .before .before .before .before .before .before .pre .1)
+same-length c =
+    let given : tie.Start Inv-loop μ-loop = search needs in
+    long (c .before) ∙ sym (given .pre .1)
 
 returns : tie.Need-returns Inv-loop μ-loop
-returns c = ended (graph (c .before .before .before .before .before .before .before .before .before .before .before)) _ _ _ (c .before .before .before .before .before .before .before .before .before .before .before .pre .0) (c .before .before .before .before .before .before .before .before .before .before .before .pre .2) _ _ _ (c .before .loop .inv) (c .loop-test .left)
+returns c =
+    let given : tie.Start Inv-loop μ-loop = search needs in
+    ended (graph given) _ _ _ (given .pre .0) (given .pre .2) _ _ _ (c .before .loop .inv) (c .loop-test .left)
 
 pub tell-spec : {M : Type 1} → statement M
 tell-spec =

@@ -21,23 +21,31 @@ clear-bytes-requires c κs = search needs
 
 walk-swaps-requires : tie.Need-walk-swaps-requires
 walk-swaps-requires c κs =
-    let s = c .before .before .before .before .before .before .before .before .before .before .before .before .before .before .before .before .before in
-    let n = length (s .args .labels .now) in
+    let after-clear-bytes : tie.After-clear-bytes = search needs in
+    let after-clear-gains : tie.After-clear-gains = search needs in
+    let given : tie.Start = search needs in
+    let n = length (given .args .labels .now) in
     record {
-      fit = s .pre .0;
-      gains-are = c .before .before .before .before .before .before .before .before .before .clear-gains .ensures ∙ written-whole n (pos 0) (λ i. pos 0) (s .args .gains .now) (s .pre .1 .gains-long);
-      locks-are = c .before .before .before .before .before .before .clear-bytes .ensures ∙ written-whole n 0 (λ i. 0) (s .args .locks .now) (s .pre .1 .locks-long);
-      room-for = s .pre .1 .room-for;
-      few = s .pre .1 .few;
-      cut-is = s .pre .2;
+      fit = given .pre .0;
+      gains-are = after-clear-gains .clear-gains .ensures
+          ∙ written-whole n (pos 0) (λ i. pos 0) (given .args .gains .now) (given .pre .1 .gains-long);
+      locks-are = after-clear-bytes .clear-bytes .ensures ∙ written-whole n 0 (λ i. 0) (given .args .locks .now) (given .pre .1 .locks-long);
+      room-for = given .pre .1 .room-for;
+      few = given .pre .1 .few;
+      cut-is = given .pre .2;
     }
+
+-- the stations that lie far back, each from a nearer one
+abbrev start-of : tie.After-walk-swaps → tie.Start
+start-of c = search needs
 
 rewind-requires : tie.Need-rewind-requires
 rewind-requires c κs =
-    let s = c .before .before .before .before .before .before .before .before .before .before .before .before .before .before .before .before .before .before .before .before .before .before .before .before .before .before .before in
-    let w = c .before .before .before .before .before .before .before .before .before .walk-swaps in
+    let after-walk-swaps : tie.After-walk-swaps = search needs in
+    let given = start-of after-walk-swaps in
+    let w = after-walk-swaps .walk-swaps in
     let e = w .ensures in
-    (e .kept-upto, omega (arith, e .upto, s .pre .1 .room-for, w .kept .1 .1 .1 .1 .1 .1 .0), rw (e .long) (e .coded))
+    (e .kept-upto, omega (arith, e .upto, given .pre .1 .room-for, w .kept .1 .1 .1 .1 .1 .1 .0), rw (e .long) (e .coded))
 
 same-length : tie.Need-same-length
 same-length c = search needs
@@ -53,9 +61,11 @@ same-length-4 c = search needs
 
 returns : tie.Need-returns
 returns c =
-    let e = c .before .before .before .before .before .before .before .before .before .before .before .before .walk-swaps .ensures in
+    let after-walk-swaps : tie.After-walk-swaps = search needs in
+    let given = start-of after-walk-swaps in
+    let e = after-walk-swaps .walk-swaps .ensures in
     let l = c .before .before .rewind .ensures ∙ e .back-is in
-    (l, e .least-is ∙ ap (cut (graph (c .before .before .before .before .before .before .before .before .before .before .before .before .before .before .before .before .before .before .before .before .before .before .before .before .before .before .before .before .before .before))) (sym l))
+    (l, e .least-is ∙ ap (cut (graph given)) (sym l))
 
 pub make-pass-spec : {M : Type 1} → statement M
 make-pass-spec =

@@ -30,25 +30,28 @@ shared-slice-read-undo c = omega arith
 
 undo-requires : tie.Need-undo-requires Inv-loop μ-loop
 undo-requires c κs =
-    let s = c .before .before .before .before .before .before in
-    let l = c .before .before .before .loop in
+    let entered : tie.At-loop Inv-loop μ-loop = search needs in
+    let given : tie.Start Inv-loop μ-loop = search needs in
+    let l = entered .loop in
     let h = c .before .before .loop-test .taken in
     let i = l .inv .1 in
-    (rw (l .inv .2) (s .pre .2 .one (l .k - 1) (omega arith)), rw (l .inv .2) (s .pre .2 .two (l .k - 1) (omega arith)))
+    (rw (l .inv .2) (given .pre .2 .one (l .k - 1) (omega arith)), rw (l .inv .2) (given .pre .2 .two (l .k - 1) (omega arith)))
 
 loop-less : tie.Need-loop-less Inv-loop μ-loop
 loop-less c = search needs
 
 loop-again : tie.Need-loop-again Inv-loop μ-loop
 loop-again c =
-    let s = c .before .before .before .before .before .before .before .before .before in
-    let l = c .before .before .before .before .before .before .loop in
-    let h = c .before .before .before .before .before .loop-test .taken in
-    let j : l .k - s .args .kept ≡ suc (l .k - 1 - s .args .kept) = omega arith in (
+    let turn : tie.In-loop Inv-loop μ-loop = search needs in
+    let given : tie.Start Inv-loop μ-loop = search needs in
+    let l = turn .before .loop in
+    let h = turn .loop-test .taken in
+    let j : l .k - given .args .kept ≡ suc (l .k - 1 - given .args .kept) = omega arith in (
       omega arith,
       omega (arith, l .inv .1),
       c .before .before .undo .kept .0 ∙ l .inv .2,
-      back-less (s .args .swaps .now) (l .k) (l .k - 1 - s .args .kept) (l .k - s .args .kept) (l .labels) _ j (c .before .before .undo .ensures) ∙ l .inv .3,
+      back-less (given .args .swaps .now) (l .k) (l .k - 1 - given .args .kept) (l .k - given .args .kept) (l .labels) _ j
+          (c .before .before .undo .ensures) ∙ l .inv .3,
     )
 
 same-length : tie.Need-same-length Inv-loop μ-loop
@@ -56,10 +59,10 @@ same-length c = c .before .loop .inv .2
 
 returns : tie.Need-returns Inv-loop μ-loop
 returns c =
-    let s = c .before .before .before .before in
+    let given : tie.Start Inv-loop μ-loop = search needs in
     let l = c .before .loop in
-    let j : l .k - s .args .kept ≡ 0 = omega arith in
-    sym (back-none (s .args .swaps .now) (l .k) (l .k - s .args .kept) (l .labels) j) ∙ l .inv .3
+    let j : l .k - given .args .kept ≡ 0 = omega arith in
+    sym (back-none (given .args .swaps .now) (l .k) (l .k - given .args .kept) (l .labels) j) ∙ l .inv .3
 
 pub rewind-spec : {M : Type 1} → statement M
 rewind-spec =

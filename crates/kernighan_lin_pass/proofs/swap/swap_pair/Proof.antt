@@ -32,17 +32,28 @@ moved-fit : (s : tie.Start) → Fit (length (moved s)) (graph s)
 moved-fit s = rw (length-set (was s) (s .args .v) (getD (was s) (s .args .w) 0)) (s .pre .0)
 
 -- the first gain, and the second
-g-is : (c : tie.After-gain-of2) → toZ w64 (ofZ w64 (c .before .before .gain-of .result)) ≡ gain (graph (c .before .before .before .before .before .before .before .before .before .before)) (was (c .before .before .before .before .before .before .before .before .before .before)) (c .before .before .before .before .before .before .before .before .before .before .args .v) (getD (was (c .before .before .before .before .before .before .before .before .before .before)) (c .before .before .before .before .before .before .before .before .before .before .args .w) 0)
+g-is :
+    (c : tie.After-gain-of2)
+    → let given : tie.Start = search needs in
+    toZ w64 (ofZ w64 (c .before .before .gain-of .result))
+    ≡ gain (graph given) (was given) (given .args .v) (getD (was given) (given .args .w) 0)
 g-is c = toZ-ofZ w64 (c .before .before .gain-of .result) (sfits-of (c .before .before .gain-of .ok)) ∙ c .before .before .gain-of .ensures
 
-h-is : (c : tie.After-gain-of2) → toZ w64 (ofZ w64 (c .gain-of2 .result)) ≡ gain (graph (c .before .before .before .before .before .before .before .before .before .before)) (moved (c .before .before .before .before .before .before .before .before .before .before)) (c .before .before .before .before .before .before .before .before .before .before .args .w) (getD (was (c .before .before .before .before .before .before .before .before .before .before)) (c .before .before .before .before .before .before .before .before .before .before .args .v) 0)
+h-is :
+    (c : tie.After-gain-of2)
+    → let given : tie.Start = search needs in
+    toZ w64 (ofZ w64 (c .gain-of2 .result)) ≡ gain (graph given) (moved given) (given .args .w) (getD (was given) (given .args .v) 0)
 h-is c = toZ-ofZ w64 (c .gain-of2 .result) (sfits-of (c .gain-of2 .ok)) ∙ c .gain-of2 .ensures
 
 -- the cut between the two
-between : (c : tie.After-fallen) → c .fallen .result ≡ cut (graph (c .before .before .before .before .before .before .before .before .before .before .before)) (moved (c .before .before .before .before .before .before .before .before .before .before .before))
+between :
+    (c : tie.After-fallen)
+    → let given : tie.Start = search needs in
+    c .fallen .result ≡ cut (graph given) (moved given)
 between c =
-    let s = c .before .before .before .before .before .before .before .before .before .before .before in
-    fall-gives (graph s) (was s) (s .pre .0) (s .args .v) (getD (was s) (s .args .w) 0) (s .pre .1) _ _ (s .pre .3) (g-is (c .before)) (c .fallen .result) (c .fallen .ensures)
+    let given : tie.Start = search needs in
+    fall-gives (graph given) (was given) (given .pre .0) (given .args .v) (getD (was given) (given .args .w) 0) (given .pre .1) _ _
+    (given .pre .3) (g-is (c .before)) (c .fallen .result) (c .fallen .ensures)
 
 mul-a : tie.Need-mul-a
 mul-a c = search needs
@@ -66,7 +77,9 @@ slice-write-labels : tie.Need-slice-write-labels
 slice-write-labels c = search needs
 
 gain-of-requires-2 : tie.Need-gain-of-requires-2
-gain-of-requires-2 c κs = let s = c .before .before .before .before .before .before .before .before .before in (moved-fit s .rows, moved-below s)
+gain-of-requires-2 c κs =
+    let given : tie.Start = search needs in
+    (moved-fit given .rows, moved-below given)
 
 mul-labels-2 : tie.Need-mul-labels-2
 mul-labels-2 c = search needs
@@ -76,13 +89,15 @@ slice-write-labels-2 c = search needs
 
 fallen-requires : tie.Need-fallen-requires
 fallen-requires c κs =
-    let s = c .before .before .before .before .before .before .before .before .before .before in
-    fall-asks (graph s) (was s) (s .pre .0) (s .args .v) (getD (was s) (s .args .w) 0) (s .pre .1) _ _ (s .pre .3) (g-is c)
+    let given : tie.Start = search needs in
+    fall-asks (graph given) (was given) (given .pre .0) (given .args .v) (getD (was given) (given .args .w) 0) (given .pre .1) _ _
+    (given .pre .3) (g-is c)
 
 fallen-requires-2 : tie.Need-fallen-requires-2
 fallen-requires-2 c κs =
-    let s = c .before .before .before .before .before .before .before .before .before .before .before in
-    fall-asks (graph s) (moved s) (moved-fit s) (s .args .w) (getD (was s) (s .args .v) 0) (moved-below s) _ _ (between c) (h-is (c .before))
+    let given : tie.Start = search needs in
+    fall-asks (graph given) (moved given) (moved-fit given) (given .args .w) (getD (was given) (given .args .v) 0) (moved-below given) _ _
+    (between c) (h-is (c .before))
 
 same-length : tie.Need-same-length
 same-length c = search needs
@@ -90,8 +105,11 @@ same-length c = search needs
 returns : tie.Need-returns
 unfolding swapped
 returns c =
-    let s = c .before .before .before .before .before .before .before .before .before .before .before .before in
-    (refl, fall-gives (graph s) (moved s) (moved-fit s) (s .args .w) (getD (was s) (s .args .v) 0) (moved-below s) _ _ (between (c .before)) (h-is (c .before .before)) _ (c .fallen2 .ensures))
+    let given : tie.Start = search needs in (
+      refl,
+      fall-gives (graph given) (moved given) (moved-fit given) (given .args .w) (getD (was given) (given .args .v) 0)
+          (moved-below given) _ _ (between (c .before)) (h-is (c .before .before)) _ (c .fallen2 .ensures),
+    )
 
 pub swap-pair-spec : {M : Type 1} → statement M
 swap-pair-spec =

@@ -41,7 +41,9 @@ same-length c = search needs
 
 returns : tie.Need-returns
 unfolding swapped
-returns c = rw (c .before .before .index2 .ensures, c .before .before .before .index .ensures)
+returns c =
+    let after-index : tie.After-index = search needs in
+    rw (c .before .before .index2 .ensures, after-index .index .ensures)
 
 pub undo-spec : {M : Type 1} → statement M
 undo-spec =

@@ -21,7 +21,9 @@ arc-swap-counted-requires : tie.Need-arc-swap-counted-requires
 arc-swap-counted-requires c κs = search needs
 
 put-refusal-requires : tie.Need-put-refusal-requires
-put-refusal-requires c κs = omega (arith, c .before .before .before .before .before .before .before .before .before .before .before .before .before .before .before .before .before .before .before .pre .2)
+put-refusal-requires c κs =
+    let given : tie.Start = search needs in
+    omega (arith, given .pre .2)
 
 same-length : tie.Need-same-length
 same-length c = search needs
@@ -30,12 +32,24 @@ same-length-2 : tie.Need-same-length-2
 same-length-2 c = search needs
 
 returns : tie.Need-returns
-returns c = put-as (many-refused (c .before .before .before .before .before .before .before .before .before .before .arc-swap-counted .ensures) (c .before .before .before .before .if1 .taken)) (omega arith) (c .before .before .put-refusal .ensures)
+returns c =
+    let then1 : tie.Then1 = search needs in
+    let after-arc-swap-counted : tie.After-arc-swap-counted = search needs in
+    put-as (many-refused (after-arc-swap-counted .arc-swap-counted .ensures) (then1 .if1 .taken)) (omega arith)
+    (c .before .before .put-refusal .ensures)
 
 put-many-requires : tie.Need-put-many-requires
 put-many-requires c κs =
-    let few = parts-few (c .before .before .before .before .before .before .before .before .before .before .before .before .before .before .before .before .before .before .before .before .before .args .labels .now) (c .before .before .before .before .before .before .before .before .before .before .before .before .before .before .before .before .before .before .before .before .before .pre .1) .1 in
-    (omega (arith, c .before .before .before .before .before .before .before .before .before .before .before .before .before .before .before .before .before .before .before .before .before .pre .0, c .before .before .before .before .before .before .before .before .before .arc-swap-counted .kept .1 .1 .1 .1 .0), omega (arith, c .before .before .before .before .before .before .before .before .before .before .before .before .index .ensures, c .before .before .before .before .before .before .before .before .before .before .before .before .before .parts-of .ensures), many-loads (c .before .before .before .before .before .before .before .before .before .arc-swap-counted .ensures), c .before .before .before .before .before .before .before .before .before .before .before .before .before .before .before .before .before .before .before .before .before .pre .2)
+    let after-arc-swap-counted : tie.After-arc-swap-counted = search needs in
+    let after-index : tie.After-index = search needs in
+    let after-parts-of : tie.After-parts-of = search needs in
+    let given : tie.Start = search needs in
+    let few = parts-few (given .args .labels .now) (given .pre .1) .1 in (
+      omega (arith, given .pre .0, after-arc-swap-counted .arc-swap-counted .kept .1 .1 .1 .1 .0),
+      omega (arith, after-index .index .ensures, after-parts-of .parts-of .ensures),
+      many-loads (after-arc-swap-counted .arc-swap-counted .ensures),
+      given .pre .2,
+    )
 
 same-length-3 : tie.Need-same-length-3
 same-length-3 c = search needs
@@ -44,7 +58,14 @@ same-length-4 : tie.Need-same-length-4
 same-length-4 c = search needs
 
 returns-2 : tie.Need-returns-2
-returns-2 c = put-as (many-done (c .before .before .before .before .before .before .before .before .before .before .before .before .arc-swap-counted .ensures) _ (c .before .before .before .before .before .before .before .before .before .before .before .before .before .before .before .index .ensures ∙ c .before .before .before .before .before .before .before .before .before .before .before .before .before .before .before .before .parts-of .ensures) (c .before .before .before .before .before .before .if1 .left)) (omega arith) (c .before .before .put-many .ensures)
+returns-2 c =
+    let else1 : tie.Else1 = search needs in
+    let after-arc-swap-counted : tie.After-arc-swap-counted = search needs in
+    let after-index : tie.After-index = search needs in
+    let after-parts-of : tie.After-parts-of = search needs in
+    put-as (many-done (after-arc-swap-counted .arc-swap-counted .ensures) _
+    (after-index .index .ensures ∙ after-parts-of .parts-of .ensures) (else1 .if1 .left)) (omega arith)
+    (c .before .before .put-many .ensures)
 
 pub refine-many-spec : {M : Type 1} → statement M
 refine-many-spec =

@@ -28,7 +28,10 @@ same-length-2 : tie.Need-same-length-2
 same-length-2 c = search needs
 
 returns : tie.Need-returns
-returns c = put-as (two-refused (c .before .before .before .before .before .before .before .before .before .before .before .with-512-moves .ensures) (c .before .before .before .before .if1 .taken)) (omega arith) (c .before .before .put-refusal .ensures)
+returns c =
+    let then1 : tie.Then1 = search needs in
+    let after-with-512-moves : tie.After-with-512-moves = search needs in
+    put-as (two-refused (after-with-512-moves .with-512-moves .ensures) (then1 .if1 .taken)) (omega arith) (c .before .before .put-refusal .ensures)
 
 slice-aggregate-put-two : tie.Need-slice-aggregate-put-two
 slice-aggregate-put-two c = search needs
@@ -38,8 +41,16 @@ slice-aggregate-put-two-2 c = search needs
 
 put-two-requires : tie.Need-put-two-requires
 put-two-requires c κs =
-    let f = two-few (c .before .before .before .before .before .before .before .before .before .before .before .with-512-moves .ensures) (c .before .before .before .before .before .before .before .before .before .before .before .before .before .before .before .before .before .before .before .before .before .before .pre .1) in
-    (omega (arith, c .before .before .before .before .before .before .before .before .before .before .before .before .before .before .before .before .before .before .before .before .before .before .pre .0, c .before .before .before .before .before .before .before .before .before .before .before .with-512-moves .kept .1 .1 .1 .1 .0), f, omega (arith, c .before .before .before .before .before .before .before .before .before .before .before .with-512-moves .kept .1 .1 .1 .1 .1 .1 .0), omega (arith, c .before .before .before .before .before .before .before .before .before .before .before .with-512-moves .kept .1 .1 .1 .1 .1 .1 .1 .0), two-loads (c .before .before .before .before .before .before .before .before .before .before .before .with-512-moves .ensures), c .before .before .before .before .before .before .before .before .before .before .before .before .before .before .before .before .before .before .before .before .before .before .pre .2)
+    let after-with-512-moves : tie.After-with-512-moves = search needs in
+    let given : tie.Start = search needs in
+    let f = two-few (after-with-512-moves .with-512-moves .ensures) (given .pre .1) in (
+      omega (arith, given .pre .0, after-with-512-moves .with-512-moves .kept .1 .1 .1 .1 .0),
+      f,
+      omega (arith, after-with-512-moves .with-512-moves .kept .1 .1 .1 .1 .1 .1 .0),
+      omega (arith, after-with-512-moves .with-512-moves .kept .1 .1 .1 .1 .1 .1 .1 .0),
+      two-loads (after-with-512-moves .with-512-moves .ensures),
+      given .pre .2,
+    )
 
 same-length-3 : tie.Need-same-length-3
 same-length-3 c = search needs
@@ -48,7 +59,10 @@ same-length-4 : tie.Need-same-length-4
 same-length-4 c = search needs
 
 returns-2 : tie.Need-returns-2
-returns-2 c = put-as (two-done (c .before .before .before .before .before .before .before .before .before .before .before .before .before .before .with-512-moves .ensures) (c .before .before .before .before .before .before .before .if1 .left)) (omega arith) (c .before .before .put-two .ensures)
+returns-2 c =
+    let else1 : tie.Else1 = search needs in
+    let after-with-512-moves : tie.After-with-512-moves = search needs in
+    put-as (two-done (after-with-512-moves .with-512-moves .ensures) (else1 .if1 .left)) (omega arith) (c .before .before .put-two .ensures)
 
 pub refine-two-spec : {M : Type 1} → statement M
 refine-two-spec =

@@ -20,7 +20,13 @@ same-length : tie.Need-same-length
 same-length c = search needs
 
 returns : tie.Need-returns
-returns c = put-opened _ _ _ _ _ _ (c .before .before .before .before .before .before .before .before .before .before .before .before .before .before .before .before .before .before .pre) (c .before .before .before .before .before .before .before .before .before .before .before .before .before .before .put-end .ensures) (c .before .before .before .before .before .before .before .before .before .before .put-cut .ensures) (c .before .before .before .before .before .before .put-loads .ensures) (c .before .before .put-passes .ensures)
+returns c =
+    let after-put-loads : tie.After-put-loads = search needs in
+    let after-put-cut : tie.After-put-cut = search needs in
+    let after-put-end : tie.After-put-end = search needs in
+    let given : tie.Start = search needs in
+    put-opened _ _ _ _ _ _ (given .pre) (after-put-end .put-end .ensures) (after-put-cut .put-cut .ensures)
+    (after-put-loads .put-loads .ensures) (c .before .before .put-passes .ensures)
 
 pub put-opening-spec : {M : Type 1} → statement M
 put-opening-spec =

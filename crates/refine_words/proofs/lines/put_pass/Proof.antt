@@ -27,7 +27,10 @@ same-length c = search needs
 
 returns : tie.Need-returns
 unfolding passLine
-returns c = put-as (ap₂ passLine (c .before .before .before .before .before .before .before .wide .ensures) (c .before .before .before .before .before .before .wide2 .ensures)) (omega arith) (c .before .before .put-line .ensures)
+returns c =
+    let after-wide2 : tie.After-wide2 = search needs in
+    let after-wide : tie.After-wide = search needs in
+    put-as (ap₂ passLine (after-wide .wide .ensures) (after-wide2 .wide2 .ensures)) (omega arith) (c .before .before .put-line .ensures)
 
 pub put-pass-spec : {M : Type 1} → statement M
 put-pass-spec =

@@ -28,7 +28,10 @@ shared-slice-read-put-pass-2 : tie.Need-shared-slice-read-put-pass-2 Inv-loop μ
 shared-slice-read-put-pass-2 c = search needs
 
 put-pass-requires : tie.Need-put-pass-requires Inv-loop μ-loop
-put-pass-requires c κs = here-room (c .before .before .before .before .before .before .before .before .pre .2) (c .before .before .before .loop-test .taken) (c .before .before .before .before .loop .inv)
+put-pass-requires c κs =
+    let turn : tie.In-loop Inv-loop μ-loop = search needs in
+    let given : tie.Start Inv-loop μ-loop = search needs in
+    here-room (given .pre .2) (turn .loop-test .taken) (turn .before .loop .inv)
 
 add-i : tie.Need-add-i Inv-loop μ-loop
 add-i c = search needs
@@ -37,7 +40,10 @@ loop-less : tie.Need-loop-less Inv-loop μ-loop
 loop-less c = search needs
 
 loop-again : tie.Need-loop-again Inv-loop μ-loop
-loop-again c = here-more (c .before .before .before .before .before .before .before .before .before .before .before .pre .2) (c .before .before .before .before .before .before .loop-test .taken) (c .before .before .before .before .before .before .before .loop .inv) (passes-next _ _ _) (c .before .before .put-pass .ensures)
+loop-again c =
+    let turn : tie.In-loop Inv-loop μ-loop = search needs in
+    let given : tie.Start Inv-loop μ-loop = search needs in
+    here-more (given .pre .2) (turn .loop-test .taken) (turn .before .loop .inv) (passes-next _ _ _) (c .before .before .put-pass .ensures)
 
 same-length : tie.Need-same-length Inv-loop μ-loop
 same-length c = search needs

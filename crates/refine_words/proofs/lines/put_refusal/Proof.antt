@@ -24,7 +24,9 @@ same-length c = search needs
 
 returns : tie.Need-returns
 unfolding refusal
-returns c = put-as (ap refusal (c .before .before .before .before .before .before .wide .ensures)) (omega arith) (c .before .before .put-line .ensures)
+returns c =
+    let after-wide : tie.After-wide = search needs in
+    put-as (ap refusal (after-wide .wide .ensures)) (omega arith) (c .before .before .put-line .ensures)
 
 pub put-refusal-spec : {M : Type 1} → statement M
 put-refusal-spec =

@@ -45,17 +45,19 @@ index-requires-2 c κs = search needs
 
 row-cut-requires : tie.Need-row-cut-requires Inv-loop μ-loop
 row-cut-requires c κs =
-    let l = c .before .before .before .before .before in
-    let r = l .before .before .before .before .before .pre in
-    let hi = r .inside (l .loop .u) (c .before .before .before .before .loop-test .taken) in
-    let lo = r .rise (l .loop .u) (c .before .before .before .before .loop-test .taken) in
+    let turn : tie.In-loop Inv-loop μ-loop = search needs in
+    let given : tie.Start Inv-loop μ-loop = search needs in
+    let r = given .pre in
+    let hi = r .inside (turn .before .loop .u) (turn .loop-test .taken) in
+    let lo = r .rise (turn .before .loop .u) (turn .loop-test .taken) in
     (r, (search needs, omega (arith, lo, c .index2 .ensures, c .before .before .index .ensures), omega (arith, hi, c .index2 .ensures)))
 
 row-small : (c : tie.After-row-cut Inv-loop μ-loop) → c .row-cut .result ≤ 281474976710656
 row-small c =
-    let l = c .before .before .before .before .before .before in
-    let r = l .before .before .before .before .before .pre in
-    let hi = r .inside (l .loop .u) (c .before .before .before .before .before .loop-test .taken) in
+    let turn : tie.In-loop Inv-loop μ-loop = search needs in
+    let given : tie.Start Inv-loop μ-loop = search needs in
+    let r = given .pre in
+    let hi = r .inside (turn .before .loop .u) (turn .loop-test .taken) in
     omega (arith, hi, r .small, c .before .index2 .ensures, c .row-cut .ensures .1)
 
 add-sum : tie.Need-add-sum Inv-loop μ-loop
@@ -69,18 +71,22 @@ loop-less c = search needs
 
 loop-again : tie.Need-loop-again Inv-loop μ-loop
 loop-again c =
-    let l = c .before .before .before .before .before .before in
-    let x = l .before .before .before .before .before .args in (
+    let after-index : tie.After-index Inv-loop μ-loop = search needs in
+    let entered : tie.At-loop Inv-loop μ-loop = search needs in
+    let given : tie.Start Inv-loop μ-loop = search needs in
+    let x = given .args in (
       search needs,
-      sum-step (l .loop .u) _ _ _ (l .loop .inv .1)
-          (row-at (inRows (x .starts .now) (x .neighbours .now) (x .arc-weights .now)) (x .labels .now) (l .loop .u) _ _ _ (c .before .before .before .index .ensures) (c .before .index2 .ensures) (c .row-cut .ensures .0)),
+      sum-step (entered .loop .u) _ _ _ (entered .loop .inv .1)
+          (row-at (inRows (x .starts .now) (x .neighbours .now) (x .arc-weights .now)) (x .labels .now) (entered .loop .u) _ _ _
+          (after-index .index .ensures) (c .before .index2 .ensures) (c .row-cut .ensures .0)),
       omega (arith, row-small c),
     )
 
 returns : tie.Need-returns Inv-loop μ-loop
 unfolding cut
 returns c =
-    let e : c .before .loop .u ≡ length (c .before .before .before .before .before .before .args .labels .now) = omega arith in
+    let given : tie.Start Inv-loop μ-loop = search needs in
+    let e : c .before .loop .u ≡ length (given .args .labels .now) = omega arith in
     rw e at (c .before .loop .inv .1)
 
 pub cut-of-spec : {M : Type 1} → statement M

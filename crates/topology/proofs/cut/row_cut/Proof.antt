@@ -25,11 +25,15 @@ abbrev μ-loop : tie.MeasureT-loop
 loop-holds : tie.Need-loop-holds Inv-loop μ-loop
 loop-holds c = (search needs, search needs, sym (between-none _ _), search needs)
 
-v-below : (c : tie.After-shared-slice-known6 Inv-loop μ-loop) → c .before .index .result < length (c .before .before .before .before .before .before .before .before .before .args .labels .now)
+v-below :
+    (c : tie.After-shared-slice-known6 Inv-loop μ-loop)
+    → let given : tie.Start Inv-loop μ-loop = search needs in
+    c .before .index .result < length (given .args .labels .now)
 v-below c =
-    let l = c .before .before .before .before in
-    let r = l .before .before .before .before .before .pre in
-    rw (c .before .index .ensures) (r .0 .below (l .loop .e) (omega arith))
+    let entered : tie.At-loop Inv-loop μ-loop = search needs in
+    let given : tie.Start Inv-loop μ-loop = search needs in
+    let r = given .pre in
+    rw (c .before .index .ensures) (r .0 .below (entered .loop .e) (omega arith))
 
 mul-index : tie.Need-mul-index Inv-loop μ-loop
 mul-index c = search needs
@@ -72,18 +76,22 @@ loop-less c = search needs
 
 loop-again : tie.Need-loop-again Inv-loop μ-loop
 loop-again c =
-    let l = c .before .before .before .before .before .before .before in
-    let x = l .before .before .before .before .before .args in (
+    let after-index : tie.After-index Inv-loop μ-loop = search needs in
+    let entered : tie.At-loop Inv-loop μ-loop = search needs in
+    let given : tie.Start Inv-loop μ-loop = search needs in
+    let x = given .args in (
       search needs,
       search needs,
-      between-step (x .a) (l .loop .e) _ _ _ (l .loop .inv .0) (l .loop .inv .2)
-          (crossing-at (inRows (x .starts .now) (x .neighbours .now) (x .arc-weights .now)) (x .labels .now) (x .u) (l .loop .e) _ _ (c .before .before .before .before .index .ensures) (c .crossed .ensures .0)),
+      between-step (x .a) (entered .loop .e) _ _ _ (entered .loop .inv .0) (entered .loop .inv .2)
+          (crossing-at (inRows (x .starts .now) (x .neighbours .now) (x .arc-weights .now)) (x .labels .now) (x .u) (entered .loop .e) _ _
+          (after-index .index .ensures) (c .crossed .ensures .0)),
       omega (arith, c .crossed .ensures .1),
     )
 
 returns : tie.Need-returns Inv-loop μ-loop
 returns c =
-    let e : c .before .loop .e ≡ c .before .before .before .before .before .before .args .b = omega arith in
+    let given : tie.Start Inv-loop μ-loop = search needs in
+    let e : c .before .loop .e ≡ given .args .b = omega arith in
     (rw e at (c .before .loop .inv .2), rw e at (c .before .loop .inv .3))
 
 pub row-cut-spec : {M : Type 1} → statement M

@@ -50,18 +50,28 @@ loop-holds : tie.Need-loop-holds Inv-loop μ-loop
 loop-holds c = search (begins, needs)
 
 -- the arc is one of the lists
-inside : (c : tie.In-loop Inv-loop μ-loop) → let s = c .before .before .before .before .before .before .before .before .before .before .before in let e = c .before .loop .e in (e < length (s .args .neighbours .now)) × (e < length (s .args .arc-weights .now)) × (e < 65535)
+inside :
+    (c : tie.In-loop Inv-loop μ-loop)
+    → let given : tie.Start Inv-loop μ-loop = search needs in
+    let e = c .before .loop .e in
+    (e < length (given .args .neighbours .now)) × (e < length (given .args .arc-weights .now)) × (e < 65535)
 inside c =
-    let s = c .before .before .before .before .before .before .before .before .before .before .before in
+    let given : tie.Start Inv-loop μ-loop = search needs in
     let l = c .before .loop in
-    arc-inside (length (s .args .labels .now)) (graph s) (s .pre .0) (s .args .u) (s .pre .1) (l .e) (omega (arith, c .loop-test .taken, l .inv .end-is))
+    arc-inside (length (given .args .labels .now)) (graph given) (given .pre .0) (given .args .u) (given .pre .1) (l .e)
+    (omega (arith, c .loop-test .taken, l .inv .end-is))
 
 -- and goes to a vertex
-goes : (c : tie.After-index3 Inv-loop μ-loop) → (c .index3 .result < length (c .before .before .before .before .before .before .before .before .before .before .before .before .before .args .labels .now)) × (c .index3 .result < 4096)
+goes :
+    (c : tie.After-index3 Inv-loop μ-loop)
+    → let given : tie.Start Inv-loop μ-loop = search needs in
+    (c .index3 .result < length (given .args .labels .now)) × (c .index3 .result < 4096)
 goes c =
-    let s = c .before .before .before .before .before .before .before .before .before .before .before .before .before in
-    let l = c .before .before .before .loop in
-    arc-goes (length (s .args .labels .now)) (graph s) (s .pre .0) (s .args .u) (s .pre .1) (l .e) (omega (arith, c .before .before .loop-test .taken, l .inv .end-is)) (c .index3 .result) (c .index3 .ensures)
+    let entered : tie.At-loop Inv-loop μ-loop = search needs in
+    let given : tie.Start Inv-loop μ-loop = search needs in
+    let l = entered .loop in
+    arc-goes (length (given .args .labels .now)) (graph given) (given .pre .0) (given .args .u) (given .pre .1) (l .e)
+    (omega (arith, c .before .before .loop-test .taken, l .inv .end-is)) (c .index3 .result) (c .index3 .ensures)
 
 mul-index-3 : tie.Need-mul-index-3 Inv-loop μ-loop
 mul-index-3 c = omega (arith, inside c .2)
@@ -79,10 +89,14 @@ shared-slice-read-p : tie.Need-shared-slice-read-p Inv-loop μ-loop
 shared-slice-read-p c = goes (c .before) .0
 
 mul-w : tie.Need-mul-w Inv-loop μ-loop
-mul-w c = omega (arith, inside (c .before .before .before) .2)
+mul-w c =
+    let in-turn : tie.In-loop Inv-loop μ-loop = search needs in
+    omega (arith, inside in-turn .2)
 
 shared-slice-read-w : tie.Need-shared-slice-read-w Inv-loop μ-loop
-shared-slice-read-w c = inside (c .before .before .before .before) .1
+shared-slice-read-w c =
+    let in-turn : tie.In-loop Inv-loop μ-loop = search needs in
+    inside in-turn .1
 
 counted-requires : tie.Need-counted-requires Inv-loop μ-loop
 counted-requires c κs = search needs
@@ -90,17 +104,21 @@ counted-requires c κs = search needs
 -- the sums fit an i64
 within : (c : tie.At-loop Inv-loop μ-loop) → (c .loop .there < 2 ^ 63) × (c .loop .here < 2 ^ 63)
 within c =
-    let s = c .before .before .before .before .before .before .before .before .before .before in
-    search (small, c .loop .inv, s .pre .0, s .pre .1)
+    let given : tie.Start Inv-loop μ-loop = search needs in
+    search (small, c .loop .inv, given .pre .0, given .pre .1)
 
 add-there : tie.Need-add-there Inv-loop μ-loop
-add-there c = omega (arith, within (c .before .before .before .before .before .before), c .counted .ensures)
+add-there c =
+    let entered : tie.At-loop Inv-loop μ-loop = search needs in
+    omega (arith, within entered, c .counted .ensures)
 
 counted-requires-2 : tie.Need-counted-requires-2 Inv-loop μ-loop
 counted-requires-2 c κs = search needs
 
 add-here : tie.Need-add-here Inv-loop μ-loop
-add-here c = omega (arith, within (c .before .before .before .before .before .before .before), c .counted2 .ensures)
+add-here c =
+    let entered : tie.At-loop Inv-loop μ-loop = search needs in
+    omega (arith, within entered, c .counted2 .ensures)
 
 add-e : tie.Need-add-e Inv-loop μ-loop
 add-e c = search needs
@@ -109,7 +127,17 @@ loop-less : tie.Need-loop-less Inv-loop μ-loop
 loop-less c = search needs
 
 loop-again : tie.Need-loop-again Inv-loop μ-loop
-loop-again c = search (turn, c .before .before .before .before .before .before .before .loop .inv, c .before .before .before .before .before .before .loop-test .taken, c .before .before .before .before .index3 .ensures, c .before .counted .ensures, c .counted2 .ensures)
+loop-again c =
+    let after-index3 : tie.After-index3 Inv-loop μ-loop = search needs in
+    let in-turn : tie.In-loop Inv-loop μ-loop = search needs in
+    search (
+      turn,
+      in-turn .before .loop .inv,
+      in-turn .loop-test .taken,
+      after-index3 .index3 .ensures,
+      c .before .counted .ensures,
+      c .counted2 .ensures,
+    )
 
 cast-result : tie.Need-cast-result Inv-loop μ-loop
 cast-result c = differences.small _ (omega (arith, within (c .before)))

@@ -31,7 +31,9 @@ wide-requires c κs = search needs
 
 -- the vertex's weight has 32 bits
 light : (c : tie.After-wide Inv-loop μ-loop) → c .wide .result < 4294967296
-light c = omega (arith, c .wide .ensures, c .before .shared-slice-known6 .given (c .before .before .before .before .loop .u))
+light c =
+    let entered : tie.At-loop Inv-loop μ-loop = search needs in
+    omega (arith, c .wide .ensures, c .before .shared-slice-known6 .given (entered .loop .u))
 
 -- and sixteen such weights are far below the largest u64
 little : (c : tie.After-wide Inv-loop μ-loop) → c .before .before .parts-around .result * c .wide .result ≤ 68719476736
@@ -42,8 +44,10 @@ mul-sum c = omega (arith, little c)
 
 add-sum : tie.Need-add-sum Inv-loop μ-loop
 add-sum c =
-    let l = c .before .before .before .before .loop in
-    omega (arith, little c, l .inv .small, l .inv .upto, c .before .before .before .before .before .before .before .before .before .before .pre .1 .few)
+    let entered : tie.At-loop Inv-loop μ-loop = search needs in
+    let given : tie.Start Inv-loop μ-loop = search needs in
+    let l = entered .loop in
+    omega (arith, little c, l .inv .small, l .inv .upto, given .pre .1 .few)
 
 add-u : tie.Need-add-u Inv-loop μ-loop
 add-u c = search needs

@@ -52,8 +52,8 @@ index-requires-3 c κs = search needs
 -- u's own part is one of the sixteen
 own-named : (c : tie.After-index3 Inv-loop μ-loop) → c .index3 .result < 16
 own-named c =
-    let s = c .before .before .before .before .before .before .before .before .before .before .before in
-    let b = label-below (s .args .weights .now) (s .args .labels .now) (s .pre .1) (s .args .u) (s .pre .2) in
+    let given : tie.Start Inv-loop μ-loop = search needs in
+    let b = label-below (given .args .weights .now) (given .args .labels .now) (given .pre .1) (given .args .u) (given .pre .2) in
     omega (arith, b, c .index3 .ensures)
 
 array-write-met : tie.Need-array-write-met Inv-loop μ-loop
@@ -63,24 +63,34 @@ loop-holds : tie.Need-loop-holds Inv-loop μ-loop
 loop-holds c = search (begins, own-named c, needs)
 
 -- the arc is one of the lists
-inside : (c : tie.In-loop Inv-loop μ-loop) → let s = c .before .before .before .before .before .before .before .before .before .before .before .before .before in let e = c .before .loop .e in (e < length (s .args .neighbours .now)) × (e < length (s .args .arc-weights .now)) × (e < 65535)
+inside :
+    (c : tie.In-loop Inv-loop μ-loop)
+    → let given : tie.Start Inv-loop μ-loop = search needs in
+    let e = c .before .loop .e in
+    (e < length (given .args .neighbours .now)) × (e < length (given .args .arc-weights .now)) × (e < 65535)
 inside c =
-    let s = c .before .before .before .before .before .before .before .before .before .before .before .before .before in
+    let given : tie.Start Inv-loop μ-loop = search needs in
     let l = c .before .loop in
-    arc-inside (length (s .args .labels .now)) (graph s) (s .pre .0) (s .args .u) (s .pre .2) (l .e) (omega (arith, c .loop-test .taken, l .inv .end-is))
+    arc-inside (length (given .args .labels .now)) (graph given) (given .pre .0) (given .args .u) (given .pre .2) (l .e)
+    (omega (arith, c .loop-test .taken, l .inv .end-is))
 
 -- and goes to a vertex
-goes : (c : tie.After-index4 Inv-loop μ-loop) → (c .index4 .result < length (c .before .before .before .before .before .before .before .before .before .before .before .before .before .before .before .args .labels .now)) × (c .index4 .result < 4096)
+goes :
+    (c : tie.After-index4 Inv-loop μ-loop)
+    → let given : tie.Start Inv-loop μ-loop = search needs in
+    (c .index4 .result < length (given .args .labels .now)) × (c .index4 .result < 4096)
 goes c =
-    let s = c .before .before .before .before .before .before .before .before .before .before .before .before .before .before .before in
-    let l = c .before .before .before .loop in
-    arc-goes (length (s .args .labels .now)) (graph s) (s .pre .0) (s .args .u) (s .pre .2) (l .e) (omega (arith, c .before .before .loop-test .taken, l .inv .end-is)) (c .index4 .result) (c .index4 .ensures)
+    let entered : tie.At-loop Inv-loop μ-loop = search needs in
+    let given : tie.Start Inv-loop μ-loop = search needs in
+    let l = entered .loop in
+    arc-goes (length (given .args .labels .now)) (graph given) (given .pre .0) (given .args .u) (given .pre .2) (l .e)
+    (omega (arith, c .before .before .loop-test .taken, l .inv .end-is)) (c .index4 .result) (c .index4 .ensures)
 
 -- whose part is one of the sixteen
 named : (c : tie.After-index5 Inv-loop μ-loop) → c .index5 .result < 16
 named c =
-    let s = c .before .before .before .before .before .before .before .before .before .before .before .before .before .before .before .before .before in
-    let b = label-below (s .args .weights .now) (s .args .labels .now) (s .pre .1) (c .before .before .index4 .result) (goes (c .before .before) .0) in
+    let given : tie.Start Inv-loop μ-loop = search needs in
+    let b = label-below (given .args .weights .now) (given .args .labels .now) (given .pre .1) (c .before .before .index4 .result) (goes (c .before .before) .0) in
     omega (arith, b, c .index5 .ensures)
 
 mul-index-4 : tie.Need-mul-index-4 Inv-loop μ-loop
@@ -108,7 +118,9 @@ array-write-met-2 : tie.Need-array-write-met-2 Inv-loop μ-loop
 array-write-met-2 c = named (c .before)
 
 add-count : tie.Need-add-count Inv-loop μ-loop
-add-count c = omega (arith, few _ _ _ _ _ _ _ (c .before .before .before .before .before .before .loop .inv))
+add-count c =
+    let entered : tie.At-loop Inv-loop μ-loop = search needs in
+    omega (arith, few _ _ _ _ _ _ _ (entered .loop .inv))
 
 add-e : tie.Need-add-e Inv-loop μ-loop
 add-e c = search needs
@@ -118,9 +130,11 @@ loop-less c = search needs
 
 loop-again : tie.Need-loop-again Inv-loop μ-loop
 loop-again c =
-    let i = c .before .before .before .before .before .before .loop .inv in
-    let l = c .before .before .before .before .before .loop-test .taken in
-    let v = c .before .before .before .index4 .ensures in
+    let after-index4 : tie.After-index4 Inv-loop μ-loop = search needs in
+    let turn : tie.In-loop Inv-loop μ-loop = search needs in
+    let i = turn .before .loop .inv in
+    let l = turn .loop-test .taken in
+    let v = after-index4 .index4 .ensures in
     let t = c .before .index5 .ensures in
     ⊎-elim
     (λ w. rw (w .1, w .2) (turn-new _ _ _ _ _ _ _ i l _ _ v t (named (c .before)) (w .0 .taken)))

@@ -47,22 +47,31 @@ index-requires-2 c κs = search needs
 
 row-answered-requires : tie.Need-row-answered-requires Inv-loop μ-loop
 row-answered-requires c κs =
-    let s = c .before .before .before .before .before .before .before .before .before in
-    let u = c .before .before .before .before .before .loop .u in
-    let t = c .before .before .before .before .loop-test .taken in
-    let a = s .pre .0 .rise u t in
-    let b = s .pre .0 .inside u t in
-    (s .pre .0, s .pre .1, omega (arith, a, c .before .before .index .ensures, c .index2 .ensures), omega (arith, b, c .index2 .ensures))
+    let turn : tie.In-loop Inv-loop μ-loop = search needs in
+    let given : tie.Start Inv-loop μ-loop = search needs in
+    let u = turn .before .loop .u in
+    let t = turn .loop-test .taken in
+    let a = given .pre .0 .rise u t in
+    let b = given .pre .0 .inside u t in
+    (given .pre .0, given .pre .1, omega (arith, a, c .before .before .index .ensures, c .index2 .ensures), omega (arith, b, c .index2 .ensures))
 
 -- the call answers for the row itself
-learnt : (c : tie.After-row-answered Inv-loop μ-loop) → rowAnswered (graph (c .before .before .before .before .before .before .before .before .before .before)) (c .before .before .before .before .before .before .loop .u) ≡ c .row-answered .result
-learnt c = sym (rw (c .before .before .before .index .ensures, c .before .index2 .ensures) at (c .row-answered .ensures))
+learnt :
+    (c : tie.After-row-answered Inv-loop μ-loop)
+    → let entered : tie.At-loop Inv-loop μ-loop = search needs in
+    let given : tie.Start Inv-loop μ-loop = search needs in
+    rowAnswered (graph given) (entered .loop .u) ≡ c .row-answered .result
+learnt c =
+    let after-index : tie.After-index Inv-loop μ-loop = search needs in
+    sym (rw (after-index .index .ensures, c .before .index2 .ensures) at (c .row-answered .ensures))
 
 returns : tie.Need-returns Inv-loop μ-loop
 unfolding answered
 returns c =
-    let s = c .before .before .before .before .before .before .before .before .before .before .before in
-    sym (all-fails (s .args .n) (c .before .before .before .before .before .before .before .loop .u) (rowAnswered (graph s)) (c .before .before .before .before .before .before .loop-test .taken) (learnt (c .before) ∙ not-true _ (c .if1 .taken)))
+    let turn : tie.In-loop Inv-loop μ-loop = search needs in
+    let given : tie.Start Inv-loop μ-loop = search needs in
+    sym (all-fails (given .args .n) (turn .before .loop .u) (rowAnswered (graph given)) (turn .loop-test .taken)
+    (learnt (c .before) ∙ not-true _ (c .if1 .taken)))
 
 add-u : tie.Need-add-u Inv-loop μ-loop
 add-u c = search needs
@@ -72,15 +81,17 @@ loop-less c = search needs
 
 loop-again : tie.Need-loop-again Inv-loop μ-loop
 loop-again c =
-    let s = c .before .before .before .before .before .before .before .before .before .before .before in
-    let l = c .before .before .before .before .before .before .before .loop in
-    (search needs, all-more (l .u) (rowAnswered (graph s)) (l .inv .1) (learnt (c .before) ∙ not-false _ (c .if1 .left)))
+    let entered : tie.At-loop Inv-loop μ-loop = search needs in
+    let given : tie.Start Inv-loop μ-loop = search needs in
+    let l = entered .loop in
+    (search needs, all-more (l .u) (rowAnswered (graph given)) (l .inv .1) (learnt (c .before) ∙ not-false _ (c .if1 .left)))
 
 returns-2 : tie.Need-returns-2 Inv-loop μ-loop
 unfolding answered
 returns-2 c =
+    let given : tie.Start Inv-loop μ-loop = search needs in
     let l = c .before .loop in
-    let e : l .u ≡ c .before .before .before .before .before .args .n = omega arith in
+    let e : l .u ≡ given .args .n = omega arith in
     sym (rw e at (l .inv .1))
 
 pub answered-all-spec : {M : Type 1} → statement M

@@ -26,7 +26,9 @@ index-requires-2 : tie.Need-index-requires-2
 index-requires-2 c κs = search needs
 
 lowest-from-requires : tie.Need-lowest-from-requires
-lowest-from-requires c κs = rw (c .before .before .index .ensures, c .index2 .ensures) (c .before .before .before .before .before .before .before .pre .1)
+lowest-from-requires c κs =
+    let given : tie.Start = search needs in
+    rw (c .before .before .index .ensures, c .index2 .ensures) (given .pre .1)
 
 returns : tie.Need-returns
 returns c = search (not-reached, needs)

@@ -25,7 +25,9 @@ abbrev μ-loop : tie.MeasureT-loop
 μ-loop starts neighbours arc-weights n u lo hi e₀ e = hi - e
 
 loop-holds : tie.Need-loop-holds Inv-loop μ-loop
-loop-holds c = (search needs, search needs, from-none (c .before .before .before .args .lo) 0 _)
+loop-holds c =
+    let given : tie.Start Inv-loop μ-loop = search needs in
+    (search needs, search needs, from-none (given .args .lo) 0 _)
 
 mul-index : tie.Need-mul-index Inv-loop μ-loop
 mul-index c = search needs
@@ -44,20 +46,30 @@ shared-slice-read-has-arc c = search needs
 
 has-arc-requires : tie.Need-has-arc-requires Inv-loop μ-loop
 has-arc-requires c κs =
-    let s = c .before .before .before .before .before .before .before .before in
-    let l = c .before .before .before .before .loop in
-    let t = c .before .before .before .loop-test .taken in
-    asked (s .args .n) (inRows (s .args .starts .now) (s .args .neighbours .now) (s .args .arc-weights .now)) (s .pre .0) (s .pre .1) (l .e) (c .before .index .result) (omega (arith, s .pre .3)) (c .before .index .ensures)
+    let turn : tie.In-loop Inv-loop μ-loop = search needs in
+    let given : tie.Start Inv-loop μ-loop = search needs in
+    let l = turn .before .loop in
+    let t = turn .loop-test .taken in
+    asked (given .args .n) (inRows (given .args .starts .now) (given .args .neighbours .now) (given .args .arc-weights .now))
+    (given .pre .0) (given .pre .1) (l .e) (c .before .index .result) (omega (arith, given .pre .3)) (c .before .index .ensures)
 
 -- the call answers for the arc itself
-learnt : (c : tie.After-has-arc Inv-loop μ-loop) → let s = c .before .before .before .before .before .before .before .before .before in test (s .args .starts .now) (s .args .neighbours .now) (s .args .arc-weights .now) (s .args .u) (c .before .before .before .before .before .loop .e) ≡ c .has-arc .result
+learnt :
+    (c : tie.After-has-arc Inv-loop μ-loop)
+    → let entered : tie.At-loop Inv-loop μ-loop = search needs in
+    let given : tie.Start Inv-loop μ-loop = search needs in
+    test (given .args .starts .now) (given .args .neighbours .now) (given .args .arc-weights .now) (given .args .u) (entered .loop .e)
+    ≡ c .has-arc .result
 learnt c = sym (rw (c .before .before .index .ensures) at (c .has-arc .ensures))
 
 returns : tie.Need-returns Inv-loop μ-loop
 returns c =
-    let s = c .before .before .before .before .before .before .before .before .before .before in
-    let l = c .before .before .before .before .before .before .loop in
-    sym (from-fails (s .args .lo) (s .args .hi) (test (s .args .starts .now) (s .args .neighbours .now) (s .args .arc-weights .now) (s .args .u)) (l .e) (l .inv .0) (c .before .before .before .before .before .loop-test .taken) (learnt (c .before) ∙ not-true _ (c .if1 .taken)))
+    let turn : tie.In-loop Inv-loop μ-loop = search needs in
+    let given : tie.Start Inv-loop μ-loop = search needs in
+    let l = turn .before .loop in
+    sym (from-fails (given .args .lo) (given .args .hi)
+    (test (given .args .starts .now) (given .args .neighbours .now) (given .args .arc-weights .now) (given .args .u)) (l .e) (l .inv .0)
+    (turn .loop-test .taken) (learnt (c .before) ∙ not-true _ (c .if1 .taken)))
 
 add-e : tie.Need-add-e Inv-loop μ-loop
 add-e c = search needs
@@ -67,14 +79,20 @@ loop-less c = search needs
 
 loop-again : tie.Need-loop-again Inv-loop μ-loop
 loop-again c =
-    let s = c .before .before .before .before .before .before .before .before .before .before in
-    let l = c .before .before .before .before .before .before .loop in
-    (search needs, search needs, from-more (s .args .lo) (l .e) (test (s .args .starts .now) (s .args .neighbours .now) (s .args .arc-weights .now) (s .args .u)) (l .inv .0) (l .inv .2) (learnt (c .before) ∙ not-false _ (c .if1 .left)))
+    let entered : tie.At-loop Inv-loop μ-loop = search needs in
+    let given : tie.Start Inv-loop μ-loop = search needs in
+    let l = entered .loop in (
+      search needs,
+      search needs,
+      from-more (given .args .lo) (l .e) (test (given .args .starts .now) (given .args .neighbours .now) (given .args .arc-weights .now)
+          (given .args .u)) (l .inv .0) (l .inv .2) (learnt (c .before) ∙ not-false _ (c .if1 .left)),
+    )
 
 returns-2 : tie.Need-returns-2 Inv-loop μ-loop
 returns-2 c =
+    let given : tie.Start Inv-loop μ-loop = search needs in
     let l = c .before .loop in
-    let e : l .e ≡ c .before .before .before .before .before .args .hi = omega arith in
+    let e : l .e ≡ given .args .hi = omega arith in
     sym (rw e at (l .inv .2))
 
 pub row-answered-spec : {M : Type 1} → statement M

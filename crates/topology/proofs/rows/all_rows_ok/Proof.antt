@@ -14,10 +14,6 @@ use Rattle.topology.proofs.Starts.{start-rises, start-inside}
 use borrow.Author.Needs.{needs}
 use Rattle.topology.proofs.rows.all_rows_ok.Statement.{statement}
 use Rattle.topology.proofs.rows.all_rows_ok.Tie as tie
-use Rattle.topology.proofs.rows.all_rows_ok.Reads as reads
-use Rattle.topology.proofs.rows.all_rows_ok.Lts as lts
-use Rattle.lists.proofs.index.Reads as index-reads
-use Rattle.topology.proofs.rows.row_ok.Reads as row-ok-reads
 
 abbrev Inv-loop : tie.InvT-loop
 Inv-loop starts neighbours n u₀ u = (u ≤ n) × (all u (rowOk n (inRows starts neighbours [])) ≡ true)
@@ -26,8 +22,18 @@ abbrev μ-loop : tie.MeasureT-loop
 μ-loop starts neighbours n u₀ u = n - u
 
 -- what `row_ok` answered is the rule of row u
-row-here : (c : tie.After-row-ok Inv-loop μ-loop) → c .row-ok .result ≡ rowOk (c .before .before .before .before .before .before .before .before .before .args .n) (inRows (c .before .before .before .before .before .before .before .before .before .args .starts .now) (c .before .before .before .before .before .before .before .before .before .args .neighbours .now) []) (c .before .before .before .before .before .before .loop .u)
-row-here c = let x = c .before .before .before .before .before .before .before .before .before .args in row-read (x .n) (x .starts .now) (x .neighbours .now) [] (c .before .before .before .before .before .before .loop .u) _ _ _ (c .before .before .before .index .ensures) (c .before .index2 .ensures) (c .row-ok .ensures)
+row-here :
+    (c : tie.After-row-ok Inv-loop μ-loop)
+    → let entered : tie.At-loop Inv-loop μ-loop = search needs in
+    let given : tie.Start Inv-loop μ-loop = search needs in
+    c .row-ok .result ≡ rowOk (given .args .n) (inRows (given .args .starts .now) (given .args .neighbours .now) []) (entered .loop .u)
+row-here c =
+    let after-index : tie.After-index Inv-loop μ-loop = search needs in
+    let entered : tie.At-loop Inv-loop μ-loop = search needs in
+    let given : tie.Start Inv-loop μ-loop = search needs in
+    let x = given .args in
+    row-read (x .n) (x .starts .now) (x .neighbours .now) [] (entered .loop .u) _ _ _ (after-index .index .ensures)
+    (c .before .index2 .ensures) (c .row-ok .ensures)
 
 loop-holds : tie.Need-loop-holds Inv-loop μ-loop
 loop-holds c = (search needs, all-none _)
@@ -55,18 +61,20 @@ index-requires-2 c κs = search needs
 
 row-ok-requires : tie.Need-row-ok-requires Inv-loop μ-loop
 row-ok-requires c κs =
-    let l = c .before .before .before .before .before in
-    let s = l .before .before .before in
-    let x = s .args in
-    let up = start-rises (x .n) (inRows (x .starts .now) (x .neighbours .now) []) (s .pre .1) (l .loop .u) (c .before .before .before .before .loop-test .taken) in
-    let in-arcs = start-inside (x .n) (inRows (x .starts .now) (x .neighbours .now) []) (s .pre .1) (l .loop .u) (c .before .before .before .before .loop-test .taken) in
+    let turn : tie.In-loop Inv-loop μ-loop = search needs in
+    let given : tie.Start Inv-loop μ-loop = search needs in
+    let x = given .args in
+    let up = start-rises (x .n) (inRows (x .starts .now) (x .neighbours .now) []) (given .pre .1) (turn .before .loop .u) (turn .loop-test .taken) in
+    let in-arcs = start-inside (x .n) (inRows (x .starts .now) (x .neighbours .now) []) (given .pre .1) (turn .before .loop .u) (turn .loop-test .taken) in
     (omega (arith, c .before .before .index .ensures, c .index2 .ensures), omega (arith, c .index2 .ensures))
 
 returns : tie.Need-returns Inv-loop μ-loop
 returns c =
-    let l = c .before .before .before .before .before .before .before in
-    let x = l .before .before .before .args in
-    sym (all-fails (x .n) (l .loop .u) (rowOk (x .n) (inRows (x .starts .now) (x .neighbours .now) [])) (c .before .before .before .before .before .before .loop-test .taken) (sym (row-here (c .before)) ∙ not-true _ (c .if1 .taken)))
+    let turn : tie.In-loop Inv-loop μ-loop = search needs in
+    let given : tie.Start Inv-loop μ-loop = search needs in
+    let x = given .args in
+    sym (all-fails (x .n) (turn .before .loop .u) (rowOk (x .n) (inRows (x .starts .now) (x .neighbours .now) [])) (turn .loop-test .taken)
+    (sym (row-here (c .before)) ∙ not-true _ (c .if1 .taken)))
 
 add-u : tie.Need-add-u Inv-loop μ-loop
 add-u c = search needs
@@ -76,14 +84,19 @@ loop-less c = search needs
 
 loop-again : tie.Need-loop-again Inv-loop μ-loop
 loop-again c =
-    let l = c .before .before .before .before .before .before .before in
-    let x = l .before .before .before .args in
-    (search needs, all-more (l .loop .u) (rowOk (x .n) (inRows (x .starts .now) (x .neighbours .now) [])) (l .loop .inv .1) (sym (row-here (c .before)) ∙ not-false _ (c .if1 .left)))
+    let entered : tie.At-loop Inv-loop μ-loop = search needs in
+    let given : tie.Start Inv-loop μ-loop = search needs in
+    let x = given .args in (
+      search needs,
+      all-more (entered .loop .u) (rowOk (x .n) (inRows (x .starts .now) (x .neighbours .now) [])) (entered .loop .inv .1)
+          (sym (row-here (c .before)) ∙ not-false _ (c .if1 .left)),
+    )
 
 returns-2 : tie.Need-returns-2 Inv-loop μ-loop
 returns-2 c =
+    let given : tie.Start Inv-loop μ-loop = search needs in
     let l = c .before in
-    let e : l .loop .u ≡ l .before .before .before .args .n = omega arith in
+    let e : l .loop .u ≡ given .args .n = omega arith in
     sym (rw e at (l .loop .inv .1))
 
 pub all-rows-ok-spec : {M : Type 1} → statement M

@@ -4,9 +4,6 @@ use Rattle.topology.specs.Rule.{arcOk}
 use borrow.Author.Needs.{needs}
 use Rattle.topology.proofs.rows.arc_ok.Statement.{statement}
 use Rattle.topology.proofs.rows.arc_ok.Tie as tie
-use Rattle.topology.proofs.rows.arc_ok.Reads as reads
-use Rattle.topology.proofs.rows.arc_ok.Lts as lts
-use Rattle.lists.proofs.index.Reads as index-reads
 
 mul-index : tie.Need-mul-index
 mul-index c = search needs
@@ -27,7 +24,9 @@ returns-2 c = rw (← c .before .before .index .ensures, lt-ltb _ _ (c .before .
 
 returns-3 : tie.Need-returns-3
 unfolding arcOk
-returns-3 c = rw (← c .before .before .before .index .ensures, lt-ltb _ _ (c .before .before .if1 .left), ne-eqb _ _ (c .before .if2 .left), eq-eqb _ _ (c .if3 .taken))
+returns-3 c =
+    let after-index : tie.After-index = search needs in
+    rw (← after-index .index .ensures, lt-ltb _ _ (c .before .before .if1 .left), ne-eqb _ _ (c .before .if2 .left), eq-eqb _ _ (c .if3 .taken))
 
 sub-index : tie.Need-sub-index
 sub-index c = search needs
@@ -43,7 +42,17 @@ index-requires-2 c κs = search needs
 
 returns-4 : tie.Need-returns-4
 unfolding arcOk
-returns-4 c = rw (← c .index2 .ensures, ← c .before .before .before .before .before .index .ensures, lt-ltb _ _ (c .before .before .before .before .if1 .left), ne-eqb _ _ (c .before .before .before .if2 .left), ne-eqb _ _ (c .before .before .if3 .left))
+returns-4 c =
+    let else2 : tie.Else2 = search needs in
+    let else1 : tie.Else1 = search needs in
+    let after-index : tie.After-index = search needs in
+    rw (
+      ← c .index2 .ensures,
+      ← after-index .index .ensures,
+      lt-ltb _ _ (else1 .if1 .left),
+      ne-eqb _ _ (else2 .if2 .left),
+      ne-eqb _ _ (c .before .before .if3 .left),
+    )
 
 pub arc-ok-spec : {M : Type 1} → statement M
 arc-ok-spec =

@@ -6,8 +6,6 @@ use Rattle.topology.specs.Rule.{misfit}
 use borrow.Author.Needs.{needs}
 use Rattle.topology.proofs.rows.misfits.Statement.{statement}
 use Rattle.topology.proofs.rows.misfits.Tie as tie
-use Rattle.topology.proofs.rows.misfits.Reads as reads
-use Rattle.topology.proofs.rows.misfits.Lts as lts
 
 -- src/rows.rt:16:9
 returns : tie.Need-returns

@@ -2,8 +2,6 @@ use borrow.Author.Tests.{lt-ltb, le-ltb}
 use Rattle.topology.specs.Rule.{oversize}
 use Rattle.topology.proofs.rows.oversized.Statement.{statement}
 use Rattle.topology.proofs.rows.oversized.Tie as tie
-use Rattle.topology.proofs.rows.oversized.Reads as reads
-use Rattle.topology.proofs.rows.oversized.Lts as lts
 
 -- src/rows.rt:29:9
 returns : tie.Need-returns

@@ -12,9 +12,6 @@ use Rattle.topology.specs.Rule.{arcOk}
 use borrow.Author.Needs.{needs}
 use Rattle.topology.proofs.rows.row_ok.Statement.{statement}
 use Rattle.topology.proofs.rows.row_ok.Tie as tie
-use Rattle.topology.proofs.rows.row_ok.Reads as reads
-use Rattle.topology.proofs.rows.row_ok.Lts as lts
-use Rattle.topology.proofs.rows.arc_ok.Reads as arc-ok-reads
 
 abbrev Inv-loop : tie.InvT-loop
 Inv-loop neighbours n u lo hi e₀ e = (lo ≤ e) × (e ≤ hi) × (allFrom lo e (arcOk n (inRows [] neighbours []) u lo) ≡ true)
@@ -30,9 +27,11 @@ arc-ok-requires c κs = search needs
 
 returns : tie.Need-returns Inv-loop μ-loop
 returns c =
-    let l = c .before .before .before in
-    let x = l .before .before .args in
-    sym (from-fails (x .lo) (x .hi) (arcOk (x .n) (inRows [] (x .neighbours .now) []) (x .u) (x .lo)) (l .loop .e) (l .loop .inv .0) (c .before .before .loop-test .taken) (sym (c .before .arc-ok .ensures) ∙ not-true _ (c .if1 .taken)))
+    let entered : tie.At-loop Inv-loop μ-loop = search needs in
+    let given : tie.Start Inv-loop μ-loop = search needs in
+    let x = given .args in
+    sym (from-fails (x .lo) (x .hi) (arcOk (x .n) (inRows [] (x .neighbours .now) []) (x .u) (x .lo)) (entered .loop .e)
+    (entered .loop .inv .0) (c .before .before .loop-test .taken) (sym (c .before .arc-ok .ensures) ∙ not-true _ (c .if1 .taken)))
 
 add-e : tie.Need-add-e Inv-loop μ-loop
 add-e c = search needs
@@ -42,9 +41,14 @@ loop-less c = search needs
 
 loop-again : tie.Need-loop-again Inv-loop μ-loop
 loop-again c =
-    let l = c .before .before .before in
-    let x = l .before .before .args in
-    (search needs, search needs, from-more (x .lo) (l .loop .e) (arcOk (x .n) (inRows [] (x .neighbours .now) []) (x .u) (x .lo)) (l .loop .inv .0) (l .loop .inv .2) (sym (c .before .arc-ok .ensures) ∙ not-false _ (c .if1 .left)))
+    let entered : tie.At-loop Inv-loop μ-loop = search needs in
+    let given : tie.Start Inv-loop μ-loop = search needs in
+    let x = given .args in (
+      search needs,
+      search needs,
+      from-more (x .lo) (entered .loop .e) (arcOk (x .n) (inRows [] (x .neighbours .now) []) (x .u) (x .lo)) (entered .loop .inv .0)
+          (entered .loop .inv .2) (sym (c .before .arc-ok .ensures) ∙ not-false _ (c .if1 .left)),
+    )
 
 returns-2 : tie.Need-returns-2 Inv-loop μ-loop
 returns-2 c =

@@ -4,10 +4,6 @@ use Rattle.topology.specs.Rule.{rowsOk}
 use borrow.Author.Needs.{needs}
 use Rattle.topology.proofs.rows.rows_ok.Statement.{statement}
 use Rattle.topology.proofs.rows.rows_ok.Tie as tie
-use Rattle.topology.proofs.rows.rows_ok.Reads as reads
-use Rattle.topology.proofs.rows.rows_ok.Lts as lts
-use Rattle.topology.proofs.rows.all_rows_ok.Reads as all-rows-ok-reads
-use Rattle.topology.proofs.rows.starts_ok.Reads as starts-ok-reads
 
 starts-ok-requires : tie.Need-starts-ok-requires
 starts-ok-requires c κs = search needs

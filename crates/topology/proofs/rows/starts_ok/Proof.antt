@@ -12,9 +12,6 @@ use Rattle.topology.specs.Rule.{startsOk, fallsNot}
 use borrow.Author.Needs.{needs}
 use Rattle.topology.proofs.rows.starts_ok.Statement.{statement}
 use Rattle.topology.proofs.rows.starts_ok.Tie as tie
-use Rattle.topology.proofs.rows.starts_ok.Reads as reads
-use Rattle.topology.proofs.rows.starts_ok.Lts as lts
-use Rattle.lists.proofs.index.Reads as index-reads
 
 abbrev Inv-loop : tie.InvT-loop
 Inv-loop starts neighbours n last u₀ u = (u ≤ n) × (all u (fallsNot (inRows starts neighbours [])) ≡ true)
@@ -40,7 +37,9 @@ index-requires c κs = search needs
 
 returns-2 : tie.Need-returns-2 Inv-loop μ-loop
 unfolding startsOk
-returns-2 c = rw (eq-eqb _ 0 (c .before .before .before .if1 .left), ← c .before .index .ensures, ne-eqb _ _ (c .if2 .taken))
+returns-2 c =
+    let else1 : tie.Else1 Inv-loop μ-loop = search needs in
+    rw (eq-eqb _ 0 (else1 .if1 .left), ← c .before .index .ensures, ne-eqb _ _ (c .if2 .taken))
 
 loop-holds : tie.Need-loop-holds Inv-loop μ-loop
 loop-holds c = (search needs, all-none _)
@@ -63,10 +62,14 @@ shared-slice-read-if3-2 c = search needs
 returns-3 : tie.Need-returns-3 Inv-loop μ-loop
 unfolding startsOk
 returns-3 c =
-    let l = c .before .before .before .before in
-    let x = l .before .before .before .before .before .before .before .before .args in
-    rw (eq-eqb _ 0 (l .before .before .before .before .if1 .left), ← l .before .before .index .ensures, eq-eqb _ _ (l .before .if2 .left))
-    (sym (all-fails (x .n) (l .loop .u) (fallsNot (inRows (x .starts .now) (x .neighbours .now) [])) (c .before .before .before .loop-test .taken) (lt-leb _ _ (c .if3 .taken))))
+    let turn : tie.In-loop Inv-loop μ-loop = search needs in
+    let after-index : tie.After-index Inv-loop μ-loop = search needs in
+    let else1 : tie.Else1 Inv-loop μ-loop = search needs in
+    let given : tie.Start Inv-loop μ-loop = search needs in
+    let x = given .args in
+    rw (eq-eqb _ 0 (else1 .if1 .left), ← after-index .index .ensures, eq-eqb _ _ (turn .before .before .if2 .left))
+    (sym (all-fails (x .n) (turn .before .loop .u) (fallsNot (inRows (x .starts .now) (x .neighbours .now) [])) (turn .loop-test .taken)
+    (lt-leb _ _ (c .if3 .taken))))
 
 add-u : tie.Need-add-u Inv-loop μ-loop
 add-u c = search needs
@@ -76,16 +79,22 @@ loop-less c = search needs
 
 loop-again : tie.Need-loop-again Inv-loop μ-loop
 loop-again c =
-    let l = c .before .before .before .before in
-    let x = l .before .before .before .before .before .before .before .before .args in
-    (search needs, all-more (l .loop .u) (fallsNot (inRows (x .starts .now) (x .neighbours .now) [])) (l .loop .inv .1) (le-leb _ _ (c .if3 .left)))
+    let entered : tie.At-loop Inv-loop μ-loop = search needs in
+    let given : tie.Start Inv-loop μ-loop = search needs in
+    let x = given .args in (
+      search needs,
+      all-more (entered .loop .u) (fallsNot (inRows (x .starts .now) (x .neighbours .now) [])) (entered .loop .inv .1)
+          (le-leb _ _ (c .if3 .left)),
+    )
 
 returns-4 : tie.Need-returns-4 Inv-loop μ-loop
 unfolding startsOk
 returns-4 c =
+    let else1 : tie.Else1 Inv-loop μ-loop = search needs in
+    let given : tie.Start Inv-loop μ-loop = search needs in
     let l = c .before in
-    let e : l .loop .u ≡ l .before .before .before .before .before .before .before .before .args .n = omega arith in
-    rw (eq-eqb _ 0 (l .before .before .before .before .if1 .left), ← l .before .before .index .ensures, eq-eqb _ _ (l .before .if2 .left)) (sym (rw e at (l .loop .inv .1)))
+    let e : l .loop .u ≡ given .args .n = omega arith in
+    rw (eq-eqb _ 0 (else1 .if1 .left), ← l .before .before .index .ensures, eq-eqb _ _ (l .before .if2 .left)) (sym (rw e at (l .loop .inv .1)))
 
 pub starts-ok-spec : {M : Type 1} → statement M
 starts-ok-spec =
