@@ -19,7 +19,7 @@ use Rattle.imbalance.specs.declared.Loads.{Loads}
 use Rattle.topology.specs.Rule.{graphNumber}
 use Rattle.topology.specs.Cut.{cut}
 use Rattle.topology.proofs.Numbers.{sound}
-use Rattle.arc_swap_attempt.specs.Inner.{held}
+use Rattle.arc_swap_attempt.specs.inner.Steps.{held}
 use Rattle.arc_swap_attempt.specs.declared.Standing.{Standing}
 use Rattle.arc_swap_attempt.proofs.Stacks.{held-none}
 use Rattle.arc_swap.specs.declared.RunRecord.{RunRecord}
@@ -29,7 +29,7 @@ use Rattle.arc_swap.specs.declared.Begun.{Begun}
 use Rattle.arc_swap.specs.declared.Ended.{Ended}
 use Rattle.arc_swap.specs.Run.{Setting, Run, run}
 use Rattle.arc_swap.specs.Entry.{Plan, Lent, graphOf, number, partsOf, settingOf, noCounts, begin, runOf, refused, empty, reportOf, leftBy, answer, left, Swapped}
-use Rattle.arc_swap.specs.Inner.{settingBy, nobody, at, TurnAsked, PassesDone, InOrder, Begins, Ran}
+use Rattle.arc_swap.specs.inner.Steps.{settingBy, nobody, at, TurnAsked, PassesDone, InOrder, Begins, Ran}
 use Rattle.arc_swap.proofs.Parts.{parts-named, parts-few}
 use Rattle.arc_swap.proofs.Lights.{cut-light}
 

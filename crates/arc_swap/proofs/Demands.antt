@@ -16,14 +16,14 @@ use Rattle.topology.specs.Graph.{gain}
 use Rattle.topology.specs.Rule.{Symmetric}
 use Rattle.topology.specs.Cut.{cut}
 use Rattle.topology.proofs.Moves.{cut-move, load-move, gain-is-the-fall-of-the-cut}
-use Rattle.arc_swap_attempt.specs.Inner.{Named}
+use Rattle.arc_swap_attempt.specs.inner.Steps.{Named}
 use Rattle.arc_swap_attempt.specs.declared.Trial.{Trial}
 use Rattle.arc_swap_attempt.specs.declared.Trial.the-variants.{NoGain, BadBalance, Goes}
 use Rattle.arc_swap_attempt.proofs.Tried.{Goal}
 use Rattle.arc_swap.specs.declared.RunRecord.{RunRecord}
-use Rattle.arc_swap.specs.Run.{Setting, noted, run}
+use Rattle.arc_swap.specs.Run.{Setting, noted, run, Summed}
 use Rattle.arc_swap.specs.Entry.{begin}
-use Rattle.arc_swap.specs.Inner.{nobody, Summed}
+use Rattle.arc_swap.specs.inner.Steps.{nobody}
 use Rattle.arc_swap.specs.Demand.{gained, NoPartAbove}
 use Rattle.arc_swap.proofs.Drains.{noted-summed}
 use Rattle.arc_swap.proofs.Keeps.{holds-run}

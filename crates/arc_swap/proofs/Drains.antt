@@ -12,7 +12,7 @@ use Rattle.topology.specs.Graph.{first, past, gain}
 use Rattle.topology.specs.Cut.{cut}
 use Rattle.topology.proofs.Moves.{cut-move}
 use Rattle.arc_swap_attempt.specs.Trial.{trial}
-use Rattle.arc_swap_attempt.specs.Inner.{held, fresh, Tryable, MoveAsked, MoveDone}
+use Rattle.arc_swap_attempt.specs.inner.Steps.{held, fresh, Tryable, MoveAsked, MoveDone}
 use Rattle.arc_swap_attempt.specs.declared.Standing.{Standing}
 use Rattle.arc_swap_attempt.specs.declared.Trial.{Trial}
 use Rattle.arc_swap_attempt.specs.declared.Trial.the-variants.{NoGain, BadBalance, Goes}
@@ -21,8 +21,8 @@ use Rattle.arc_swap_attempt.proofs.Tried.{Goal, goal, aim-in}
 use Rattle.arc_swap_attempt.proofs.Moving.{named-move}
 use Rattle.arc_swap.specs.declared.RunRecord.{RunRecord}
 use Rattle.arc_swap.specs.declared.Attempted.{Attempted}
-use Rattle.arc_swap.specs.Run.{Setting, noted, after, attempt, drain}
-use Rattle.arc_swap.specs.Inner.{Fixed, Inside, Summed, Ready, at, standing, spent, most, Asked, Done, AttemptAsked, AttemptDone}
+use Rattle.arc_swap.specs.Run.{Setting, noted, after, attempt, drain, Summed}
+use Rattle.arc_swap.specs.inner.Steps.{Fixed, Inside, Ready, at, standing, spent, most, Asked, Done, AttemptAsked, AttemptDone}
 use Rattle.arc_swap.proofs.Spreads.{inside-both, inside-top, inside-rest, pushed-few, pushed-inside, row-few}
 
 -- ---- the definition, step by step

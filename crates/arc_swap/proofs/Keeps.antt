@@ -11,14 +11,14 @@ use Rattle.topology.specs.Graph.{first, past, gain}
 use Rattle.topology.specs.Rule.{Rows}
 use Rattle.topology.specs.Cut.{cut}
 use Rattle.arc_swap_attempt.specs.Trial.{pushed, trial}
-use Rattle.arc_swap_attempt.specs.Inner.{Named}
+use Rattle.arc_swap_attempt.specs.inner.Steps.{Named}
 use Rattle.arc_swap_attempt.specs.declared.Trial.{Trial}
 use Rattle.arc_swap_attempt.specs.declared.Trial.the-variants.{NoGain, BadBalance, Goes}
 use Rattle.arc_swap_attempt.proofs.Tried.{Goal, goal, aim-in}
 use Rattle.arc_swap_attempt.proofs.Moving.{named-move}
 use Rattle.arc_swap.specs.declared.RunRecord.{RunRecord}
 use Rattle.arc_swap.specs.Run.{Setting, State, noted, after, attempt, drain, enough, onCut, firstPush, turn, sweep, run}
-use Rattle.arc_swap.specs.Inner.{Inside, nobody, also}
+use Rattle.arc_swap.specs.inner.Steps.{Inside, nobody, also}
 use Rattle.arc_swap.proofs.Spreads.{inside-both, inside-top, inside-rest, pushed-inside}
 
 module _ (s : Setting) (n : ℕ) (P : List ℕ → RunRecord → List ℤ → Type 0)

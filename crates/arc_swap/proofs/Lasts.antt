@@ -14,12 +14,12 @@ use Rattle.topology.specs.Rule.{Symmetric}
 use Rattle.topology.specs.Cut.{cut}
 use Rattle.topology.proofs.Moves.{cut-move}
 use Rattle.arc_swap_attempt.specs.Trial.{pushed, trial}
-use Rattle.arc_swap_attempt.specs.Inner.{Named}
+use Rattle.arc_swap_attempt.specs.inner.Steps.{Named}
 use Rattle.arc_swap_attempt.specs.declared.Trial.{Trial}
 use Rattle.arc_swap_attempt.specs.declared.Trial.the-variants.{NoGain, BadBalance, Goes}
 use Rattle.arc_swap_attempt.proofs.Tried.{goal}
 use Rattle.arc_swap.specs.Run.{Setting, State, after, attempt, drain, enough, firstPush, sweep, run}
-use Rattle.arc_swap.specs.Inner.{nobody, also}
+use Rattle.arc_swap.specs.inner.Steps.{nobody, also}
 use Rattle.arc_swap.proofs.Keeps.{Holds, holds-after}
 use Rattle.arc_swap.proofs.Spreads.{inside-top}
 

@@ -6,11 +6,12 @@ use lib.ListN.{length}
 use lib.IntN.{subℕ}
 use borrow.Author.Tests.{eq-eqb, ne-eqb}
 use Rattle.topology.specs.Cut.{cut}
-use Rattle.arc_swap_attempt.specs.Inner.{Named}
+use Rattle.arc_swap_attempt.specs.inner.Steps.{Named}
+use Rattle.arc_swap.specs.Run.{Summed}
 use Rattle.arc_swap.specs.declared.Report.{Report}
 use Rattle.arc_swap.specs.declared.RunRecord.{RunRecord}
 use Rattle.arc_swap.specs.Entry.{Plan, Lent, graphOf, number, settingOf, runOf, reportOf, leftBy, answer, left, Swapped}
-use Rattle.arc_swap.specs.Inner.{Summed, InOrder}
+use Rattle.arc_swap.specs.inner.Steps.{InOrder}
 use Rattle.arc_swap.specs.Demand.{gained, NoPartAbove, NoSingleBlock}
 use Rattle.arc_swap.proofs.Calls.{in-order}
 use Rattle.arc_swap.proofs.Parts.{parts-named, parts-few}

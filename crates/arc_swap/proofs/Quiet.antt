@@ -20,14 +20,14 @@ use Rattle.topology.specs.Rule.{Symmetric}
 use Rattle.topology.specs.Cut.{cut}
 use Rattle.topology.proofs.Moves.{cut-move}
 use Rattle.arc_swap_attempt.specs.Trial.{trial}
-use Rattle.arc_swap_attempt.specs.Inner.{Named}
+use Rattle.arc_swap_attempt.specs.inner.Steps.{Named}
 use Rattle.arc_swap_attempt.specs.declared.Trial.{Trial}
 use Rattle.arc_swap_attempt.specs.declared.Trial.the-variants.{NoGain, BadBalance, Goes}
 use Rattle.arc_swap_attempt.proofs.Tried.{Goal, goal, aim-in, not-goes}
 use Rattle.arc_swap.specs.declared.RunRecord.{RunRecord}
 use Rattle.arc_swap.specs.Run.{Setting, State, Run, noted, after, attempt, drain, enough, onCut, firstPush, turn, sweep, run}
 use Rattle.arc_swap.specs.Entry.{begin}
-use Rattle.arc_swap.specs.Inner.{nobody, also, at}
+use Rattle.arc_swap.specs.inner.Steps.{nobody, also, at}
 use Rattle.arc_swap.specs.Demand.{NoSingleBlock}
 use Rattle.arc_swap.proofs.Keeps.{Holds, holds-after, holds-drain, holds-turn, holds-sweep}
 use Rattle.arc_swap.proofs.Drains.{drain-full, drain-empty}

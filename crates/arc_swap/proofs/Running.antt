@@ -9,13 +9,13 @@ use lib.Dec.{ltb}
 use lib.IntN.{ℤ}
 use borrow.Author.Tests.{lt-ltb, le-ltb, ltb-true, ltb-false}
 use Rattle.topology.specs.Cut.{cut}
-use Rattle.arc_swap_attempt.specs.Inner.{held}
+use Rattle.arc_swap_attempt.specs.inner.Steps.{held}
 use Rattle.arc_swap_attempt.specs.declared.Standing.{Standing}
 use Rattle.arc_swap_attempt.proofs.Stacks.{held-none}
 use Rattle.arc_swap.specs.declared.RunRecord.{RunRecord}
 use Rattle.arc_swap.specs.Run.{Setting, State, Run, sweep, run}
 use Rattle.arc_swap.specs.Entry.{noCounts}
-use Rattle.arc_swap.specs.Inner.{Ready, at, spent, TurnAsked, Done, endBy, PassesDone}
+use Rattle.arc_swap.specs.inner.Steps.{Ready, at, spent, TurnAsked, Done, endBy, PassesDone}
 
 -- ---- the definition, pass by pass
 module _ (s : Setting) (f i : ℕ) (st : State) where

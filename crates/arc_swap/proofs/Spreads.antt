@@ -7,7 +7,7 @@ use lib.ListN.{length}
 use Rattle.topology.specs.Graph.{Graph, first, past, neighbour}
 use Rattle.topology.specs.Rule.{Rows}
 use Rattle.arc_swap_attempt.specs.Trial.{gladly, pushed}
-use Rattle.arc_swap.specs.Inner.{Inside, nobody, also}
+use Rattle.arc_swap.specs.inner.Steps.{Inside, nobody, also}
 
 pub inside-both : {n : ℕ} {xs ys : List ℕ} → Inside n xs → Inside n ys → Inside n (xs ++ ys)
 inside-both nobody b = b

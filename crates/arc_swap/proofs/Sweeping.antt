@@ -7,12 +7,12 @@ use native.Mathlib.Omega.{arith}
 use native.Mathlib.Numerals.{add-one}
 use lib.ListN.{length}
 use Rattle.topology.specs.Cut.{cut}
-use Rattle.arc_swap_attempt.specs.Inner.{held}
+use Rattle.arc_swap_attempt.specs.inner.Steps.{held}
 use Rattle.arc_swap_attempt.specs.declared.Standing.{Standing}
 use Rattle.arc_swap_attempt.proofs.Stacks.{held-none}
 use Rattle.arc_swap.specs.declared.RunRecord.{RunRecord}
 use Rattle.arc_swap.specs.Run.{Setting, State, turn, sweep}
-use Rattle.arc_swap.specs.Inner.{Ready, at, Leads, spent, TurnAsked, Done}
+use Rattle.arc_swap.specs.inner.Steps.{Ready, at, Leads, spent, TurnAsked, Done}
 
 -- ---- the definition, step by step
 module _ (s : Setting) where

@@ -14,12 +14,12 @@ use Rattle.imbalance.specs.Load.{part}
 use Rattle.topology.specs.Graph.{Graph, first, past, neighbour}
 use Rattle.topology.specs.Rule.{Rows}
 use Rattle.topology.specs.Cut.{cut}
-use Rattle.arc_swap_attempt.specs.Inner.{held}
+use Rattle.arc_swap_attempt.specs.inner.Steps.{held}
 use Rattle.arc_swap_attempt.specs.declared.Standing.{Standing}
 use Rattle.arc_swap_attempt.proofs.Stacks.{held-push, held-none}
 use Rattle.arc_swap.specs.declared.RunRecord.{RunRecord}
 use Rattle.arc_swap.specs.Run.{Setting, State, drain, onCut, firstPush, turn}
-use Rattle.arc_swap.specs.Inner.{nobody, also, at, standing, spent, Asked, TurnAsked, Done, FirstDone}
+use Rattle.arc_swap.specs.inner.Steps.{nobody, also, at, standing, spent, Asked, TurnAsked, Done, FirstDone}
 use Rattle.arc_swap.proofs.Drains.{drain-empty}
 
 -- ---- the neighbours in another part

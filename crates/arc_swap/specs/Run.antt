@@ -1,4 +1,5 @@
 -- A run of arc-swap on one thread (document 01, "Arc-swap").
+use mathlib.Core.Path.{_≡_}
 use mathlib.Core.Bool.{Bool, true, false, not, cond, _&&_}
 use mathlib.Core.List.{List, [], _∷_, _++_}
 use Prim.Native.Nat.{ℕ, zero, suc, _+_, _-_, _*_}
@@ -42,6 +43,10 @@ abbrev pub noted : Trial → RunRecord → RunRecord
 noted NoGain r = record { attempts = r .attempts + 1; moves = r .moves; «no_gain» = r .«no_gain» + 1; «bad_balance» = r .«bad_balance» }
 noted BadBalance r = record { attempts = r .attempts + 1; moves = r .moves; «no_gain» = r .«no_gain»; «bad_balance» = r .«bad_balance» + 1 }
 noted (Goes t x) r = record { attempts = r .attempts + 1; moves = r .moves + 1; «no_gain» = r .«no_gain»; «bad_balance» = r .«bad_balance» }
+
+-- every attempt is a move, one without a gain or one at a part that is too heavy
+abbrev pub Summed : RunRecord → Type 0
+Summed r = r .attempts ≡ r .moves + r .«no_gain» + r .«bad_balance»
 
 -- v has "a neighbour in another part"
 unfoldable pub onCut : Graph → List ℕ → ℕ → Bool

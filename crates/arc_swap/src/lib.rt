@@ -8,9 +8,9 @@ ghost use Rattle.imbalance.specs.Limit.{labelAbove};
 ghost use Rattle.imbalance.specs.Number.{noLoads};
 ghost use Rattle.topology.specs.Cut.{cut};
 ghost use Rattle.topology.specs.Graph.{inRows};
-ghost use Rattle.arc_swap.specs.Run.{noted, drain, sweep};
+ghost use Rattle.arc_swap.specs.Run.{noted, drain, sweep, Summed};
 ghost use Rattle.arc_swap.specs.Entry.{number, partsOf, noCounts, Swapped};
-ghost use Rattle.arc_swap.specs.Inner.{settingBy, standing, Summed, most, Asked, TurnAsked, Done, endBy, PassesDone, InOrder, Begins, Ran};
+ghost use Rattle.arc_swap.specs.inner.Steps.{settingBy, standing, most, Asked, TurnAsked, Done, endBy, PassesDone, InOrder, Begins, Ran};
 
 mod turns;
 

@@ -5,7 +5,7 @@ ghost use lib.ListN.{length};
 ghost use Rattle.topology.specs.Graph.{inRows};
 ghost use Rattle.topology.specs.Rule.{Rows};
 ghost use Rattle.arc_swap.specs.Run.{onCut};
-ghost use Rattle.arc_swap.specs.Inner.{settingBy, AttemptAsked, AttemptDone, FirstDone};
+ghost use Rattle.arc_swap.specs.inner.Steps.{settingBy, AttemptAsked, AttemptDone, FirstDone};
 use crate::Attempted;
 use arc_swap_attempt::Standing;
 use arc_swap_attempt::Trial;

@@ -19,7 +19,7 @@ use Rattle.lists.proofs.Differences.{at-most, at-most-none}
 use Rattle.imbalance.specs.Load.{part}
 use Rattle.topology.specs.Graph.{Graph, into, gain}
 use Rattle.arc_swap_attempt.specs.Trial.{aim, gladly}
-use Rattle.arc_swap_attempt.specs.Inner.{picked, bestBy}
+use Rattle.arc_swap_attempt.specs.inner.Steps.{picked, bestBy}
 use Rattle.arc_swap_attempt.specs.declared.Target.{Target}
 
 -- ---- the walk over the sums

@@ -16,7 +16,7 @@ use Rattle.imbalance.proofs.PartLoads.{load-within}
 use Rattle.topology.specs.Graph.{Graph}
 use Rattle.topology.specs.Cut.{cut}
 use Rattle.topology.proofs.Moves.{cut-move, load-move}
-use Rattle.arc_swap_attempt.specs.Inner.{Named, MoveAsked, MoveDone, PushDone, fresh}
+use Rattle.arc_swap_attempt.specs.inner.Steps.{Named, MoveAsked, MoveDone, PushDone, fresh}
 
 -- the labels stay below k
 pub named-move : (g : Graph) (k : ℕ) (p : List ℕ) (v t : ℕ) → Named g k p → v < length p → t < k → Named g k (set p v t)

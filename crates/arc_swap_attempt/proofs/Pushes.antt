@@ -9,7 +9,7 @@ use borrow.Author.Tests.{le-leb, lt-leb}
 use Rattle.topology.specs.Graph.{Graph, first, past, neighbour}
 use Rattle.topology.specs.Rule.{Rows}
 use Rattle.arc_swap_attempt.specs.Trial.{gladly, pushed}
-use Rattle.arc_swap_attempt.specs.Inner.{held, fresh, PushDone}
+use Rattle.arc_swap_attempt.specs.inner.Steps.{held, fresh, PushDone}
 use Rattle.arc_swap_attempt.proofs.Stacks.{held-above, held-push}
 
 -- of v's first n arcs, those to vertices that gain by a move

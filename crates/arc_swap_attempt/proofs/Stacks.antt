@@ -6,7 +6,7 @@ use native.Mathlib.Omega.{arith}
 use native.Mathlib.Numerals.{add-one}
 use lib.ListN.{length, getD, set}
 use lib.Seq.{getD-set-same, getD-set-other}
-use Rattle.arc_swap_attempt.specs.Inner.{held}
+use Rattle.arc_swap_attempt.specs.inner.Steps.{held}
 
 pub length-held : (s : List ℕ) (n : ℕ) → length (held s n) ≡ n
 unfolding held

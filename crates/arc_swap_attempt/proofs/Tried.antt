@@ -17,7 +17,7 @@ use Rattle.imbalance.specs.Load.{part, load}
 use Rattle.imbalance.proofs.PartLoads.{load-within}
 use Rattle.topology.specs.Graph.{Graph, into, gain}
 use Rattle.arc_swap_attempt.specs.Trial.{aim, gladly, trial}
-use Rattle.arc_swap_attempt.specs.Inner.{picked, bestBy, Named, Tryable}
+use Rattle.arc_swap_attempt.specs.inner.Steps.{picked, bestBy, Named, Tryable}
 use Rattle.arc_swap_attempt.specs.declared.Target.{Target}
 use Rattle.arc_swap_attempt.specs.declared.Trial.the-variants.{NoGain, BadBalance, Goes}
 use Rattle.arc_swap_attempt.proofs.Aims.{target-is, gain-none, glad-is}

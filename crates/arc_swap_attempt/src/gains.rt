@@ -5,7 +5,7 @@ ghost use lib.ListN.{length, getD};
 ghost use Rattle.lists.specs.Fill.{table};
 ghost use Rattle.topology.specs.Graph.{inRows, into};
 ghost use Rattle.arc_swap_attempt.specs.Trial.{gladly};
-ghost use Rattle.arc_swap_attempt.specs.Inner.{picked, bestBy, Named};
+ghost use Rattle.arc_swap_attempt.specs.inner.Steps.{picked, bestBy, Named};
 use crate::Sums;
 use crate::Target;
 

@@ -4,7 +4,7 @@ ghost use Prim.Native.Nat.{_+_, _-_, _≤_, _<_};
 ghost use lib.ListN.{length, getD, set};
 ghost use Rattle.imbalance.specs.Limit.{mostWeight};
 ghost use Rattle.topology.specs.Graph.{inRows};
-ghost use Rattle.arc_swap_attempt.specs.Inner.{Named, fresh, PushDone, MoveAsked, MoveDone};
+ghost use Rattle.arc_swap_attempt.specs.inner.Steps.{Named, fresh, PushDone, MoveAsked, MoveDone};
 use crate::Pushed;
 use crate::Standing;
 use imbalance::Loads;

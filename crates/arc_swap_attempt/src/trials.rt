@@ -2,7 +2,7 @@
 ghost use mathlib.Core.Path.{_≡_};
 ghost use Rattle.topology.specs.Graph.{inRows};
 ghost use Rattle.arc_swap_attempt.specs.Trial.{trial};
-ghost use Rattle.arc_swap_attempt.specs.Inner.{Tryable};
+ghost use Rattle.arc_swap_attempt.specs.inner.Steps.{Tryable};
 use crate::Trial;
 use imbalance::Ceilings;
 use imbalance::Loads;

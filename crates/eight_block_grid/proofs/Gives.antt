@@ -16,7 +16,7 @@ use Rattle.imbalance.specs.Load.{part, load}
 use Rattle.imbalance.proofs.Limits.{label-most}
 use Rattle.topology.specs.Rule.{misfit, oversize, startsOk, arcOk, rowsOk, hasArc, answered, rowsNumber, graphNumber, Rows}
 use Rattle.topology.proofs.Numbers as Numbers
-use Rattle.fiduccia_mattheyses_pass.specs.Standing.{freshGains}
+use Rattle.fiduccia_mattheyses_pass.specs.inner.Standing.{freshGains}
 use Rattle.eight_block_grid.proofs.Cuts as Cuts
 use Rattle.eight_block_grid.specs.TenRows.{gainsInA, eightGains}
 use lib.Ieee.{Float, binary64, ofBits, le}

@@ -26,13 +26,13 @@ use Rattle.topology.specs.Cut.{cut}
 use Rattle.topology.proofs.Numbers.{sound}
 use Rattle.fiduccia_mattheyses_pass.specs.Choice.{Setting}
 use Rattle.fiduccia_mattheyses_pass.specs.Pass.{Pass}
-use Rattle.fiduccia_mattheyses_pass.specs.Standing.{Fixed}
+use Rattle.fiduccia_mattheyses_pass.specs.inner.Standing.{Fixed}
 use Rattle.fiduccia_mattheyses.specs.declared.Move.{Move}
 use Rattle.fiduccia_mattheyses.specs.declared.Report.{Report}
 use Rattle.fiduccia_mattheyses.specs.declared.Ended.{Ended}
 use Rattle.fiduccia_mattheyses.specs.Run.{Run, run}
 use Rattle.fiduccia_mattheyses.specs.Entry.{Plan, Lent, graphOf, unfit, short, roomOf, numberOf, number, settingOf, runOf, none, refused, empty, reportOf, over, leftBy, answer, left, Refined}
-use Rattle.fiduccia_mattheyses.specs.Inner.{settingBy, PassesAsked, PassesDone, Ready, Ran}
+use Rattle.fiduccia_mattheyses.specs.inner.Steps.{settingBy, PassesAsked, PassesDone, Ready, Ran}
 
 -- ---- a call's number k is that of its checks m, unless there is no vertex
 pub checked : (n k m : ℕ) → k ≡ cond (eqb n 0) 0 m → (n ≡ 0 → ⊥) → k ≡ m

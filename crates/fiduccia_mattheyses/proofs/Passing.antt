@@ -18,7 +18,7 @@ use Rattle.imbalance.specs.declared.Loads.{Loads}
 use Rattle.topology.specs.Cut.{cut}
 use Rattle.fiduccia_mattheyses_pass.specs.Choice.{Setting, worth}
 use Rattle.fiduccia_mattheyses_pass.specs.Pass.{State, start, walk, flips, pass}
-use Rattle.fiduccia_mattheyses_pass.specs.Standing.{freshGains}
+use Rattle.fiduccia_mattheyses_pass.specs.inner.Standing.{freshGains}
 use Rattle.fiduccia_mattheyses_pass.specs.declared.Standing.{Standing}
 use Rattle.fiduccia_mattheyses_pass.proofs.Updates.{back}
 use Rattle.fiduccia_mattheyses_pass.proofs.Moved.{count-few}
@@ -27,7 +27,7 @@ use Rattle.fiduccia_mattheyses_pass.proofs.Keeps.{keeps-walk}
 use Rattle.fiduccia_mattheyses_pass.proofs.Stands.{stands-start, cut-small, light}
 use Rattle.fiduccia_mattheyses.specs.declared.Move.{Move}
 use Rattle.fiduccia_mattheyses.specs.declared.Passed.{Passed}
-use Rattle.fiduccia_mattheyses.specs.Inner.{firstStanding, records, recorded, undone, WalkAsked, WalkDone, RewindAsked, PassAsked, PassDone}
+use Rattle.fiduccia_mattheyses.specs.inner.Steps.{firstStanding, records, recorded, undone, WalkAsked, WalkDone, RewindAsked, PassAsked, PassDone}
 use Rattle.fiduccia_mattheyses.proofs.Walking.{length-records, recorded-long}
 use Rattle.fiduccia_mattheyses.proofs.Rewinding.{undone-kept}
 

@@ -8,7 +8,7 @@ use Rattle.topology.specs.Cut.{cut}
 use Rattle.fiduccia_mattheyses_pass.specs.Pass.{Pass}
 use Rattle.fiduccia_mattheyses.specs.declared.Report.{Report}
 use Rattle.fiduccia_mattheyses.specs.Entry.{Plan, Lent, graphOf, settingOf, runOf, empty, reportOf, over, leftBy, Refined}
-use Rattle.fiduccia_mattheyses.specs.Inner.{Ready, Ran}
+use Rattle.fiduccia_mattheyses.specs.inner.Steps.{Ready, Ran}
 use Rattle.fiduccia_mattheyses.specs.Counts.{CountsKept}
 use Rattle.fiduccia_mattheyses.proofs.Running.{mades, rewounds, over-long}
 use Rattle.fiduccia_mattheyses.proofs.Counts.{rows-counted, counted-at, few-passes, passes-within}

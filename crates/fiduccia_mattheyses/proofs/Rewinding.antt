@@ -11,12 +11,12 @@ use Rattle.imbalance.specs.Load.{part, load}
 use Rattle.imbalance.proofs.PartLoads.{load-within}
 use Rattle.fiduccia_mattheyses_pass.specs.Choice.{other, flip}
 use Rattle.fiduccia_mattheyses_pass.specs.Pass.{flips}
-use Rattle.fiduccia_mattheyses_pass.specs.Standing.{Apart, loadsAfter}
+use Rattle.fiduccia_mattheyses_pass.specs.inner.Standing.{Apart, loadsAfter}
 use Rattle.fiduccia_mattheyses_pass.proofs.Backs.{two-flips, flips-append, flips-other, flips-long, flips-more, rewound}
 use Rattle.fiduccia_mattheyses_pass.proofs.Stands.{loads-follow, load-holds}
 use Rattle.fiduccia_mattheyses.specs.declared.Move.{Move}
 use Rattle.fiduccia_mattheyses.specs.Entry.{none}
-use Rattle.fiduccia_mattheyses.specs.Inner.{records, undone, UndoAsked, UndoDone, RewindAsked}
+use Rattle.fiduccia_mattheyses.specs.inner.Steps.{records, undone, UndoAsked, UndoDone, RewindAsked}
 use Rattle.fiduccia_mattheyses.proofs.Walking.{length-records, recorded-long}
 
 -- the record of the move at place i

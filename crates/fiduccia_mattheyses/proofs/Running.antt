@@ -19,7 +19,7 @@ use Rattle.fiduccia_mattheyses.specs.declared.Ended.{Ended}
 use Rattle.fiduccia_mattheyses.specs.Run.{Run, run}
 use Rattle.fiduccia_mattheyses.specs.Entry.{over}
 use Rattle.fiduccia_mattheyses.specs.declared.Course.the-variants.{Ends, GoesOn}
-use Rattle.fiduccia_mattheyses.specs.Inner.{PassAsked, PassDone, RowAsked, RowDone, courseOf, PassesAsked, PassesDone}
+use Rattle.fiduccia_mattheyses.specs.inner.Steps.{PassAsked, PassDone, RowAsked, RowDone, courseOf, PassesAsked, PassesDone}
 
 -- the rows so far, before those of the rest of the run
 abbrev after-rows : List Pass → Run → Run

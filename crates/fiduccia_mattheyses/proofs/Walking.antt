@@ -12,7 +12,7 @@ use Rattle.imbalance.specs.Load.{part}
 use Rattle.topology.specs.Cut.{cut}
 use Rattle.fiduccia_mattheyses_pass.specs.Choice.{Setting, flip}
 use Rattle.fiduccia_mattheyses_pass.specs.Pass.{State, start, moveOn, walk, flips}
-use Rattle.fiduccia_mattheyses_pass.specs.Standing.{Fixed, Stands, Scannable, Moveable, gainsAfter, standingAfter}
+use Rattle.fiduccia_mattheyses_pass.specs.inner.Standing.{Fixed, Stands, Scannable, Moveable, gainsAfter, standingAfter}
 use Rattle.fiduccia_mattheyses_pass.specs.declared.Standing.{Standing}
 use Rattle.fiduccia_mattheyses_pass.specs.declared.Next.{Next}
 use Rattle.fiduccia_mattheyses_pass.specs.declared.Next.the-variants.{Stop, Go}
@@ -22,7 +22,7 @@ use Rattle.fiduccia_mattheyses_pass.proofs.Walks.{walk-stop, walk-step}
 use Rattle.fiduccia_mattheyses_pass.proofs.Stands.{asked, scannable, stops, goes, Goes, moveable, room, stands-move}
 use Rattle.fiduccia_mattheyses.specs.declared.Move.{Move}
 use Rattle.fiduccia_mattheyses.specs.Entry.{none as no-move}
-use Rattle.fiduccia_mattheyses.specs.Inner.{records, recorded, WalkAsked, WalkDone}
+use Rattle.fiduccia_mattheyses.specs.inner.Steps.{records, recorded, WalkAsked, WalkDone}
 
 -- ---- the records
 pub length-records : (p vs : List ℕ) → length (records p vs) ≡ length vs

@@ -11,7 +11,7 @@ ghost use Rattle.imbalance.specs.Load.{load};
 ghost use Rattle.fiduccia_mattheyses_pass.specs.Pass.{start, walk};
 ghost use Rattle.topology.specs.Graph.{inRows};
 ghost use Rattle.fiduccia_mattheyses.specs.Entry.{none, unfit, short, numberOf, bare, Refined};
-ghost use Rattle.fiduccia_mattheyses.specs.Inner.{settingBy, firstStanding, undone, WalkAsked, WalkDone, UndoAsked, UndoDone, RewindAsked, RowAsked, RowDone, courseOf, PassAsked, PassDone, PassesAsked, PassesDone, Ready, Ran};
+ghost use Rattle.fiduccia_mattheyses.specs.inner.Steps.{settingBy, firstStanding, undone, WalkAsked, WalkDone, UndoAsked, UndoDone, RewindAsked, RowAsked, RowDone, courseOf, PassAsked, PassDone, PassesAsked, PassesDone, Ready, Ran};
 use fiduccia_mattheyses_pass::Next;
 use fiduccia_mattheyses_pass::Standing;
 use imbalance::Ceilings;

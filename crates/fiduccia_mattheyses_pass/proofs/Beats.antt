@@ -9,7 +9,7 @@ use lib.IntN.{ℤ}
 use lib.Signed.{ltZ, leZ}
 use Rattle.lists.proofs.Bools.{and-false, and-left, and-right, or-true, or-false}
 use Rattle.lists.proofs.Orders.{clash, le-lt, lt-then-le, lt-le, le-not, not-lt-le, not-le-lt, lt-not-le, lt-not-lt, no-more}
-use Rattle.fiduccia_mattheyses_pass.specs.Scan.{isFree, lock, beats}
+use Rattle.fiduccia_mattheyses_pass.specs.inner.Scan.{isFree, lock, beats}
 
 -- by the gain, or by the load where the gain is not lower
 pub by-gain : (g : ℤ) (l : ℕ) (h : ℤ) (m : ℕ) → ltZ h g ≡ true → beats g l h m ≡ true

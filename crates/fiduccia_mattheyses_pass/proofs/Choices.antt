@@ -10,8 +10,8 @@ use lib.IntN.{ℤ, pos}
 use Rattle.lists.specs.Best.{best}
 use Rattle.imbalance.specs.Load.{part, load}
 use Rattle.fiduccia_mattheyses_pass.specs.Choice.{Setting, other, member, worth, after, fits, allowed, better, choice}
-use Rattle.fiduccia_mattheyses_pass.specs.Scan.{lock, isFree, picked, may, over, pickBelow, loadAfter, ceilingAt}
-use Rattle.fiduccia_mattheyses_pass.specs.Standing.{Gains}
+use Rattle.fiduccia_mattheyses_pass.specs.inner.Scan.{lock, isFree, picked, may, over, pickBelow, loadAfter, ceilingAt}
+use Rattle.fiduccia_mattheyses_pass.specs.inner.Standing.{Gains}
 use Rattle.lists.proofs.Bests.{best-ext}
 use Rattle.fiduccia_mattheyses_pass.proofs.Chosen.{allowed-is, chosen}
 use Rattle.fiduccia_mattheyses_pass.proofs.Follows.{free-small}

@@ -13,8 +13,8 @@ use lib.IntN.{ℤ, pos, negsuc, negℤ, _+ℤ_, _-ℤ_, +ℤ-assoc, +ℤ-idr, ne
 use lib.Signed.{mag}
 use borrow.Author.Tests.{eqb-true, eqb-false, lt-ltb}
 use Rattle.lists.specs.Sum.{sum, weigh}
-use Rattle.fiduccia_mattheyses_pass.specs.Scan.{isFree}
-use Rattle.fiduccia_mattheyses_pass.specs.Update.{shift, updated}
+use Rattle.fiduccia_mattheyses_pass.specs.inner.Scan.{isFree}
+use Rattle.fiduccia_mattheyses_pass.specs.inner.Update.{shift, updated}
 use Rattle.lists.proofs.Differences.{mag-up, mag-down}
 
 -- a small gain is no lock

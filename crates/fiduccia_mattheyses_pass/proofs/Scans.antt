@@ -17,9 +17,9 @@ use Rattle.lists.proofs.Orders.{clash, lt-self, not-lt-le}
 use Rattle.imbalance.specs.Load.{part}
 use Rattle.imbalance.specs.Limit.{mostWeight}
 use Rattle.fiduccia_mattheyses_pass.specs.Choice.{other}
-use Rattle.fiduccia_mattheyses_pass.specs.Scan.{isFree, beats, picked, loadAfter, ceilingAt, pickBelow, nextOf}
-use Rattle.fiduccia_mattheyses_pass.specs.Turn.{far, lesser, roomOf, roomsOf, liftsOf, nobody, Sighted, gainOf, loadOf, fitsOf, mayOf, Holds, Swept}
-use Rattle.fiduccia_mattheyses_pass.specs.Standing.{Scannable}
+use Rattle.fiduccia_mattheyses_pass.specs.inner.Scan.{isFree, beats, picked, loadAfter, ceilingAt, pickBelow, nextOf}
+use Rattle.fiduccia_mattheyses_pass.specs.inner.Turn.{far, lesser, roomOf, roomsOf, liftsOf, nobody, Sighted, gainOf, loadOf, fitsOf, mayOf, Holds, Swept}
+use Rattle.fiduccia_mattheyses_pass.specs.inner.Standing.{Scannable}
 use Rattle.fiduccia_mattheyses_pass.specs.declared.Held.{Held}
 use Rattle.fiduccia_mattheyses_pass.specs.declared.Next.the-variants.{Stop, Go}
 use Rattle.fiduccia_mattheyses_pass.specs.declared.Pick.{Pick}

@@ -24,8 +24,8 @@ use Rattle.topology.specs.Cut.{cut, rowCut}
 use Rattle.topology.proofs.Moves.{cut-move, load-move}
 use Rattle.fiduccia_mattheyses_pass.specs.Choice.{Setting, other, flip, member, worth, after, fits, choice, isBad}
 use Rattle.fiduccia_mattheyses_pass.specs.Pass.{State, start, moveOn, next}
-use Rattle.fiduccia_mattheyses_pass.specs.Scan.{lock, picked, pickBelow, loadAfter, ceilingAt, nextOf}
-use Rattle.fiduccia_mattheyses_pass.specs.Standing.{loadsAfter, gainsAfter, standingAfter, Scannable, Moveable, Fixed, Stands}
+use Rattle.fiduccia_mattheyses_pass.specs.inner.Scan.{lock, picked, pickBelow, loadAfter, ceilingAt, nextOf}
+use Rattle.fiduccia_mattheyses_pass.specs.inner.Standing.{loadsAfter, gainsAfter, standingAfter, Scannable, Moveable, Fixed, Stands}
 use Rattle.fiduccia_mattheyses_pass.specs.declared.Pick.the-variants.{Nobody, Vertex}
 use Rattle.fiduccia_mattheyses_pass.specs.declared.Next.{Next}
 use Rattle.fiduccia_mattheyses_pass.specs.declared.Next.the-variants.{Stop, Go}

@@ -12,8 +12,8 @@ use borrow.Author.Tests.{lt-ltb, le-ltb, eqb-true, eqb-false}
 use Rattle.lists.proofs.Bools.{and-false, and-left, and-right}
 use Rattle.lists.proofs.Orders.{clash, le-not}
 use Rattle.imbalance.specs.Load.{part}
-use Rattle.fiduccia_mattheyses_pass.specs.Scan.{isFree, beats}
-use Rattle.fiduccia_mattheyses_pass.specs.Turn.{gainOf, loadOf, fitsOf, mayOf, turned, turns, Holds, Swept}
+use Rattle.fiduccia_mattheyses_pass.specs.inner.Scan.{isFree, beats}
+use Rattle.fiduccia_mattheyses_pass.specs.inner.Turn.{gainOf, loadOf, fitsOf, mayOf, turned, turns, Holds, Swept}
 use Rattle.fiduccia_mattheyses_pass.specs.declared.Held.{Held}
 use Rattle.fiduccia_mattheyses_pass.proofs.Beats.{free-beats, lower-not, level-not, beats-on, beats-not, beats-self}
 

@@ -15,8 +15,8 @@ use mir.Facts.{toZ-ofZ}
 use mir.Val.{toZ, ofZ, SFits}
 use mir.Syntax.{w64}
 use Rattle.topology.specs.Graph.{change}
-use Rattle.fiduccia_mattheyses_pass.specs.Scan.{isFree, slotOf}
-use Rattle.fiduccia_mattheyses_pass.specs.Update.{shift, updateAt, updated}
+use Rattle.fiduccia_mattheyses_pass.specs.inner.Scan.{isFree, slotOf}
+use Rattle.fiduccia_mattheyses_pass.specs.inner.Update.{shift, updateAt, updated}
 use Rattle.fiduccia_mattheyses_pass.specs.declared.Slot.{Slot}
 use Rattle.fiduccia_mattheyses_pass.specs.declared.Slot.the-variants.{Locked, Free}
 use Rattle.lists.proofs.Differences.{mag-up, mag-down}

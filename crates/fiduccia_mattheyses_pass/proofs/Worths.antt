@@ -19,10 +19,10 @@ use Rattle.fiduccia_mattheyses_pass.specs.Choice.{Setting, other, flip, 
 use Rattle.topology.specs.Graph.{joins}
 use Rattle.topology.specs.Rule.{Symmetric}
 use Rattle.topology.proofs.Moves.{into-move}
-use Rattle.fiduccia_mattheyses_pass.specs.Scan.{lock, isFree}
-use Rattle.fiduccia_mattheyses_pass.specs.Standing.{Gains}
+use Rattle.fiduccia_mattheyses_pass.specs.inner.Scan.{lock, isFree}
+use Rattle.fiduccia_mattheyses_pass.specs.inner.Standing.{Gains}
 use Rattle.fiduccia_mattheyses_pass.proofs.Moved.{member-more}
-use Rattle.fiduccia_mattheyses_pass.specs.Update.{shift, updated}
+use Rattle.fiduccia_mattheyses_pass.specs.inner.Update.{shift, updated}
 use Rattle.lists.proofs.Differences.{mag-sub, same, plus, take-away}
 use Rattle.fiduccia_mattheyses_pass.proofs.Follows.{free-small, updated-at, total, length-updated, moved-on}
 

@@ -1,7 +1,7 @@
 -- The moves of an FM pass: what is chosen, what a pass does, and what the pass's functions say (document 01, "FM").
+
+-- ---- What document 01 says
 pub mod Choice
 pub mod Pass
-pub mod Scan
-pub mod Turn
-pub mod Update
-pub mod Standing
+-- ---- What the inner functions promise each other
+pub mod inner

@@ -8,8 +8,8 @@ ghost use lib.Signed.{mag};
 ghost use Rattle.imbalance.specs.Load.{part};
 ghost use Rattle.topology.specs.Graph.{inRows};
 ghost use Rattle.topology.specs.Rule.{Rows};
-ghost use Rattle.fiduccia_mattheyses_pass.specs.Update.{shift, updated};
-ghost use Rattle.fiduccia_mattheyses_pass.specs.Standing.{freshGains};
+ghost use Rattle.fiduccia_mattheyses_pass.specs.inner.Update.{shift, updated};
+ghost use Rattle.fiduccia_mattheyses_pass.specs.inner.Standing.{freshGains};
 use crate::Slot;
 
 // Each vertex's gain to the other part.

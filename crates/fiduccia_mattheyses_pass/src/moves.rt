@@ -9,7 +9,7 @@ ghost use Rattle.imbalance.specs.Limit.{mostWeight};
 ghost use Rattle.topology.specs.Graph.{inRows};
 ghost use Rattle.topology.specs.Rule.{Rows};
 ghost use Rattle.fiduccia_mattheyses_pass.specs.Choice.{other, flip};
-ghost use Rattle.fiduccia_mattheyses_pass.specs.Standing.{loadsAfter, gainsAfter, standingWith, standingAfter, Moveable};
+ghost use Rattle.fiduccia_mattheyses_pass.specs.inner.Standing.{loadsAfter, gainsAfter, standingWith, standingAfter, Moveable};
 use crate::Standing;
 use imbalance::Loads;
 

@@ -9,7 +9,7 @@ use lib.IntN.{ℤ, pos, natAbs}
 use lib.Signed.{mag, natAbs-le}
 use Rattle.kernighan_lin_pass.specs.Gain.{added, told}
 use Rattle.kernighan_lin_pass.specs.Pass.{Setting, Swap, State, start, pair, after, walk}
-use Rattle.kernighan_lin_pass.specs.Inner.{Fit, Within}
+use Rattle.kernighan_lin_pass.specs.inner.Steps.{Fit, Within}
 use Rattle.kernighan_lin_pass.proofs.Within.{table-within, added-within, told-within}
 use Rattle.kernighan_lin_pass.proofs.Swaps.{length-swapped}
 use Rattle.kernighan_lin_pass.proofs.Walks.{walk-none, walk-stop, walk-step, pair-below}

@@ -21,9 +21,9 @@ use Rattle.imbalance.specs.Limit.{labelAbove}
 use Rattle.imbalance.specs.Load.{part}
 use Rattle.topology.specs.Rule.{graphNumber}
 use Rattle.topology.proofs.Numbers.{sound}
-use Rattle.kernighan_lin_pass.specs.Inner.{Fit}
+use Rattle.kernighan_lin_pass.specs.inner.Steps.{Fit}
 use Rattle.kernighan_lin.specs.Entry.{Plan, Lent, graphOf, uses, different, mislabelled, short, numberOf, number, settingOf, ran, reported, refused, cleared, answer, left, Refined}
-use Rattle.kernighan_lin.specs.Ready.{Ran}
+use Rattle.kernighan_lin.specs.inner.Ready.{Ran}
 use Rattle.kernighan_lin.specs.declared.Report.{Report}
 
 -- without a vertex there is no label

@@ -8,9 +8,9 @@ use lib.IntN.{ℤ}
 use borrow.Author.Tests.{lt-ltb, le-ltb}
 use Rattle.topology.specs.Cut.{cut}
 use Rattle.kernighan_lin_pass.specs.Pass.{Setting, start, walk, pass}
-use Rattle.kernighan_lin_pass.specs.Inner.{Roomy}
+use Rattle.kernighan_lin_pass.specs.inner.Steps.{Roomy}
 use Rattle.kernighan_lin.specs.Run.{Run, run}
-use Rattle.kernighan_lin.specs.Ready.{Ready, Ran}
+use Rattle.kernighan_lin.specs.inner.Ready.{Ready, Ran}
 
 module _ (s : Setting) (w : ℕ) where
   -- a pass that lowers the cut goes on to the next

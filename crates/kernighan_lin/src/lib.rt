@@ -5,9 +5,9 @@ ghost use mathlib.Core.Path.{_≡_};
 ghost use Prim.Native.Nat.{_/_, min};
 ghost use lib.ListN.{getD};
 ghost use Rattle.topology.specs.Graph.{inRows};
-ghost use Rattle.kernighan_lin_pass.specs.Inner.{setting};
+ghost use Rattle.kernighan_lin_pass.specs.inner.Steps.{setting};
 ghost use Rattle.kernighan_lin.specs.Entry.{Refined};
-ghost use Rattle.kernighan_lin.specs.Ready.{Ready, Ran};
+ghost use Rattle.kernighan_lin.specs.inner.Ready.{Ready, Ran};
 
 // The limits of a run: passes, swaps in a pass, and bad swaps.
 #[repr(C)]

@@ -10,7 +10,7 @@ use lib.Dec.{eqb}
 use borrow.Author.Tests.{eqb-true, eqb-false}
 use Rattle.imbalance.specs.Load.{part}
 use Rattle.kernighan_lin_pass.specs.Pass.{Swap, swapped}
-use Rattle.kernighan_lin_pass.specs.Inner.{codeOf, swapOf, back}
+use Rattle.kernighan_lin_pass.specs.inner.Steps.{codeOf, swapOf, back}
 use Rattle.kernighan_lin_pass.proofs.Swaps.{length-swapped}
 
 -- who has which label after a swap

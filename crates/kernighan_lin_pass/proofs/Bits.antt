@@ -14,7 +14,7 @@ use mir.Syntax.{w64}
 use mir.Val.{Fits, SFits, toZ, ofZ}
 use mir.ValLaws.{toZ-ofZ}
 use Rattle.lists.proofs.Differences.{by-sign, same, pos-is, minus, read}
-use Rattle.kernighan_lin_pass.specs.Inner.{Within}
+use Rattle.kernighan_lin_pass.specs.inner.Steps.{Within}
 
 pub mag-add : (x y : ℤ) → mag (x +ℤ y) ≤ mag x + mag y + 1
 mag-add (pos a) (pos b) = omega arith

@@ -19,7 +19,7 @@ use Rattle.lists.proofs.Bools.{and-left, and-right}
 use Rattle.lists.proofs.Orders.{clash}
 use Rattle.imbalance.specs.Load.{part}
 use Rattle.kernighan_lin_pass.specs.Gain.{onSide, largest}
-use Rattle.kernighan_lin_pass.specs.Inner.{Within, mostGain, placeOf}
+use Rattle.kernighan_lin_pass.specs.inner.Steps.{Within, mostGain, placeOf}
 
 pub and-true : (t : Bool) → t && true ≡ t
 and-true true = refl

@@ -13,7 +13,7 @@ use Rattle.lists.proofs.Bests.{best-in}
 use Rattle.imbalance.specs.Load.{part}
 use Rattle.kernighan_lin_pass.specs.Gain.{added, told, onSide, largest}
 use Rattle.kernighan_lin_pass.specs.Pass.{Setting, Swap, pair}
-use Rattle.kernighan_lin_pass.specs.Inner.{placeOf, pairAt, Chose}
+use Rattle.kernighan_lin_pass.specs.inner.Steps.{placeOf, pairAt, Chose}
 use Rattle.kernighan_lin_pass.specs.declared.choose.Pair.{Pair}
 
 -- the vertex taken is one of the n, may move, is unlocked, and is on its side

@@ -17,7 +17,7 @@ use Rattle.imbalance.specs.Load.{part}
 use Rattle.topology.specs.Graph.{Graph, first, past, neighbour, weight, arcs, into, joins}
 use Rattle.topology.specs.Cut.{cut, rowCut}
 use Rattle.kernighan_lin_pass.specs.Gain.{fresh}
-use Rattle.kernighan_lin_pass.specs.Inner.{Fit}
+use Rattle.kernighan_lin_pass.specs.inner.Steps.{Fit}
 
 module _ (n : ℕ) (g : Graph) (fit : Fit n g) where
   -- some of the arcs from a up to b

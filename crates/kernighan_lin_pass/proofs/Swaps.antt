@@ -15,7 +15,7 @@ use Rattle.topology.specs.Graph.{Graph, gain}
 use Rattle.topology.specs.Cut.{cut}
 use Rattle.topology.proofs.Moves.{gain-is-the-fall-of-the-cut}
 use Rattle.kernighan_lin_pass.specs.Pass.{Swap, swapped}
-use Rattle.kernighan_lin_pass.specs.Inner.{Fit, mostGain}
+use Rattle.kernighan_lin_pass.specs.inner.Steps.{Fit, mostGain}
 use Rattle.kernighan_lin_pass.proofs.Sizes.{cut-small}
 
 pos-same : (a b : ℕ) → pos a ≡ pos b → a ≡ b

@@ -19,7 +19,7 @@ use Rattle.imbalance.specs.Load.{part}
 use Rattle.imbalance.specs.Limit.{mostWeight}
 use Rattle.topology.specs.Graph.{Graph, first, past, neighbour, weight, arcs, joins}
 use Rattle.kernighan_lin_pass.specs.Gain.{told}
-use Rattle.kernighan_lin_pass.specs.Inner.{Fit, Within}
+use Rattle.kernighan_lin_pass.specs.inner.Steps.{Fit, Within}
 use Rattle.kernighan_lin_pass.proofs.Sizes.{part-small}
 
 -- z told a weight of j, added or taken away

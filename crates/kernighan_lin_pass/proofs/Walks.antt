@@ -15,7 +15,7 @@ use Rattle.topology.specs.Graph.{Graph}
 use Rattle.topology.specs.Cut.{cut}
 use Rattle.kernighan_lin_pass.specs.Gain.{added, told}
 use Rattle.kernighan_lin_pass.specs.Pass.{Setting, Swap, State, swapped, start, pair, after, next, walk}
-use Rattle.kernighan_lin_pass.specs.Inner.{Fit, Within, mostGain, pairAt, codeOf, swapOf, Coded, back, Started, Ended}
+use Rattle.kernighan_lin_pass.specs.inner.Steps.{Fit, Within, mostGain, pairAt, codeOf, swapOf, Coded, back, Started, Ended}
 use Rattle.kernighan_lin_pass.specs.declared.choose.Pair.{Pair}
 use Rattle.kernighan_lin_pass.proofs.Within.{table-within, added-within, told-within}
 use Rattle.kernighan_lin_pass.proofs.Pairs.{largest-in, pair-in}

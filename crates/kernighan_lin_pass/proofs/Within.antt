@@ -14,7 +14,7 @@ use Rattle.lists.proofs.Tables.{table-at, length-table}
 use Rattle.imbalance.specs.Load.{part}
 use Rattle.topology.specs.Graph.{Graph, joins}
 use Rattle.kernighan_lin_pass.specs.Gain.{fresh, added, told}
-use Rattle.kernighan_lin_pass.specs.Inner.{Fit, Within}
+use Rattle.kernighan_lin_pass.specs.inner.Steps.{Fit, Within}
 use Rattle.kernighan_lin_pass.proofs.Sizes.{fresh-small, joins-small}
 use Rattle.kernighan_lin_pass.proofs.Bits.{mag-add}
 use Rattle.kernighan_lin_pass.proofs.Tells.{shift, shift-small}

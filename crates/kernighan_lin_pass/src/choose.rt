@@ -9,7 +9,7 @@ ghost use lib.IntN.{pos, _+ℤ_};
 ghost use lib.Signed.{mag, leZ};
 ghost use Rattle.topology.specs.Graph.{inRows};
 ghost use Rattle.kernighan_lin_pass.specs.Gain.{onSide, largest};
-ghost use Rattle.kernighan_lin_pass.specs.Inner.{Fit, Within, mostGain, placeOf, setting, Chose};
+ghost use Rattle.kernighan_lin_pass.specs.inner.Steps.{Fit, Within, mostGain, placeOf, setting, Chose};
 
 // Below every gain.
 const LOWEST: i64 = -4611686018427387904;

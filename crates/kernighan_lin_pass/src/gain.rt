@@ -7,7 +7,7 @@ ghost use lib.Dec.{eqb};
 ghost use lib.IntN.{pos, negℤ};
 ghost use Rattle.topology.specs.Graph.{inRows};
 ghost use Rattle.kernighan_lin_pass.specs.Gain.{fresh, added, told};
-ghost use Rattle.kernighan_lin_pass.specs.Inner.{Fit, Within, mostGain};
+ghost use Rattle.kernighan_lin_pass.specs.inner.Steps.{Fit, Within, mostGain};
 
 // What u gains by going to the other part.
 fn fresh_gain(

@@ -9,7 +9,7 @@ ghost use lib.Dec.{ltb, eqb};
 ghost use Rattle.topology.specs.Graph.{inRows};
 ghost use Rattle.topology.specs.Cut.{cut};
 ghost use Rattle.kernighan_lin_pass.specs.Pass.{start, walk};
-ghost use Rattle.kernighan_lin_pass.specs.Inner.{Fit, Coded, Started, Ended, Roomy, setting, back};
+ghost use Rattle.kernighan_lin_pass.specs.inner.Steps.{Fit, Coded, Started, Ended, Roomy, setting, back};
 
 // The swaps made, how many of them are kept, and the cut after those.
 pub struct Walked {

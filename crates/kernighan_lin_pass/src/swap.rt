@@ -8,7 +8,7 @@ ghost use lib.Signed.{mag, leZ};
 ghost use Rattle.topology.specs.Graph.{inRows};
 ghost use Rattle.topology.specs.Cut.{cut};
 ghost use Rattle.kernighan_lin_pass.specs.Pass.{swapped};
-ghost use Rattle.kernighan_lin_pass.specs.Inner.{Fit, mostGain, codeOf, swapOf};
+ghost use Rattle.kernighan_lin_pass.specs.inner.Steps.{Fit, mostGain, codeOf, swapOf};
 
 // The cut after it fell by a gain, or rose where the gain is negative.
 fn fallen(before: u64, gain: i64) -> u64

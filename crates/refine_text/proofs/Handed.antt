@@ -19,7 +19,7 @@ use Rattle.plan_blocks.proofs.Accepts.{accepts, in-range}
 use Rattle.plan.specs.declared.ReadAnswer.{ReadAnswer}
 use Rattle.plan.specs.Read.{Targets, numberFor, readNumber, startsOf, headerOf, refusalOf, handed, readAnswer, readLeft, Read}
 use Rattle.plan.proofs.ReadLaws.{room}
-use Rattle.refine_words.specs.Inner.{Put}
+use Rattle.refine_words.specs.inner.Steps.{Put}
 use Rattle.refine_words.specs.Line.{refusal}
 use Rattle.refine_words.proofs.Texts.{pasted-first}
 use Rattle.refine_text.specs.Refine.{inputNumber, runText, planText, textOf, Printed}

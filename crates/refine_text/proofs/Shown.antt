@@ -21,7 +21,7 @@ use Rattle.arc_swap.specs.declared.RunRecord.{RunRecord}
 use Rattle.arc_swap.specs.declared.Report.{Report as ManyReport}
 use Rattle.arc_swap.specs.Entry.{Plan as ManyPlan, Lent as ManyLent, number as manyNumber, reportOf as manyReportOf, refused as manyRefused, empty as manyEmpty, answer as manyAnswer, partsOf, Swapped}
 use Rattle.plan.specs.declared.ReadAnswer.{ReadAnswer}
-use Rattle.refine_words.specs.Inner.{Put}
+use Rattle.refine_words.specs.inner.Steps.{Put}
 use Rattle.refine_words.specs.Line.{refusal, opening, passLines, countsLine, labelsLine}
 use Rattle.refine_words.proofs.Texts.{put-as, put-then}
 use Rattle.refine_text.specs.Refine.{twoLists, twoLines, twoShown, twoText, manyLent, manyLines, manyShown, manyText, twoPlan, manyPlan, runText}

@@ -10,7 +10,7 @@ ghost use Prim.Native.Nat.{_≤_};
 ghost use lib.ListN.{length};
 ghost use Rattle.imbalance.specs.Limit.{labelAbove};
 ghost use Rattle.plan.specs.Read.{numberFor};
-ghost use Rattle.refine_words.specs.Inner.{Put};
+ghost use Rattle.refine_words.specs.inner.Steps.{Put};
 ghost use Rattle.refine_text.specs.Refine.{inputNumber, runText, Printed};
 
 // The number of an input that the reader refuses by `number`: a header beyond the program's limits is 12, ahead of 13 and 14 and in place of 15.

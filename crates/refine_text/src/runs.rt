@@ -5,7 +5,7 @@ ghost use mathlib.Core.Bool.{false};
 ghost use Prim.Native.Nat.{_≤_};
 ghost use lib.ListN.{length};
 ghost use Rattle.imbalance.specs.Limit.{labelAbove};
-ghost use Rattle.refine_words.specs.Inner.{Put};
+ghost use Rattle.refine_words.specs.inner.Steps.{Put};
 ghost use Rattle.refine_text.specs.Refine.{twoLines, twoText, manyLines, manyText};
 
 // The lines of a run of FM.

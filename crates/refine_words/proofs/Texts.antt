@@ -12,7 +12,7 @@ use lib.Dec.{ltb}
 use borrow.Author.Tests.{ltb-false, lt-ltb, le-ltb}
 use Rattle.refine_words.specs.Line.{endLine, cutLine, loadsLine, passesLine, opening, passLine, passLines}
 use Rattle.refine_words.specs.Text.{ascii, blank, newline, nought, decimalIn, decimal, numbers, line}
-use Rattle.refine_words.specs.Inner.{pasted, Put}
+use Rattle.refine_words.specs.inner.Steps.{pasted, Put}
 
 -- what stands before the end of the text
 module _ (at : ℕ) (t xs : List ℕ) (h : at + length t ≤ length xs) where

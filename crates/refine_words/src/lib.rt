@@ -6,7 +6,7 @@ ghost use mathlib.Core.List.{[], _∷_};
 ghost use Prim.Native.Nat.{_+_, _*_, _≤_, _<_};
 ghost use lib.ListN.{length};
 ghost use Rattle.refine_words.specs.Text.{blank, nought, decimal, numbers, line};
-ghost use Rattle.refine_words.specs.Inner.{Put};
+ghost use Rattle.refine_words.specs.inner.Steps.{Put};
 
 // One byte.
 fn put_byte(out: &mut [u8], at: usize, byte: u8) -> usize

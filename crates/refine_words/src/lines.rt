@@ -3,7 +3,7 @@ use crate::put_label_line;
 use crate::put_line;
 ghost use Prim.Native.Nat.{_+_, _*_, _≤_};
 ghost use lib.ListN.{length};
-ghost use Rattle.refine_words.specs.Inner.{Put};
+ghost use Rattle.refine_words.specs.inner.Steps.{Put};
 ghost use Rattle.refine_words.specs.Line.{refusal, endLine, cutLine, loadsLine, passesLine, opening, passLine, passLines, countsLine, labelsLine};
 
 // A refusal: its number.

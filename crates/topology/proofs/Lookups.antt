@@ -10,7 +10,7 @@ use borrow.Author.Tests.{eq-eqb, ne-eqb, ltb-true, ltb-false}
 use Rattle.lists.proofs.Alls.{some-from-only, some-from-none}
 use Rattle.topology.specs.Graph.{Graph, first, past, neighbour, weight}
 use Rattle.topology.specs.Rule.{rowsOk, hasArc, Rows}
-use Rattle.topology.specs.Lookup.{Rises, Halved}
+use Rattle.topology.specs.inner.Lookup.{Rises, Halved}
 use Rattle.topology.proofs.Rises.{row-rises}
 
 -- a and b close in on the place: below u before a, u or above from b on

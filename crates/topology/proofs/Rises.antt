@@ -12,7 +12,7 @@ use Rattle.lists.proofs.Alls.{all-at, from-at}
 use Rattle.imbalance.specs.Limit.{mostVertices, mostArcs}
 use Rattle.topology.specs.Graph.{Graph, first, past, neighbour}
 use Rattle.topology.specs.Rule.{startsOk, arcOk, rowOk, rowsOk, Rows}
-use Rattle.topology.specs.Lookup.{Rises}
+use Rattle.topology.specs.inner.Lookup.{Rises}
 
 -- an arc of a row, and the vertex v that it goes to, are within the lists and the limits
 module _ (n : ℕ) (g : Graph) (ok : Rows n g) (u : ℕ) (below : u < n) (e : ℕ) (in-row : e < past g u) where

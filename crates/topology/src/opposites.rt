@@ -6,7 +6,7 @@ ghost use lib.ListN.{length, getD};
 ghost use Rattle.lists.specs.All.{allFrom};
 ghost use Rattle.topology.specs.Graph.{inRows, weight};
 ghost use Rattle.topology.specs.Rule.{rowsOk, hasArc, answered, Rows};
-ghost use Rattle.topology.specs.Lookup.{Rises, Halved};
+ghost use Rattle.topology.specs.inner.Lookup.{Rises, Halved};
 
 // The first arc from lo up to hi that goes to u or above, hi where there is none. It halves the row, which rises strictly.
 fn lowest_from(neighbours: &[u32], lo: usize, hi: usize, u: usize) -> usize

@@ -4,7 +4,7 @@ use mathlib.Core.Path.{refl, _∙_}
 use Prim.Native.Nat.{_+_, _*_}
 use lib.ListN.{length}
 use borrow.Author.Tests.{not-true, not-false}
-use Rattle.arc_swap.specs.Inner.{settingBy}
+use Rattle.arc_swap.specs.inner.Steps.{settingBy}
 use Rattle.arc_swap.proofs.Drains.{Draining, draining, modest, emptied, attempt-asked, again, full, lessens}
 use borrow.Author.Needs.{needs}
 use Rattle.arc_swap.proofs.drain_stack.Statement.{statement}

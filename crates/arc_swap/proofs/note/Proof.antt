@@ -39,8 +39,8 @@ use denote.Exit.{yes}
 use Rattle.arc_swap_attempt.specs.declared.Trial.{Trial}
 use Rattle.arc_swap_attempt.proofs.Trial as Tr
 use Rattle.arc_swap_attempt.proofs.Trial.Laws as Tr′
-use Rattle.arc_swap.specs.Run.{noted}
-use Rattle.arc_swap.specs.Inner.{Summed, most}
+use Rattle.arc_swap.specs.Run.{noted, Summed}
+use Rattle.arc_swap.specs.inner.Steps.{most}
 use Rattle.arc_swap.specs.declared.RunRecord.{RunRecord}
 use Rattle.arc_swap.proofs.RunRecord as T
 use Rattle.arc_swap.proofs.RunRecord.Laws as T′

@@ -4,7 +4,7 @@ use mathlib.Core.Path.{_∙_}
 use native.Mathlib.Omega.{arith}
 use lib.ListN.{length}
 use borrow.Author.Needs.{needs}
-use Rattle.arc_swap.specs.Inner.{settingBy}
+use Rattle.arc_swap.specs.inner.Steps.{settingBy}
 use Rattle.arc_swap.proofs.Running.{Running, running, room, pass-asked, goes-on, again, ends}
 use Rattle.arc_swap.proofs.run_passes.Statement.{statement}
 use Rattle.arc_swap.proofs.run_passes.Proof.Tie as tie

@@ -5,7 +5,7 @@ use Prim.Native.Nat.{_-_}
 use native.Mathlib.Omega.{arith}
 use lib.ListN.{length}
 use borrow.Author.Tests.{not-true, not-false}
-use Rattle.arc_swap.specs.Inner.{settingBy}
+use Rattle.arc_swap.specs.inner.Steps.{settingBy}
 use Rattle.arc_swap.proofs.Taken.{drain-asked, turned}
 use Rattle.arc_swap.proofs.Sweeping.{Sweeping, sweeping, turn-asked, next-turn, stopped, swept}
 use borrow.Author.Needs.{needs}

@@ -1,6 +1,6 @@
 -- `fiduccia_mattheyses::course_of` meets its contract: each way out rewrites with the tests that led there. Assumes nothing.
 use mathlib.Core.Path.{refl}
-use Rattle.fiduccia_mattheyses.specs.Inner.{courseOf}
+use Rattle.fiduccia_mattheyses.specs.inner.Steps.{courseOf}
 use Rattle.fiduccia_mattheyses.proofs.course_of.Statement.{statement}
 use Rattle.fiduccia_mattheyses.proofs.course_of.Tie as tie
 

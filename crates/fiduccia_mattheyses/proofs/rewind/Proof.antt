@@ -7,7 +7,7 @@ use lib.ListN.{length}
 use borrow.Author.Needs.{needs}
 use Rattle.lists.specs.Fill.{table}
 use Rattle.imbalance.specs.Load.{load}
-use Rattle.fiduccia_mattheyses.specs.Inner.{undone}
+use Rattle.fiduccia_mattheyses.specs.inner.Steps.{undone}
 use Rattle.fiduccia_mattheyses.proofs.Rewinding.{undone-none, at-inside, turn-asked, turn-done, undone-long}
 use Rattle.fiduccia_mattheyses.proofs.rewind.Statement.{statement}
 use Rattle.fiduccia_mattheyses.proofs.rewind.Proof.Tie as tie

@@ -5,7 +5,7 @@ use Prim.Native.Nat.{_-_}
 use native.Mathlib.Omega.{arith}
 use borrow.Author.Needs.{needs}
 use Rattle.fiduccia_mattheyses_pass.proofs.Updates.{back}
-use Rattle.fiduccia_mattheyses.specs.Inner.{settingBy}
+use Rattle.fiduccia_mattheyses.specs.inner.Steps.{settingBy}
 use Rattle.fiduccia_mattheyses.proofs.Walking.{Walking, answer, walking-start, scanned, walking-stop, walking-full, move-room, move-asked, walking-move, moves-long}
 use Rattle.fiduccia_mattheyses.proofs.walk_moves.Statement.{statement}
 use Rattle.fiduccia_mattheyses.proofs.walk_moves.Proof.Tie as tie

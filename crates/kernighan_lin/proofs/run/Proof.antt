@@ -5,7 +5,7 @@ use lib.ListN.{getD}
 use borrow.Author.Needs.{needs}
 use Rattle.topology.specs.Graph.{inRows}
 use Rattle.kernighan_lin_pass.specs.Pass.{Setting}
-use Rattle.kernighan_lin_pass.specs.Inner.{setting}
+use Rattle.kernighan_lin_pass.specs.inner.Steps.{setting}
 use Rattle.kernighan_lin.proofs.Runs.{Passing, passing-start, roomy, pass-on, pass-ends, limit-ends}
 use Rattle.kernighan_lin.proofs.run.Statement.{statement}
 use Rattle.kernighan_lin.proofs.run.Tie as tie

@@ -4,7 +4,7 @@ use Prim.Native.Nat.{ℕ, _≤_, _-_}
 use native.Mathlib.Omega.{arith}
 use lib.ListN.{getD}
 use Rattle.arc_swap_attempt.specs.declared.Target.{Target}
-use Rattle.arc_swap_attempt.specs.Inner.{picked, bestBy}
+use Rattle.arc_swap_attempt.specs.inner.Steps.{picked, bestBy}
 use Rattle.arc_swap_attempt.proofs.Aims.{none-passed, pass-own, pass-take, pass-by}
 use borrow.Author.Needs.{needs}
 use Rattle.arc_swap_attempt.proofs.gains.best_part.Statement.{statement}

@@ -5,8 +5,8 @@ use native.Mathlib.Omega.{arith}
 use lib.ListN.{length, getD, length-set}
 use lib.IntN.{pos}
 use lib.Signed.{mag}
-use Rattle.fiduccia_mattheyses_pass.specs.Scan.{slotOf}
-use Rattle.fiduccia_mattheyses_pass.specs.Update.{updated}
+use Rattle.fiduccia_mattheyses_pass.specs.inner.Scan.{slotOf}
+use Rattle.fiduccia_mattheyses_pass.specs.inner.Update.{updated}
 use Rattle.fiduccia_mattheyses_pass.proofs.Updates.{back, free-of}
 use Rattle.fiduccia_mattheyses_pass.proofs.Updates.{updated-none, mag-set, turn-passed, turn-updated}
 use borrow.Author.Needs.{needs}

@@ -4,7 +4,7 @@ use mathlib.Core.List.{List}
 use Prim.Native.Nat.{ℕ}
 use native.Mathlib.Omega.{arith}
 use mir.Facts.{toZ-ofZ}
-use Rattle.fiduccia_mattheyses_pass.specs.Standing.{standingWith}
+use Rattle.fiduccia_mattheyses_pass.specs.inner.Standing.{standingWith}
 use borrow.Author.Needs.{needs}
 use Rattle.fiduccia_mattheyses_pass.proofs.moves.make_move.Statement.{statement}
 use Rattle.fiduccia_mattheyses_pass.proofs.moves.make_move.Tie as tie

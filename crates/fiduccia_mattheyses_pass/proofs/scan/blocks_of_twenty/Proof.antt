@@ -2,7 +2,7 @@
 use mathlib.Core.Path.{_≡_}
 use Prim.Native.Nat.{_*_, _-_, _≤_}
 use native.Mathlib.Omega.{arith}
-use Rattle.fiduccia_mattheyses_pass.specs.Turn.{Swept}
+use Rattle.fiduccia_mattheyses_pass.specs.inner.Turn.{Swept}
 use Rattle.fiduccia_mattheyses_pass.proofs.Turns.{sweep-none, sweep-twenty}
 use borrow.Author.Needs.{needs}
 use Rattle.fiduccia_mattheyses_pass.proofs.scan.blocks_of_twenty.Statement.{statement}

@@ -4,7 +4,7 @@ use native.Mathlib.Omega.{arith}
 use lib.ListN.{length, getD}
 use mir.Syntax.{w64}
 use mir.ValLaws.{toZ-ofZ}
-use Rattle.fiduccia_mattheyses_pass.specs.Turn.{far, roomsOf, liftsOf, nobody, Sighted, Holds, Swept}
+use Rattle.fiduccia_mattheyses_pass.specs.inner.Turn.{far, roomsOf, liftsOf, nobody, Sighted, Holds, Swept}
 use Rattle.fiduccia_mattheyses_pass.proofs.Scans.{startOf, swept-from, lesser-least, sighted, sample-near, scan-past, scan-found, scan-nobody}
 use borrow.Author.Needs.{needs}
 use Rattle.fiduccia_mattheyses_pass.proofs.scan.choose.Statement.{statement}

@@ -3,7 +3,7 @@ use mathlib.Core.Path.{refl}
 use Prim.Native.Nat.{_-_}
 use native.Mathlib.Omega.{arith}
 use lib.ListN.{length}
-use Rattle.fiduccia_mattheyses_pass.specs.Turn.{nobody, Holds}
+use Rattle.fiduccia_mattheyses_pass.specs.inner.Turn.{nobody, Holds}
 use Rattle.fiduccia_mattheyses_pass.proofs.Turns.{hold-none, hold-turn}
 use borrow.Author.Needs.{needs}
 use Rattle.fiduccia_mattheyses_pass.proofs.scan.sample.Statement.{statement}

@@ -3,7 +3,7 @@ use mathlib.Core.Path.{_≡_}
 use Prim.Native.Nat.{_-_, _≤_}
 use native.Mathlib.Omega.{arith}
 use lib.ListN.{length}
-use Rattle.fiduccia_mattheyses_pass.specs.Turn.{Swept}
+use Rattle.fiduccia_mattheyses_pass.specs.inner.Turn.{Swept}
 use Rattle.fiduccia_mattheyses_pass.specs.declared.Held.{Held}
 use Rattle.fiduccia_mattheyses_pass.proofs.Turns.{sweep-one}
 use borrow.Author.Needs.{needs}

@@ -2,7 +2,7 @@
 use Prim.Native.Nat.{ℕ, _+_, _<_}
 use native.Mathlib.Omega.{arith}
 use lib.ListN.{length}
-use Rattle.fiduccia_mattheyses_pass.specs.Turn.{Sighted}
+use Rattle.fiduccia_mattheyses_pass.specs.inner.Turn.{Sighted}
 use Rattle.fiduccia_mattheyses_pass.proofs.Turns.{turns-none, turns-on}
 use borrow.Author.Needs.{needs}
 use Rattle.fiduccia_mattheyses_pass.proofs.scan.twenty.Statement.{statement}

@@ -14,7 +14,7 @@ use mir.Syntax.{w64}
 use mir.Val.{toZ, ofZ}
 use Rattle.topology.specs.Graph.{Graph, inRows}
 use Rattle.kernighan_lin_pass.specs.Gain.{added, told, largest}
-use Rattle.kernighan_lin_pass.specs.Inner.{Within, placeOf, setting}
+use Rattle.kernighan_lin_pass.specs.inner.Steps.{Within, placeOf, setting}
 use Rattle.kernighan_lin_pass.proofs.Bits.{place-read}
 use Rattle.kernighan_lin_pass.proofs.Within.{added-within, told-within}
 use Rattle.kernighan_lin_pass.proofs.Pairs.{largest-in, place-none, place-some, pair-one-out, pair-two-out, pair-stops, pair-goes, chose-none, chose-some}

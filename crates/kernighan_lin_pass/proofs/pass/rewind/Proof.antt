@@ -4,7 +4,7 @@ use Prim.Native.Nat.{suc, _-_, _≤_}
 use native.Mathlib.Omega.{arith}
 use lib.ListN.{length}
 use borrow.Author.Needs.{needs}
-use Rattle.kernighan_lin_pass.specs.Inner.{back}
+use Rattle.kernighan_lin_pass.specs.inner.Steps.{back}
 use Rattle.kernighan_lin_pass.proofs.Backs.{back-none, back-less}
 use Rattle.kernighan_lin_pass.proofs.pass.rewind.Statement.{statement}
 use Rattle.kernighan_lin_pass.proofs.pass.rewind.Tie as tie

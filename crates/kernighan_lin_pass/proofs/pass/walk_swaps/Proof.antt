@@ -8,7 +8,7 @@ use native.Mathlib.Omega.{arith}
 use lib.ListN.{length}
 use Rattle.topology.specs.Graph.{inRows}
 use Rattle.kernighan_lin_pass.specs.Pass.{Setting, pair}
-use Rattle.kernighan_lin_pass.specs.Inner.{setting}
+use Rattle.kernighan_lin_pass.specs.inner.Steps.{setting}
 use Rattle.kernighan_lin_pass.proofs.Walks.{On, on-start, on-full, on-none, on-next, fit-now, gains-small, answer-none, answer-some, pair-below}
 use borrow.Author.Needs.{needs}
 use Rattle.kernighan_lin_pass.proofs.pass.walk_swaps.Statement.{statement}

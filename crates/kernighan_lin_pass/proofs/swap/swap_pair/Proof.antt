@@ -10,7 +10,7 @@ use mir.ValLaws.{toZ-ofZ}
 use Rattle.topology.specs.Graph.{Graph, inRows, gain}
 use Rattle.topology.specs.Cut.{cut}
 use Rattle.kernighan_lin_pass.specs.Pass.{swapped}
-use Rattle.kernighan_lin_pass.specs.Inner.{Fit}
+use Rattle.kernighan_lin_pass.specs.inner.Steps.{Fit}
 use Rattle.kernighan_lin_pass.proofs.Swaps.{fall-asks, fall-gives}
 use Rattle.kernighan_lin_pass.proofs.swap.swap_pair.Statement.{statement}
 use Rattle.kernighan_lin_pass.proofs.swap.swap_pair.Tie as tie

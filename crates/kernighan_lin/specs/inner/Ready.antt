@@ -7,7 +7,7 @@ use lib.IntN.{ℤ}
 use Rattle.topology.specs.Graph.{Graph}
 use Rattle.topology.specs.Cut.{cut}
 use Rattle.kernighan_lin_pass.specs.Pass.{Setting}
-use Rattle.kernighan_lin_pass.specs.Inner.{Fit}
+use Rattle.kernighan_lin_pass.specs.inner.Steps.{Fit}
 use Rattle.kernighan_lin.specs.Run.{run}
 use Rattle.kernighan_lin.specs.declared.Report.{Report}
 

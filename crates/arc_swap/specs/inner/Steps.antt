@@ -15,7 +15,7 @@ use Rattle.topology.specs.Graph.{Graph, inRows}
 use Rattle.topology.specs.Rule.{Rows, Symmetric, Sound}
 use Rattle.topology.specs.Cut.{cut}
 use Rattle.arc_swap_attempt.specs.Trial.{trial}
-use Rattle.arc_swap_attempt.specs.Inner.{held, Named, Stood, MoveDone}
+use Rattle.arc_swap_attempt.specs.inner.Steps.{held, Named, Stood, MoveDone}
 use Rattle.arc_swap_attempt.specs.declared.Standing.{Standing}
 use Rattle.arc_swap_attempt.specs.declared.Trial.the-variants.{Goes}
 use Rattle.arc_swap.specs.declared.RunRecord.{RunRecord}
@@ -23,7 +23,7 @@ use Rattle.arc_swap.specs.declared.Attempted.{Attempted}
 use Rattle.arc_swap.specs.declared.Begun.{Begun}
 use Rattle.arc_swap.specs.declared.Ended.{Ended}
 use Rattle.arc_swap.specs.declared.Report.{Report}
-use Rattle.arc_swap.specs.Run.{Setting, State, onCut, run}
+use Rattle.arc_swap.specs.Run.{Setting, State, onCut, run, Summed}
 use Rattle.arc_swap.specs.Entry.{Plan, Lent, graphOf, partsOf, noCounts, reportOf, leftBy}
 
 -- the setting that a function's parameters stand for
@@ -43,10 +43,6 @@ pub record Fixed (s : Setting) (n : ℕ) : Type 0 where
 pub data Inside (n : ℕ) : List ℕ → Type 0 where
   nobody : Inside n []
   also : {x : ℕ} {xs : List ℕ} → x < n → Inside n xs → Inside n (x ∷ xs)
-
--- "Attempts = moves + no-gain + bad-balance."
-abbrev pub Summed : RunRecord → Type 0
-Summed r = r .attempts ≡ r .moves + r .«no_gain» + r .«bad_balance»
 
 -- The code is in order: labels below k, `top` places of the stack held, vertices all, the cut and the loads of the labels, the counts in order.
 pub record Ready (s : Setting) (n : ℕ) (labels stack : List ℕ) (top cut₀ : ℕ) (loads : List ℕ) (counts : RunRecord) : Type 0 where

@@ -15,8 +15,8 @@ use Rattle.topology.specs.Rule.{Rows, Symmetric}
 use Rattle.topology.specs.Cut.{cut}
 use Rattle.fiduccia_mattheyses_pass.specs.Choice.{Setting, other, flip, member, worth}
 use Rattle.fiduccia_mattheyses_pass.specs.Pass.{State}
-use Rattle.fiduccia_mattheyses_pass.specs.Scan.{lock}
-use Rattle.fiduccia_mattheyses_pass.specs.Update.{updated}
+use Rattle.fiduccia_mattheyses_pass.specs.inner.Scan.{lock}
+use Rattle.fiduccia_mattheyses_pass.specs.inner.Update.{updated}
 use Rattle.fiduccia_mattheyses_pass.specs.declared.Standing.{Standing}
 
 -- "one place changed down and one up per move"

@@ -8,7 +8,7 @@ use lib.Dec.{ltb}
 use lib.IntN.{ℤ, pos, negsuc}
 use Rattle.imbalance.specs.Load.{part}
 use Rattle.imbalance.specs.Limit.{mostWeight}
-use Rattle.fiduccia_mattheyses_pass.specs.Scan.{isFree, beats}
+use Rattle.fiduccia_mattheyses_pass.specs.inner.Scan.{isFree, beats}
 use Rattle.fiduccia_mattheyses_pass.specs.declared.Held.{Held}
 
 -- above every load

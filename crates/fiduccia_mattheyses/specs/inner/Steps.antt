@@ -16,7 +16,7 @@ use Rattle.topology.specs.Graph.{inRows}
 use Rattle.topology.specs.Cut.{cut}
 use Rattle.fiduccia_mattheyses_pass.specs.Choice.{Setting, other, flip}
 use Rattle.fiduccia_mattheyses_pass.specs.Pass.{State, Pass, start, flips, pass}
-use Rattle.fiduccia_mattheyses_pass.specs.Standing.{Fixed, Stands, Apart, loadsAfter}
+use Rattle.fiduccia_mattheyses_pass.specs.inner.Standing.{Fixed, Stands, Apart, loadsAfter}
 use Rattle.fiduccia_mattheyses_pass.specs.declared.Standing.{Standing}
 use Rattle.imbalance.specs.declared.Loads.{Loads}
 use Rattle.fiduccia_mattheyses.specs.declared.Move.{Move}
