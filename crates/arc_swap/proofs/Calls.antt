@@ -71,7 +71,7 @@ module _ (p : Plan) (labels : List ℕ) (ok : InOrder p labels) where
     unfolding ceilings
     capped = ap length (is .capped) ∙ length-table 16 (λ u. ceiling (table 16 (load (p .weights) labels)) (total (p .weights)) (partsOf labels) (p .settings .choice) (p .settings .whole) (p .settings .imbalance))
 
-    pub passes-asked : (counts : RunRecord) → counts ≡ noCounts → TurnAsked (set-by p stack b) labels stack (b .st) counts 0 × (counts ≡ noCounts) × (b .st .cut ≤ 2147483647)
+    pub passes-asked : (counts : RunRecord) → counts ≡ noCounts → TurnAsked (set-by p stack b) labels stack (b .st) counts 0 × (counts ≡ noCounts) × (b .st .cut ≤ mostWeight)
     passes-asked counts none =
         let few = parts-few labels (ok .named) in
         let top-none : b .st .top ≡ 0 = ap (λ (x : Standing). x .top) (is .stands) in

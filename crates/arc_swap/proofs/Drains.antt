@@ -8,6 +8,7 @@ use native.Mathlib.Nat.{mul-le-mul-right, add-mul, one-mul}
 use lib.ListN.{length, getD, length-set, length-append}
 use lib.Dec.{leb}
 use lib.IntN.{ℤ}
+use Rattle.imbalance.specs.Limit.{mostArcs}
 use Rattle.topology.specs.Graph.{first, past, gain}
 use Rattle.topology.specs.Cut.{cut}
 use Rattle.topology.proofs.Moves.{cut-move}
@@ -271,7 +272,7 @@ module _ (s : Setting) (anyone : s .movable ≡ (λ v. true)) (p₀ stack₀ : L
                 let f = ap (cut (s .graph)) (done .labelled) in
                 omega arith
 
-            few : length new ≤ 65535
+            few : length new ≤ mostArcs
             few = omega (arith, pushed-few (s .graph) (s .parts) (λ u. true) p′ v (past (s .graph) v - first (s .graph) v), row-few (s .graph) (s .parts) (λ u. true) p′ v (length p) (inv .ready .ok .rows) (asked′ .here))
 
             held-size : length (held stack (c .top - 1)) ≡ c .top - 1

@@ -8,6 +8,7 @@ use lib.ListN.{length}
 use lib.Dec.{ltb}
 use lib.IntN.{ℤ}
 use borrow.Author.Tests.{lt-ltb, le-ltb, ltb-true, ltb-false}
+use Rattle.imbalance.specs.Limit.{mostVertices, mostArcs, mostWeight}
 use Rattle.topology.specs.Cut.{cut}
 use Rattle.arc_swap_attempt.specs.inner.Steps.{held}
 use Rattle.arc_swap_attempt.specs.declared.Standing.{Standing}
@@ -34,11 +35,11 @@ pub record Running (s : Setting) (p₀ : List ℕ) (cut₀ i : ℕ) (p stack : L
   pub none : c .top ≡ 0
   pub fit : c .fits ≡ true
   pub ready : Ready s (length p₀) p stack (c .top) (c .cut) (c .loads .at) counts
-  pub bounded : spent counts 0 (c .cut) ≤ 65535 * cut₀ + 4096 * i
+  pub bounded : spent counts 0 (c .cut) ≤ mostArcs * cut₀ + mostVertices * i
   pub falling : i + c .cut ≤ cut₀
   pub rest : (hs : List ℤ) × (f : ℕ) × (run s (cut (s .graph) p₀ + 1) 0 (at p₀ [] noCounts [] false) ≡ run s f i (at p [] counts hs false)) × (c .cut < f)
 
-module _ (s : Setting) (p₀ stack₀ : List ℕ) (c₀ : Standing) (counts₀ : RunRecord) (ask : TurnAsked s p₀ stack₀ c₀ counts₀ 0) (none₀ : counts₀ ≡ noCounts) (light : c₀ .cut ≤ 2147483647) where
+module _ (s : Setting) (p₀ stack₀ : List ℕ) (c₀ : Standing) (counts₀ : RunRecord) (ask : TurnAsked s p₀ stack₀ c₀ counts₀ 0) (none₀ : counts₀ ≡ noCounts) (light : c₀ .cut ≤ mostWeight) where
   pub running : Running s p₀ (c₀ .cut) 0 p₀ stack₀ c₀ counts₀
   running =
       let z : counts₀ .attempts ≡ 0 = ap (λ (r : RunRecord). r .attempts) none₀ in
@@ -53,11 +54,11 @@ module _ (s : Setting) (p₀ stack₀ : List ℕ) (c₀ : Standing) (counts₀ :
       }
 
   module _ (i : ℕ) (p stack : List ℕ) (c : Standing) (counts : RunRecord) (inv : Running s p₀ (c₀ .cut) i p stack c counts) where
-    few : length p ≤ 4096
+    few : length p ≤ mostVertices
     few = let a = ask .asked .fixed .rows .few in let b = inv .ready .long in omega arith
 
     -- a pass more can be counted
-    pub room : i ≤ 2147483647
+    pub room : i ≤ mostWeight
     room = let a = inv .falling in omega arith
 
     pub pass-asked : TurnAsked s p stack c counts (length p)

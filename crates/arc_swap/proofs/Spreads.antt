@@ -4,6 +4,7 @@ use mathlib.Core.List.{List, _∷_, _++_}
 use Prim.Native.Nat.{ℕ, zero, suc, _+_, _-_, _≤_, _<_}
 use native.Mathlib.Omega.{arith}
 use lib.ListN.{length}
+use Rattle.imbalance.specs.Limit.{mostArcs}
 use Rattle.topology.specs.Graph.{Graph, first, past, neighbour}
 use Rattle.topology.specs.Rule.{Rows}
 use Rattle.arc_swap_attempt.specs.Trial.{gladly, pushed}
@@ -38,6 +39,6 @@ module _ (g : Graph) (k : ℕ) (movable : ℕ → Bool) (p : List ℕ) (v : ℕ)
       go true h = also (ok .below (first g v + m) (omega (arith, ok .inside v here))) h
       go false h = h
 
-  -- a row has at most 65,535 arcs
-  pub row-few : (n : ℕ) → Rows n g → v < n → past g v - first g v ≤ 65535
+  -- a row has at most all arcs
+  pub row-few : (n : ℕ) → Rows n g → v < n → past g v - first g v ≤ mostArcs
   row-few n ok here = omega (arith, ok .inside v here, ok .small)

@@ -12,7 +12,7 @@ use Rattle.arc_swap_attempt.specs.declared.Standing.{Standing}
 use Rattle.arc_swap_attempt.proofs.Stacks.{held-none}
 use Rattle.arc_swap.specs.declared.RunRecord.{RunRecord}
 use Rattle.arc_swap.specs.Run.{Setting, State, turn, sweep}
-use Rattle.arc_swap.specs.inner.Steps.{Ready, at, Leads, spent, TurnAsked, Done}
+use Rattle.arc_swap.specs.inner.Steps.{Ready, at, Leads, spent, most, TurnAsked, Done}
 
 -- ---- the definition, step by step
 module _ (s : Setting) where
@@ -50,7 +50,7 @@ module _ (s : Setting) (p₀ stack₀ : List ℕ) (c₀ : Standing) (counts₀ :
     so-far = λ gs. (gs, refl);
   }
 
-  modest₀ : spent counts₀ 0 (c₀ .cut) + length p₀ ≤ 4611686018427387904
+  modest₀ : spent counts₀ 0 (c₀ .cut) + length p₀ ≤ most
   modest₀ = rw (ask .none) at (ask .asked .modest)
 
   module _ (v : ℕ) (p stack : List ℕ) (c : Standing) (counts : RunRecord) (inv : Sweeping s p₀ stack₀ (c₀ .cut) counts₀ v p stack c counts) where

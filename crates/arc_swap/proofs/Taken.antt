@@ -14,56 +14,46 @@ use Rattle.imbalance.specs.Load.{part}
 use Rattle.topology.specs.Graph.{Graph, first, past, neighbour}
 use Rattle.topology.specs.Rule.{Rows}
 use Rattle.topology.specs.Cut.{cut}
+use Rattle.topology.proofs.RowWalks.{Walk, row-of, enters, further, over}
 use Rattle.arc_swap_attempt.specs.inner.Steps.{held}
 use Rattle.arc_swap_attempt.specs.declared.Standing.{Standing}
 use Rattle.arc_swap_attempt.proofs.Stacks.{held-push, held-none}
 use Rattle.arc_swap.specs.declared.RunRecord.{RunRecord}
 use Rattle.arc_swap.specs.Run.{Setting, State, drain, onCut, firstPush, turn}
-use Rattle.arc_swap.specs.inner.Steps.{nobody, also, at, standing, spent, Asked, TurnAsked, Done, FirstDone}
+use Rattle.arc_swap.specs.inner.Steps.{nobody, also, at, standing, spent, most, Asked, TurnAsked, Done, FirstDone}
 use Rattle.arc_swap.proofs.Drains.{drain-empty}
 
 -- ---- the neighbours in another part
--- the arcs before e lead to v's own part
-pub record Looking (g : Graph) (p : List ℕ) (v end e : ℕ) : Type 0 where
-  pub end-is : end ≡ past g v
-  pub from : first g v ≤ e
-  pub upto : e ≤ end
-  pub none : someFrom (first g v) e (λ a. not (eqb (part p (neighbour g a)) (part p v))) ≡ false
+-- the arcs from a up to e lead to v's own part
+pub record Looking (g : Graph) (p : List ℕ) (v a b e : ℕ) : Type 0 where
+  pub walk : Walk (length p) (g .neighbours) a b e
+  pub none : someFrom a e (λ i. not (eqb (part p (neighbour g i)) (part p v))) ≡ false
 
 module _ (g : Graph) (p : List ℕ) (v : ℕ) where
   abbrev away : ℕ → Bool
-  away a = not (eqb (part p (neighbour g a)) (part p v))
+  away i = not (eqb (part p (neighbour g i)) (part p v))
 
-  pub begins : Rows (length p) g → v < length p → (end e : ℕ) → end ≡ past g v → e ≡ first g v → Looking g p v end e
-  begins ok here end e q r = record {
-    end-is = q;
-    from = omega arith;
-    upto = omega (arith, ok .rise v here);
-    none = rw r (some-from-empty (first g v) 0 away);
-  }
+  module _ (a b : ℕ) where
+    pub begins : Rows (length p) g → v < length p → a ≡ first g v → b ≡ past g v → Looking g p v a b a
+    begins ok here q r = record { walk = enters (row-of ok v a b here q r); none = some-from-empty a 0 away }
 
-  module _ (end e : ℕ) (inv : Looking g p v end e) where
-    module _ (l : e < end) (u : ℕ) (u-is : u ≡ neighbour g e) where
-      pub found : (part p u ≡ part p v → ⊥) → true ≡ onCut g p v
+    module _ (e : ℕ) (inv : Looking g p v a b e) where
+      module _ (l : e < b) (u : ℕ) (u-is : u ≡ neighbour g e) where
+        pub found : a ≡ first g v → b ≡ past g v → (part p u ≡ part p v → ⊥) → true ≡ onCut g p v
+        unfolding onCut
+        found q r ne =
+            let f = inv .walk .from in
+            sym (some-from-holds (first g v) (past g v) away e (omega arith) (omega arith) (rw (← u-is, ne-eqb (part p u) (part p v) ne)))
+
+        pub passed : part p u ≡ part p v → Looking g p v a b (e + 1)
+        passed q = record {
+          walk = further (inv .walk) l;
+          none = some-from-more a e away (inv .walk .from) ∙ rw (inv .none, ← u-is, eq-eqb (part p u) (part p v) q);
+        }
+
+      pub nowhere : a ≡ first g v → b ≡ past g v → b ≤ e → false ≡ onCut g p v
       unfolding onCut
-      found ne = sym (some-from-holds (first g v) (past g v) away e (inv .from) (omega (arith, inv .end-is)) (rw (← u-is, ne-eqb (part p u) (part p v) ne)))
-
-      pub passed : part p u ≡ part p v → Looking g p v end (e + 1)
-      passed q =
-          let f = inv .from in
-          record {
-            end-is = inv .end-is;
-            from = omega arith;
-            upto = omega arith;
-            none = some-from-more (first g v) e away f ∙ rw (inv .none, ← u-is, eq-eqb (part p u) (part p v) q);
-          }
-
-    pub nowhere : end ≤ e → false ≡ onCut g p v
-    unfolding onCut
-    nowhere l =
-        let k = inv .upto in
-        let q : e ≡ past g v = omega (arith, inv .end-is) in
-        sym (rw q at (inv .none))
+      nowhere q r l = sym (rw (over (inv .walk) l, q, r) at (inv .none))
 
 -- ---- the turn
 module _ (s : Setting) (anyone : s .movable ≡ (λ v. true)) where
@@ -87,7 +77,7 @@ module _ (s : Setting) (anyone : s .movable ≡ (λ v. true)) where
     abbrev fuel : ℕ
     fuel = (cut (s .graph) p + 1) * (s .room + 1)
 
-    modest₀ : spent counts 0 (c .cut) + 1 ≤ 4611686018427387904
+    modest₀ : spent counts 0 (c .cut) + 1 ≤ most
     modest₀ = rw (ask .none) at (ask .asked .modest)
 
     -- what a first push comes to: the turn is the emptying of the stack from there, which is asked for

@@ -8,6 +8,7 @@ use lib.ListN.{length, set, length-set}
 use borrow.Author.Tests.{le-leb, lt-leb}
 use Rattle.topology.specs.Graph.{Graph, first, past, neighbour}
 use Rattle.topology.specs.Rule.{Rows}
+use Rattle.topology.proofs.RowWalks.{Walk, row-of, enters, further, over}
 use Rattle.arc_swap_attempt.specs.Trial.{gladly, pushed}
 use Rattle.arc_swap_attempt.specs.inner.Steps.{held, fresh, PushDone}
 use Rattle.arc_swap_attempt.proofs.Stacks.{held-above, held-push}
@@ -29,8 +30,7 @@ news-grow g k p v m (suc d) = let e : suc d + m ≡ suc (d + m) = omega arith in
 -- the arcs before e are passed, and all pushes so far fit
 pub record Pushing (g : Graph) (k : ℕ) (p : List ℕ) (v : ℕ) (s₀ : List ℕ) (n end e : ℕ) (s : List ℕ) (top : ℕ) : Type 0 where
   pub end-is : end ≡ past g v
-  pub from : first g v ≤ e
-  pub upto : e ≤ end
+  pub walk : Walk (length p) (g .neighbours) (first g v) end e
   pub long : length s ≡ length s₀
   pub within : top ≤ length s₀
   pub top-is : top ≡ length (news g k p v (e - first g v)) + n
@@ -44,8 +44,7 @@ module _ (g : Graph) (k : ℕ) (p : List ℕ) (v : ℕ) (s₀ : List ℕ) (n : �
       let z : e - first g v ≡ 0 = omega arith in
       record {
         end-is = q;
-        from = omega arith;
-        upto = omega (arith, ok .rise v here);
+        walk = rw r (enters (row-of ok v (first g v) end here refl q));
         long = refl;
         within = room;
         top-is = rw z (omega arith);
@@ -60,10 +59,10 @@ module _ (g : Graph) (k : ℕ) (p : List ℕ) (v : ℕ) (s₀ : List ℕ) (n : �
     -- arc e goes to u
     module _ (l : e < end) (u : ℕ) (u-is : u ≡ neighbour g e) where
       next : e + 1 - first g v ≡ suc i
-      next = let f = inv .from in omega arith
+      next = let f = inv .walk .from in omega arith
 
       at-arc : neighbour g (first g v + i) ≡ u
-      at-arc = let f = inv .from in let q : first g v + i ≡ e = omega arith in rw q (sym u-is)
+      at-arc = let f = inv .walk .from in let q : first g v + i ≡ e = omega arith in rw q (sym u-is)
 
       more : news g k p v (e + 1 - first g v) ≡ cond (gladly g k p u) (u ∷ news g k p v i) (news g k p v i)
       unfolding pushed
@@ -72,11 +71,9 @@ module _ (g : Graph) (k : ℕ) (p : List ℕ) (v : ℕ) (s₀ : List ℕ) (n : �
       pub passed-by : (b : Bool) → b ≡ gladly g k p u → b ≡ false → Pushing g k p v s₀ n end (e + 1) s top
       passed-by b q f =
           let a : news g k p v (e + 1 - first g v) ≡ news g k p v i = more ∙ rw (← q, f) in
-          let w = inv .from in
           record {
             end-is = inv .end-is;
-            from = omega arith;
-            upto = omega arith;
+            walk = further (inv .walk) l;
             long = inv .long;
             within = inv .within;
             top-is = rw a (inv .top-is);
@@ -90,13 +87,11 @@ module _ (g : Graph) (k : ℕ) (p : List ℕ) (v : ℕ) (s₀ : List ℕ) (n : �
 
         pub pushes-one : top < length s₀ → Pushing g k p v s₀ n end (e + 1) (set s top u) (top + 1)
         pushes-one h =
-            let w = inv .from in
             let x = inv .top-is in
             let y = inv .long in
             record {
               end-is = inv .end-is;
-              from = omega arith;
-              upto = omega arith;
+              walk = further (inv .walk) l;
               long = length-set s top u ∙ inv .long;
               within = omega arith;
               top-is = rw one (omega arith);
@@ -118,7 +113,7 @@ module _ (g : Graph) (k : ℕ) (p : List ℕ) (v : ℕ) (s₀ : List ℕ) (n : �
             grown : suc (length (news g k p v i)) ≤ length (fresh g k p v)
             grown =
                 let m = e + 1 - first g v in
-                let f = inv .from in
+                let f = inv .walk .from in
                 let d : past g v - first g v ≡ (past g v - (e + 1)) + m = omega (arith, inv .end-is) in
                 let a = news-grow g k p v m (past g v - (e + 1)) in
                 let c = ap length one in
@@ -126,8 +121,7 @@ module _ (g : Graph) (k : ℕ) (p : List ℕ) (v : ℕ) (s₀ : List ℕ) (n : �
 
     pub all-fit : end ≤ e → PushDone (fresh g k p v) s₀ n s true top
     all-fit l =
-        let u = inv .upto in
-        let q : i ≡ past g v - first g v = omega (arith, inv .end-is) in
+        let q : i ≡ past g v - first g v = omega (arith, over (inv .walk) l, inv .end-is) in
         let x : top ≡ length (fresh g k p v) + n = rw q at (inv .top-is) in
         let y = inv .within in
         record {

@@ -1,9 +1,11 @@
 // The gains of a vertex to all parts at once: its arc weight into each, and the best of them. Document 01, "the target of largest gain, the highest part among equals".
 ghost use mathlib.Core.Path.{_≡_};
-ghost use Prim.Native.Nat.{_<_, _≤_};
+ghost use Prim.Native.Nat.{ℕ, _<_, _≤_};
 ghost use lib.ListN.{length, getD};
 ghost use Rattle.lists.specs.Fill.{table};
+ghost use Rattle.imbalance.specs.Load.{part};
 ghost use Rattle.topology.specs.Graph.{inRows, into};
+ghost use Rattle.topology.specs.Rule.{Rows};
 ghost use Rattle.arc_swap_attempt.specs.Trial.{gladly};
 ghost use Rattle.arc_swap_attempt.specs.inner.Steps.{picked, bestBy, Named};
 use crate::Sums;
@@ -15,10 +17,9 @@ pub fn sums_of(
     neighbours: &[u32],
     arc_weights: &[u32],
     labels: &[u32],
-    parts: usize,
     v: usize,
 ) -> Sums
-    requires { ⌜ Named (inRows (now starts) (now neighbours) (now «arc_weights»)) parts (now labels) × (v < length (now labels)) ⌝ }
+    requires { ⌜ Rows (length (now labels)) (inRows (now starts) (now neighbours) (now «arc_weights»)) × ((u : ℕ) → u < length (now labels) → part (now labels) u < 16) × (v < length (now labels)) ⌝ }
     ensures { λ r. ⌜ r .at ≡ table 16 (into (inRows (now (starts .entry)) (now (neighbours .entry)) (now («arc_weights» .entry))) (now (labels .entry)) v) ⌝ }
 {
     let end = lists::index(starts[v + 1]);
@@ -67,7 +68,7 @@ pub fn glad(
     ensures { λ r. ⌜ r ≡ gladly (inRows (now (starts .entry)) (now (neighbours .entry)) (now («arc_weights» .entry))) parts (now (labels .entry)) u ⌝ }
 {
     let own = lists::index(labels[u]);
-    let sums = sums_of(starts, neighbours, arc_weights, labels, parts, u);
+    let sums = sums_of(starts, neighbours, arc_weights, labels, u);
     let best = best_part(sums, own, parts);
     sums.at[own] < best.sum
 }

@@ -23,7 +23,7 @@ pub fn try_vertex(
     ensures { λ r. ⌜ r ≡ trial (inRows (now (starts .entry)) (now (neighbours .entry)) (now («arc_weights» .entry))) parts (now (weights .entry)) (ceilings .at) (now (labels .entry)) v ⌝ }
 {
     let own = lists::index(labels[v]);
-    let sums = crate::gains::sums_of(starts, neighbours, arc_weights, labels, parts, v);
+    let sums = crate::gains::sums_of(starts, neighbours, arc_weights, labels, v);
     let best = crate::gains::best_part(sums, own, parts);
     let here = sums.at[own];
     if best.sum <= here {

@@ -14,6 +14,7 @@ use lib.Ieee.Fits.{round-is, down-pos, and-l, and-r}
 use lib.Ieee.Exact.{HasValue, odd-sign, round-exact}
 use lib.Ieee.Order.{round-mono}
 use lib.Ieee.Positive.{first-pos}
+use Rattle.imbalance.specs.Limit.{mostWeight}
 use Rattle.imbalance.specs.Ceiling.{zero64, most64, legalE, wholeOf, idealOf, limitOf}
 
 -- ---- x is finite, has the sign clear, and is at most b
@@ -118,7 +119,7 @@ div-within (fin false m e) (fin false n d) a p h k P A = go (eqb n 0) (eqb→eq 
     go true z = absurd (lt-irrefl 0 (subst (λ (w : ℕ). 0 < w) (z tt) (first-pos n (up d) y-pos)))
     go false z = round-within 31 (m * up e * down d) (n * up d * down e) at31 (mul-pos y-pos (down-pos e)) (cut a p (m * up e) (n * up d) (down e) (down d) A P x≡ y≡)
 
-ideal-within : (total parts : ℕ) → total ≤ 2147483647 → 0 < parts → parts ≤ 16 → Within (idealOf total parts) (2 ^ 31)
+ideal-within : (total parts : ℕ) → total ≤ mostWeight → 0 < parts → parts ≤ 16 → Within (idealOf total parts) (2 ^ 31)
 ideal-within total parts h P k =
     div-within (ofInt binary64 (pos total)) (ofInt binary64 (pos parts)) total parts (exact total (omega arith)) (exact parts (omega arith)) P (omega arith)
 
@@ -224,7 +225,7 @@ unfolding legalE
 legal-cases e h = cases e (and-l (le zero64 e) (le e most64) h) (and-r (le zero64 e) (le e most64) h)
 
 -- ---- the whole
-pub limit-within : (total parts : ℕ) (e : Float) → total ≤ 2147483647 → 0 < parts → parts ≤ 16 → T (legalE e) → Within (limitOf total parts e) (2 ^ 38)
+pub limit-within : (total parts : ℕ) (e : Float) → total ≤ mostWeight → 0 < parts → parts ≤ 16 → T (legalE e) → Within (limitOf total parts e) (2 ^ 38)
 unfolding limitOf
 limit-within total parts e h P k l =
     let i = idealOf total parts in

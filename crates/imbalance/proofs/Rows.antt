@@ -2,6 +2,7 @@
 use mathlib.Core.Path.{_≡_, refl}
 use mathlib.Core.Bool.{true, false}
 use lib.Ieee.{binary64, nan, ofBits, add, div, ofInt, mul, le}
+use Rattle.imbalance.specs.Limit.{mostWeight}
 use Rattle.imbalance.specs.Ceiling.{legalE, limitOf, ceilingOf}
 
 -- total 8 over two parts, e = 0.25
@@ -15,7 +16,7 @@ unfolding ceilingOf limitOf ofBits add div ofInt mul
 seven = refl
 
 -- the largest total over two parts, e = 64.0
-largest : ceilingOf 2147483647 2 (ofBits binary64 0x4050_0000_0000_0000) ≡ 69793218527
+largest : ceilingOf mostWeight 2 (ofBits binary64 0x4050_0000_0000_0000) ≡ 69793218527
 unfolding ceilingOf limitOf ofBits add div ofInt mul
 largest = refl
 

@@ -19,6 +19,10 @@ mostArcs = 65535
 abbrev pub mostWeight : ℕ
 mostWeight = 2147483647
 
+-- "pass limit above 1,024 (FM, KL)" is number 7
+abbrev pub mostPasses : ℕ
+mostPasses = 1024
+
 -- number 5's test of one list: its weights sum to more than the limit
 unfoldable pub heavy : List ℕ → Bool
 heavy ws = ltb mostWeight (total ws)

@@ -11,6 +11,18 @@ ghost use Rattle.imbalance.specs.Load.{loadsOf, Loadable};
 ghost use Rattle.imbalance.specs.Ceiling.{legalE, ceilingOf, largest, unfitChoice, ceiling, ceilings};
 ghost use Rattle.imbalance.specs.Number.{loadsNumber, loadsAnswer};
 
+// "n at most 4,096"
+pub const MOST_VERTICES: usize = 4096;
+
+// "a at most 65,535"
+pub const MOST_ARCS: usize = 65535;
+
+// "The vertex weights sum to at most 2,147,483,647, and so do the arc weights."
+const MOST_WEIGHT: u64 = 2147483647;
+
+// "pass limit above 1,024 (FM, KL)" is number 7
+pub const MOST_PASSES: u32 = 1024;
+
 // The load of each of the sixteen parts.
 #[repr(C)]
 pub struct Loads {
@@ -37,7 +49,7 @@ pub fn over_limit(weights: &[u32]) -> bool
     let mut i: usize = 0;
     while i < weights.len() {
         sum += lists::wide(weights[i]);
-        if 2147483647 < sum {
+        if MOST_WEIGHT < sum {
             return true;
         }
         i += 1;
@@ -95,7 +107,7 @@ fn loads_number(weights: &[u32], labels: &[u32]) -> u32
     if weights.len() != labels.len() {
         return 1;
     }
-    if 4096 < labels.len() {
+    if MOST_VERTICES < labels.len() {
         return 2;
     }
     if over_limit(weights) {
@@ -161,7 +173,7 @@ pub fn unfit_choice(choice: u32, e: f64) -> bool
 
 // The ceiling from the imbalance: one rounding per operation, then the whole number at or below.
 pub fn ceiling_by(total: u64, parts: u32, e: f64) -> u64
-    requires { ⌜ (total ≤ 2147483647) × (0 < parts) × (parts ≤ 16) × T (legalE e) ⌝ }
+    requires { ⌜ (total ≤ mostWeight) × (0 < parts) × (parts ≤ 16) × T (legalE e) ⌝ }
     ensures { λ r. ⌜ r ≡ ceilingOf total parts e ⌝ }
 {
     let i = (total as f64) / (parts as f64);

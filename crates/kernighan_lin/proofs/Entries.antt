@@ -17,7 +17,7 @@ use Rattle.lists.proofs.Numbers.{or-else-zero, not-given}
 use Rattle.lists.proofs.Totals.{sum-ext, sum-zero}
 use Rattle.lists.proofs.Alls.{some-none}
 use Rattle.lists.proofs.Fills.{length-written, written-below, written-past}
-use Rattle.imbalance.specs.Limit.{labelAbove}
+use Rattle.imbalance.specs.Limit.{mostPasses, labelAbove}
 use Rattle.imbalance.specs.Load.{part}
 use Rattle.topology.specs.Rule.{graphNumber}
 use Rattle.topology.proofs.Numbers.{sound}
@@ -37,7 +37,7 @@ none-used labels e =
 pub record Admitted (p : Plan) (l : Lent) : Type 0 where
   pub fit : Fit (length (l .labels)) (graphOf p)
   pub some-vertex : 0 < length (l .labels)
-  pub few-passes : p .settings .passes ≤ 1024
+  pub few-passes : p .settings .passes ≤ mostPasses
   pub in-gains : length (l .labels) ≤ length (l .gains)
   pub in-locks : length (l .labels) ≤ length (l .locks)
   pub in-swaps : length (l .labels) / 2 ≤ length (l .swaps)
@@ -47,10 +47,10 @@ unfolding numberOf mislabelled short
 admitted p l k e z =
     let n = length (l .labels) in
     let eight : ℕ = cond (short n (length (l .gains)) (length (l .locks)) (length (l .swaps))) 8 0 in
-    let seven : ℕ = cond (ltb 1024 (p .settings .passes)) 7 eight in
+    let seven : ℕ = cond (ltb mostPasses (p .settings .passes)) 7 eight in
     let one = or-else-zero (graphNumber n (p .weights) (graphOf p)) (cond (mislabelled (l .labels)) 6 seven) (sym e ∙ z) in
     let six = not-given (mislabelled (l .labels)) 5 seven (one .1) in
-    let passes = not-given (ltb 1024 (p .settings .passes)) 6 eight (six .1) in
+    let passes = not-given (ltb mostPasses (p .settings .passes)) 6 eight (six .1) in
     let room = not-given (short n (length (l .gains)) (length (l .locks)) (length (l .swaps))) 7 0 (passes .1) in
     let both = or-false (ltb (length (l .gains)) n || ltb (length (l .locks)) n) (ltb (length (l .swaps)) (n / 2)) (room .0) in
     let two = or-false (ltb (length (l .gains)) n) (ltb (length (l .locks)) n) (both .0) in
@@ -59,7 +59,7 @@ admitted p l k e z =
     record {
       fit = record { rows = s .rows; symmetric = s .symmetric; light = s .lightArcs };
       some-vertex = vertex n refl (eqb-true (different (l .labels)) 2 (not-false (eqb (different (l .labels)) 2) (labels .1)));
-      few-passes = ltb-false 1024 (p .settings .passes) (passes .0);
+      few-passes = ltb-false mostPasses (p .settings .passes) (passes .0);
       in-gains = ltb-false (length (l .gains)) n (two .0);
       in-locks = ltb-false (length (l .locks)) n (two .1);
       in-swaps = ltb-false (length (l .swaps)) (n / 2) (both .1);

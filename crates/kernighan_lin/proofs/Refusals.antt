@@ -10,6 +10,7 @@ use lib.Dec.{ltb, eqb}
 use borrow.Author.Tests.{eqb-true}
 use Rattle.lists.specs.Smallest.{Smallest}
 use Rattle.lists.proofs.Smallests.{at-most, either-fails, passed, tested, thence, with-more, smallest}
+use Rattle.imbalance.specs.Limit.{mostPasses}
 use Rattle.topology.specs.Rule.{graphNumber}
 use Rattle.topology.specs.Rules.{graphRules}
 use Rattle.topology.proofs.Refusals.{graph-first}
@@ -33,13 +34,13 @@ unfolding numberOf
 number-smallest p l =
     let n = length (l .labels) in
     let passes = p .settings .passes in
-    let own = Labelled (l .labels) ∷ (passes ≤ 1024) ∷ LongEnough l ∷ [] in
+    let own = Labelled (l .labels) ∷ (passes ≤ mostPasses) ∷ LongEnough l ∷ [] in
     let graph = graphRules n (p .weights) (graphOf p) in
     let k = graphNumber n (p .weights) (graphOf p) in
     smallest (rules p l) (number p l) tt
     (thence (rules p l) 1 6 9 k _ (omega arith) (with-more graph own 1 6 k (omega arith) (graph-first n (p .weights) (graphOf p)))
     (tested (rules p l) 6 9 _ (mislabelled (l .labels)) (omega arith) (omega arith) (labelled-so (l .labels))
-    (tested (rules p l) 7 9 _ (ltb 1024 passes) (omega arith) (omega arith) (at-most 1024 passes)
+    (tested (rules p l) 7 9 _ (ltb mostPasses passes) (omega arith) (omega arith) (at-most mostPasses passes)
     (tested (rules p l) 8 9 0 (short n (length (l .gains)) (length (l .locks)) (length (l .swaps))) (omega arith) (omega arith) (long-enough l)
     (passed (rules p l) 9)))))
 

@@ -6,6 +6,7 @@ use native.Mathlib.Omega.{arith}
 use lib.ListN.{length}
 use lib.IntN.{ℤ}
 use borrow.Author.Tests.{lt-ltb, le-ltb}
+use Rattle.imbalance.specs.Limit.{mostVertices}
 use Rattle.topology.specs.Cut.{cut}
 use Rattle.kernighan_lin_pass.specs.Pass.{Setting, start, walk, pass}
 use Rattle.kernighan_lin_pass.specs.inner.Steps.{Roomy}
@@ -52,7 +53,7 @@ module _ (s : Setting) (most passes : ℕ) (p₀ : List ℕ) where
       }
 
   module _ (i last : ℕ) (labels : List ℕ) (gains : List ℤ) (locks swaps : List ℕ) (on : Passing s most passes p₀ i last labels gains locks swaps) where
-    pub roomy : (limit : ℕ) → limit ≡ min most (length p₀ / 2) → length p₀ ≤ 4096 → Roomy labels gains locks (length swaps) limit
+    pub roomy : (limit : ℕ) → limit ≡ min most (length p₀ / 2) → length p₀ ≤ mostVertices → Roomy labels gains locks (length swaps) limit
     roomy limit e few =
         let q = on .swaps-long in
         record { gains-long = on .gains-long ∙ sym (on .long); locks-long = on .locks-long ∙ sym (on .long); room-for = omega arith; few = omega arith }

@@ -10,7 +10,7 @@ use Rattle.lists.specs.Sum.{sum, weigh}
 use Rattle.lists.specs.All.{some}
 use Rattle.lists.specs.Fill.{filled}
 use Rattle.lists.specs.Number.{orElse}
-use Rattle.imbalance.specs.Limit.{labelAbove}
+use Rattle.imbalance.specs.Limit.{mostPasses, labelAbove}
 use Rattle.imbalance.specs.Load.{part}
 use Rattle.topology.specs.Graph.{Graph, inRows}
 use Rattle.topology.specs.Rule.{graphNumber}
@@ -59,7 +59,7 @@ unfoldable pub numberOf : Graph → List ℕ → List ℕ → ℕ → ℕ → �
 numberOf g weights labels gains locks swaps passes =
     orElse (graphNumber (length labels) weights g)
     (cond (mislabelled labels) 6
-    (cond (ltb 1024 passes) 7
+    (cond (ltb mostPasses passes) 7
     (cond (short (length labels) gains locks swaps) 8 0)))
 
 -- the call's number

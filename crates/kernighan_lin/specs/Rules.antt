@@ -4,6 +4,7 @@ use mathlib.Core.List.{List, [], _∷_, _++_}
 use mathlib.Core.Logic.{_⊎_}
 use Prim.Native.Nat.{ℕ, _/_, _≤_, _<_}
 use lib.ListN.{length}
+use Rattle.imbalance.specs.Limit.{mostPasses}
 use Rattle.imbalance.specs.Load.{part}
 use Rattle.imbalance.specs.Rules.{NoneAbove}
 use Rattle.topology.specs.Rules.{graphRules}
@@ -37,4 +38,4 @@ pub record LongEnough (l : Lent) : Type 0 where
 abbrev pub rules : Plan → Lent → List (Type 0)
 rules p l =
     graphRules (length (l .labels)) (p .weights) (graphOf p)
-    ++ Labelled (l .labels) ∷ (p .settings .passes ≤ 1024) ∷ LongEnough l ∷ []
+    ++ Labelled (l .labels) ∷ (p .settings .passes ≤ mostPasses) ∷ LongEnough l ∷ []

@@ -77,7 +77,7 @@ pub fn number_of(
     if mislabels(labels) {
         return 6;
     }
-    if 1024 < passes {
+    if imbalance::MOST_PASSES < passes {
         return 7;
     }
     if too_short(n, gains, locks, swaps) {

@@ -10,7 +10,7 @@ use lib.Dec.{eqb}
 use borrow.Author.Tests.{eqb-true, eqb-false}
 use Rattle.imbalance.specs.Load.{part}
 use Rattle.kernighan_lin_pass.specs.Pass.{Swap, swapped}
-use Rattle.kernighan_lin_pass.specs.inner.Steps.{codeOf, swapOf, back}
+use Rattle.kernighan_lin_pass.specs.inner.Steps.{codeBase, codeOf, swapOf, back}
 use Rattle.kernighan_lin_pass.proofs.Swaps.{length-swapped}
 
 -- who has which label after a swap
@@ -58,7 +58,7 @@ swap-twice p t one two =
         ∙ at-other p t one two i (eqb-false i (t .one) e) (eqb-false i (t .two) f)
 
 -- the numbers of a noted swap read back
-pub read-back : (v w : ℕ) → w < 65536 → (swapOf (codeOf (record { one = v; two = w })) .one ≡ v) × (swapOf (codeOf (record { one = v; two = w })) .two ≡ w)
+pub read-back : (v w : ℕ) → w < codeBase → (swapOf (codeOf (record { one = v; two = w })) .one ≡ v) × (swapOf (codeOf (record { one = v; two = w })) .two ≡ w)
 read-back v w l = (omega arith, omega arith)
 
 pub back-same : (codes codes′ : List ℕ) (m j : ℕ) (p : List ℕ) → j ≤ m → ((i : ℕ) → i < m → getD codes i 0 ≡ getD codes′ i 0) → back codes m j p ≡ back codes′ m j p

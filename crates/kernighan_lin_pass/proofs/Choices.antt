@@ -3,7 +3,7 @@ use mathlib.Core.Path.{_≡_, refl, ap, ap₂, _∙_}
 use mathlib.Core.Bool.{Bool, true, false, not, _&&_}
 use mathlib.Core.List.{List}
 use mathlib.Core.Option.{Option, none, some}
-use Prim.Native.Nat.{ℕ, _+_, _*_, _≤_, _<_}
+use Prim.Native.Nat.{ℕ, _+_, _-_, _*_, _^_, _≤_, _<_}
 use native.Mathlib.Omega.{arith}
 use native.Mathlib.Numerals.{add-one}
 use lib.ListN.{length, getD}
@@ -50,11 +50,11 @@ not-in-second first label side s e = rw s (ap not (eq-eqb label first e))
 
 -- -2^62 is below every gain
 abbrev pub lowest : ℤ
-lowest = negsuc 4611686018427387903
+lowest = negsuc (2 ^ 62 - 1)
 
 above-lowest : (z : ℤ) → mag z ≤ 2 * mostGain → leZ lowest z ≡ true
 above-lowest (pos a) h = refl
-above-lowest (negsuc a) h = le-leb a 4611686018427387903 (omega arith)
+above-lowest (negsuc a) h = le-leb a (2 ^ 62 - 1) (omega arith)
 
 -- the gain of the vertex taken so far
 abbrev pub worthOf : List ℤ → Option ℕ → ℤ

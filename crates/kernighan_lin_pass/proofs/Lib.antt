@@ -1,7 +1,6 @@
 -- Laws of a pass of KL, by subject.
 pub mod Sizes
 pub mod Bits
-pub mod Freshes
 pub mod Tells
 pub mod Choices
 pub mod Within

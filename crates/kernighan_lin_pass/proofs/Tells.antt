@@ -5,7 +5,7 @@ use mathlib.Core.List.{List}
 use Prim.Native.Nat.{ℕ, _+_, _*_, _≤_, _<_}
 use native.Mathlib.Omega.{arith}
 use native.Mathlib.Nat.{add-zero}
-use lib.ListN.{length, getD, set}
+use lib.ListN.{length, getD, set, length-set}
 use lib.Dec.{eqb}
 use lib.IntN.{ℤ, pos, negℤ, _+ℤ_, _-ℤ_, +ℤ-idr, +ℤ-assoc, pos-+ℤ-pos, negℤ-+ℤ}
 use lib.Signed.{mag}
@@ -14,12 +14,13 @@ use Rattle.lists.specs.Sum.{between, weigh}
 use Rattle.lists.specs.Fill.{table}
 use Rattle.lists.proofs.Differences.{mag-up, mag-down}
 use Rattle.lists.proofs.Sums.{between-none, between-more}
-use Rattle.lists.proofs.Tables.{table-at, table-ext, table-of, table-set, length-table}
+use Rattle.lists.proofs.Tables.{table-at, table-ext, table-of, table-set}
 use Rattle.imbalance.specs.Load.{part}
 use Rattle.imbalance.specs.Limit.{mostWeight}
 use Rattle.topology.specs.Graph.{Graph, first, past, neighbour, weight, arcs, joins}
+use Rattle.topology.proofs.RowWalks.{Walk, row-of, enters, further, over, counts}
 use Rattle.kernighan_lin_pass.specs.Gain.{told}
-use Rattle.kernighan_lin_pass.specs.inner.Steps.{Fit, Within}
+use Rattle.kernighan_lin_pass.specs.inner.Steps.{Fit, Within, tellBound}
 use Rattle.kernighan_lin_pass.proofs.Sizes.{part-small}
 
 -- z told a weight of j, added or taken away
@@ -42,84 +43,69 @@ shift-more false z j w k e =
     +ℤ-assoc z (negℤ (pos (2 * j))) (negℤ (pos (2 * w)))
     ∙ ap (λ (y : ℤ). z +ℤ y) (sym (negℤ-+ℤ (pos (2 * j)) (pos (2 * w))) ∙ ap negℤ (pos-+ℤ-pos (2 * j) (2 * w) ∙ ap pos q))
 
-pub shift-small : (t : Bool) (z : ℤ) (j m : ℕ) → mag z ≤ m → j ≤ mostWeight → mag (shift t z j) ≤ m + 4294967294
+pub shift-small : (t : Bool) (z : ℤ) (j m : ℕ) → mag z ≤ m → j ≤ mostWeight → mag (shift t z j) ≤ m + tellBound
 shift-small true z j m h l = omega (arith, mag-up z (2 * j))
 shift-small false z j m h l = omega (arith, mag-down z (2 * j))
 
--- the weight of v's arcs before e to u
+-- the weight of the arcs from a up to e that go to u
 abbrev joinsTo : Graph → ℕ → ℕ → ℕ → ℕ
-joinsTo g v e u = between (first g v) e (λ i. weigh (eqb (neighbour g i) u) (weight g i))
+joinsTo g a e u = between a e (counts g (λ x. eqb x u))
 
-abbrev toldTo : Graph → List ℕ → ℕ → List ℤ → ℕ → ℕ → ℤ
-toldTo g p v gains e u = shift (eqb (part p u) (part p v)) (getD gains u (pos 0)) (joinsTo g v e u)
+abbrev toldTo : Graph → List ℕ → ℕ → List ℤ → ℕ → ℕ → ℕ → ℤ
+toldTo g p v gains a e u = shift (eqb (part p u) (part p v)) (getD gains u (pos 0)) (joinsTo g a e u)
 
--- the arcs before e have told
-pub record Telling (g : Graph) (p : List ℕ) (v : ℕ) (gains₀ : List ℤ) (end e : ℕ) (gains : List ℤ) : Type 0 where
-  pub end-is : end ≡ past g v
-  pub from : first g v ≤ e
-  pub upto : e ≤ end
-  pub gains-are : gains ≡ table (length p) (toldTo g p v gains₀ e)
+-- the arcs from a up to e have told
+pub record Telling (g : Graph) (p : List ℕ) (v : ℕ) (gains₀ : List ℤ) (a b e : ℕ) (gains : List ℤ) : Type 0 where
+  pub walk : Walk (length p) (g .neighbours) a b e
+  pub long : length gains ≡ length p
+  pub gains-are : gains ≡ table (length p) (toldTo g p v gains₀ a e)
 
-module _ (g : Graph) (p : List ℕ) (v : ℕ) (gains₀ : List ℤ) (fit : Fit (length p) g) (below : v < length p) where
-  pub begins : length gains₀ ≡ length p → (end e : ℕ) → end ≡ past g v → e ≡ first g v → Telling g p v gains₀ end e gains₀
-  begins long end e q r =
-      let k = fit .rows .rise v below in
-      record {
-        end-is = q;
-        from = omega arith;
-        upto = omega arith;
-        gains-are =
-            table-of (length p) (pos 0) gains₀ long
-            ∙ table-ext (length p) (λ u. getD gains₀ u (pos 0)) (toldTo g p v gains₀ e)
-            (λ u l.
-            let none : 0 ≡ joinsTo g v e u = rw r (sym (between-none (first g v) (λ i. weigh (eqb (neighbour g i) u) (weight g i)))) in
-            shift-none (eqb (part p u) (part p v)) (getD gains₀ u (pos 0)) ∙ ap (shift (eqb (part p u) (part p v)) (getD gains₀ u (pos 0))) none);
-      }
+module _ (g : Graph) (p : List ℕ) (v : ℕ) (gains₀ : List ℤ) (fit : Fit (length p) g) (a b : ℕ) where
+  pub begins : length gains₀ ≡ length p → v < length p → a ≡ first g v → b ≡ past g v → Telling g p v gains₀ a b a gains₀
+  begins long below q r = record {
+    walk = enters (row-of (fit .rows) v a b below q r);
+    long = long;
+    gains-are =
+        table-of (length p) (pos 0) gains₀ long
+        ∙ table-ext (length p) (λ u. getD gains₀ u (pos 0)) (toldTo g p v gains₀ a a)
+        (λ u l.
+        shift-none (eqb (part p u) (part p v)) (getD gains₀ u (pos 0))
+        ∙ ap (shift (eqb (part p u) (part p v)) (getD gains₀ u (pos 0))) (sym (between-none a (counts g (λ x. eqb x u)))));
+  }
 
-  module _ (end e : ℕ) (gains : List ℤ) (inv : Telling g p v gains₀ end e gains) where
-    pub long-kept : length gains ≡ length p
-    long-kept = ap length (inv .gains-are) ∙ length-table (length p) (toldTo g p v gains₀ e)
-
+  module _ (e : ℕ) (gains : List ℤ) (inv : Telling g p v gains₀ a b e gains) where
     -- no gain grows by more than twice a row
-    pub gain-small : (m : ℕ) → Within m gains₀ → (x : ℕ) → x < length p → mag (getD gains x (pos 0)) ≤ m + 4294967294
+    pub gain-small : (m : ℕ) → Within m gains₀ → (x : ℕ) → x < length p → mag (getD gains x (pos 0)) ≤ m + tellBound
     gain-small m h x l =
-        let i = fit .rows .inside v below in
-        let q = inv .end-is in
-        let k = inv .upto in
-        rw (inv .gains-are, table-at (length p) x (pos 0) (toldTo g p v gains₀ e) l)
-        (shift-small (eqb (part p x) (part p v)) (getD gains₀ x (pos 0)) (joinsTo g v e x) m (h x) (part-small (length p) g fit (first g v) e (inv .from) (omega arith) (λ j. eqb (neighbour g j) x)))
+        let w = inv .walk in
+        rw (inv .gains-are, table-at (length p) x (pos 0) (toldTo g p v gains₀ a e) l)
+        (shift-small (eqb (part p x) (part p v)) (getD gains₀ x (pos 0)) (joinsTo g a e x) m (h x) (part-small (length p) g fit a e (w .from) (omega (arith, w .row .inside)) (λ j. eqb (neighbour g j) x)))
 
     -- arc e tells x
-    pub turn : e < end → (x w : ℕ) (y : ℤ) → x ≡ neighbour g e → x < length p → w ≡ weight g e → y ≡ getD gains x (pos 0) +ℤ arcShift (eqb (part p x) (part p v)) w → Telling g p v gains₀ end (e + 1) (set gains x y)
-    turn l x w y xs lx ws ys =
-        let f = inv .from in
-        record {
-          end-is = inv .end-is;
-          from = omega arith;
-          upto = omega arith;
-          gains-are =
-              ap (λ (z : List ℤ). set z x y) (inv .gains-are)
-              ∙ table-set (length p) x y (toldTo g p v gains₀ e) (toldTo g p v gains₀ (e + 1)) lx here other;
-        }
+    pub turn : e < b → (x w : ℕ) (y : ℤ) → x ≡ neighbour g e → x < length p → w ≡ weight g e → y ≡ getD gains x (pos 0) +ℤ arcShift (eqb (part p x) (part p v)) w → Telling g p v gains₀ a b (e + 1) (set gains x y)
+    turn l x w y xs lx ws ys = record {
+      walk = further (inv .walk) l;
+      long = length-set gains x y ∙ inv .long;
+      gains-are =
+          ap (λ (z : List ℤ). set z x y) (inv .gains-are)
+          ∙ table-set (length p) x y (toldTo g p v gains₀ a e) (toldTo g p v gains₀ a (e + 1)) lx here other;
+    }
       where
-        more : (u : ℕ) → joinsTo g v (e + 1) u ≡ joinsTo g v e u + weigh (eqb (neighbour g e) u) (weight g e)
-        more u = between-more (first g v) e (λ i. weigh (eqb (neighbour g i) u) (weight g i)) (inv .from)
+        more : (u : ℕ) → joinsTo g a (e + 1) u ≡ joinsTo g a e u + weigh (eqb (neighbour g e) u) (weight g e)
+        more u = between-more a e (counts g (λ z. eqb z u)) (inv .walk .from)
 
-        here : y ≡ toldTo g p v gains₀ (e + 1) x
+        here : y ≡ toldTo g p v gains₀ a (e + 1) x
         here =
             ys
-            ∙ ap (λ (z : ℤ). z +ℤ arcShift (eqb (part p x) (part p v)) w) (ap (λ (z : List ℤ). getD z x (pos 0)) (inv .gains-are) ∙ table-at (length p) x (pos 0) (toldTo g p v gains₀ e) lx)
-            ∙ shift-more (eqb (part p x) (part p v)) (getD gains₀ x (pos 0)) (joinsTo g v e x) w (joinsTo g v (e + 1) x)
+            ∙ ap (λ (z : ℤ). z +ℤ arcShift (eqb (part p x) (part p v)) w) (ap (λ (z : List ℤ). getD z x (pos 0)) (inv .gains-are) ∙ table-at (length p) x (pos 0) (toldTo g p v gains₀ a e) lx)
+            ∙ shift-more (eqb (part p x) (part p v)) (getD gains₀ x (pos 0)) (joinsTo g a e x) w (joinsTo g a (e + 1) x)
             (more x ∙ rw (eq-eqb (neighbour g e) x (sym xs), ws))
 
-        other : (j : ℕ) → (j ≡ x → ⊥) → toldTo g p v gains₀ e j ≡ toldTo g p v gains₀ (e + 1) j
+        other : (j : ℕ) → (j ≡ x → ⊥) → toldTo g p v gains₀ a e j ≡ toldTo g p v gains₀ a (e + 1) j
         other j ne =
             ap (shift (eqb (part p j) (part p v)) (getD gains₀ j (pos 0)))
-            (sym (more j ∙ rw (ne-eqb (neighbour g e) j (λ q. ne (sym q ∙ sym xs))) (add-zero (joinsTo g v e j))))
+            (sym (more j ∙ rw (ne-eqb (neighbour g e) j (λ q. ne (sym q ∙ sym xs))) (add-zero (joinsTo g a e j))))
 
-    pub ended : end ≤ e → gains ≡ told g p v gains₀
+    pub ended : a ≡ first g v → b ≡ past g v → b ≤ e → gains ≡ told g p v gains₀
     unfolding told joins arcs
-    ended l =
-        let k = inv .upto in
-        let q : e ≡ past g v = omega (arith, inv .end-is) in
-        rw q at (inv .gains-are)
+    ended q r l = rw (over (inv .walk) l, q, r) at (inv .gains-are)

@@ -11,11 +11,12 @@ use lib.Dec.{ltb, eqb}
 use lib.IntN.{ℤ, pos}
 use borrow.Author.Tests.{eqb-true, eqb-false}
 use Rattle.lists.proofs.Tables.{length-table}
+use Rattle.imbalance.specs.Limit.{mostVertices}
 use Rattle.topology.specs.Graph.{Graph}
 use Rattle.topology.specs.Cut.{cut}
 use Rattle.kernighan_lin_pass.specs.Gain.{added, told}
 use Rattle.kernighan_lin_pass.specs.Pass.{Setting, Swap, State, swapped, start, pair, after, next, walk}
-use Rattle.kernighan_lin_pass.specs.inner.Steps.{Fit, Within, mostGain, pairAt, codeOf, swapOf, Coded, back, Started, Ended}
+use Rattle.kernighan_lin_pass.specs.inner.Steps.{Fit, Within, freshBound, swapBound, mostSwaps, mostGain, pairAt, codeOf, swapOf, Coded, back, Started, Ended}
 use Rattle.kernighan_lin_pass.specs.declared.choose.Pair.{Pair}
 use Rattle.kernighan_lin_pass.proofs.Within.{table-within, added-within, told-within}
 use Rattle.kernighan_lin_pass.proofs.Pairs.{largest-in, pair-in}
@@ -70,7 +71,7 @@ pub record On (s : Setting) (limit : ℕ) (p₀ : List ℕ) (k : ℕ) (labels : 
   pub long : length labels ≡ length p₀
   pub gains-long : length gains ≡ length p₀
   pub locks-long : length locks ≡ length p₀
-  pub within : Within (6442450942 * k) gains
+  pub within : Within (swapBound * k) gains
   pub cur-is : cur ≡ cut (s .graph) labels
   pub best : List ℕ
   pub least-is : least ≡ cut (s .graph) best
@@ -89,7 +90,7 @@ module _ (s : Setting) (limit : ℕ) (p₀ : List ℕ) (fit : Fit (length p₀) 
         long = refl;
         gains-long = ap length (h .gains-are) ∙ length-table (length p₀) (λ u. pos 0);
         locks-long = ap length (h .locks-are) ∙ length-table (length p₀) (λ u. 0);
-        within = rw (h .gains-are) (table-within (length p₀) (6442450942 * 0) (λ u. pos 0) (λ u l. omega arith));
+        within = rw (h .gains-are) (table-within (length p₀) (swapBound * 0) (λ u. pos 0) (λ u l. omega arith));
         cur-is = h .cut-is;
         best = p₀;
         least-is = h .cut-is;
@@ -106,7 +107,7 @@ module _ (s : Setting) (limit : ℕ) (p₀ : List ℕ) (fit : Fit (length p₀) 
     pub fit-now : Fit (length labels) (s .graph)
     fit-now = rw (on .long) fit
 
-    pub gains-small : limit ≤ 2048 → Within mostGain gains
+    pub gains-small : limit ≤ mostSwaps → Within mostGain gains
     gains-small few u = let k′ = on .upto in omega (arith, on .within u)
 
     ended : (labels′ : List ℕ) → labels′ ≡ labels → here ≡ walk s limit (start s p₀) → Ended s limit p₀ labels′ codes (record { made = k; kept = kept; least = least })
@@ -129,7 +130,7 @@ module _ (s : Setting) (limit : ℕ) (p₀ : List ℕ) (fit : Fit (length p₀) 
     pub on-none : pair s labels gains locks ≡ none → Ended s limit p₀ labels codes (record { made = k; kept = kept; least = least })
     on-none e = ended labels refl (sym (walk-stop s (limit - k) here e) ∙ on .rest)
 
-    module _ (lk : k < limit) (t : Swap) (e : pair s labels gains locks ≡ some t) (few : length p₀ ≤ 4096) (room : k < length codes) where
+    module _ (lk : k < limit) (t : Swap) (e : pair s labels gains locks ≡ some t) (few : length p₀ ≤ mostVertices) (room : k < length codes) where
       abbrev labels′ : List ℕ
       labels′ = swapped labels t
 
@@ -199,7 +200,7 @@ module _ (s : Setting) (limit : ℕ) (p₀ : List ℕ) (fit : Fit (length p₀) 
               long = length-swapped labels t ∙ on .long;
               gains-long = length-told (s .graph) labels (t .one) (added (s .graph) labels gains) ∙ on .long;
               locks-long = length-set (set locks (t .one) 1) (t .two) 1 ∙ length-set locks (t .one) 1 ∙ on .locks-long;
-              within = λ u. omega (arith, told-within (s .graph) labels fit-now (6442450942 * k + 2147483648) (added (s .graph) labels gains) (added-within (s .graph) labels fit-now (6442450942 * k) gains (on .within)) (t .one) (below .0) u);
+              within = λ u. omega (arith, told-within (s .graph) labels fit-now (swapBound * k + freshBound) (added (s .graph) labels gains) (added-within (s .graph) labels fit-now (swapBound * k) gains (on .within)) (t .one) (below .0) u);
               cur-is = now;
               best = cond b labels′ (on .best);
               least-is = least′ b;

@@ -14,7 +14,7 @@ use Rattle.lists.proofs.Tables.{table-at, length-table}
 use Rattle.imbalance.specs.Load.{part}
 use Rattle.topology.specs.Graph.{Graph, joins}
 use Rattle.kernighan_lin_pass.specs.Gain.{fresh, added, told}
-use Rattle.kernighan_lin_pass.specs.inner.Steps.{Fit, Within}
+use Rattle.kernighan_lin_pass.specs.inner.Steps.{Fit, Within, freshBound, tellBound}
 use Rattle.kernighan_lin_pass.proofs.Sizes.{fresh-small, joins-small}
 use Rattle.kernighan_lin_pass.proofs.Bits.{mag-add}
 use Rattle.kernighan_lin_pass.proofs.Tells.{shift, shift-small}
@@ -28,14 +28,14 @@ table-within n m f h u = go (ltb u n) refl
     go false e = let l = ltb-false u n e in let q = length-table n f in rw (List·getD-eq-default (table n f) (pos 0) {n = u} (omega arith)) (omega arith)
 
 module _ (g : Graph) (p : List ℕ) (fit : Fit (length p) g) (m : ℕ) (gains : List ℤ) (h : Within m gains) where
-  pub added-within : Within (m + 2147483648) (added g p gains)
+  pub added-within : Within (m + freshBound) (added g p gains)
   unfolding added
   added-within =
-      table-within (length p) (m + 2147483648) (λ u. getD gains u (pos 0) +ℤ fresh g p u)
+      table-within (length p) (m + freshBound) (λ u. getD gains u (pos 0) +ℤ fresh g p u)
       (λ u l. omega (arith, mag-add (getD gains u (pos 0)) (fresh g p u), h u, fresh-small (length p) g fit u l p))
 
-  pub told-within : (v : ℕ) → v < length p → Within (m + 4294967294) (told g p v gains)
+  pub told-within : (v : ℕ) → v < length p → Within (m + tellBound) (told g p v gains)
   unfolding told
   told-within v l =
-      table-within (length p) (m + 4294967294) (λ u. shift (eqb (part p u) (part p v)) (getD gains u (pos 0)) (joins g v u))
+      table-within (length p) (m + tellBound) (λ u. shift (eqb (part p u) (part p v)) (getD gains u (pos 0)) (joins g v u))
       (λ u k. shift-small (eqb (part p u) (part p v)) (getD gains u (pos 0)) (joins g v u) m (h u) (joins-small (length p) g fit v l u))

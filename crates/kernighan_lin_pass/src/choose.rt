@@ -7,12 +7,13 @@ ghost use lib.ListN.{length};
 ghost use lib.Dec.{eqb};
 ghost use lib.IntN.{pos, _+ℤ_};
 ghost use lib.Signed.{mag, leZ};
+ghost use Rattle.imbalance.specs.Limit.{mostVertices};
 ghost use Rattle.topology.specs.Graph.{inRows};
 ghost use Rattle.kernighan_lin_pass.specs.Gain.{onSide, largest};
 ghost use Rattle.kernighan_lin_pass.specs.inner.Steps.{Fit, Within, mostGain, placeOf, setting, Chose};
 
 // Below every gain.
-const LOWEST: i64 = -4611686018427387904;
+const LOWEST: i64 = -0x4000_0000_0000_0000;
 
 // The two vertices of a swap, or the count of vertices twice where there is none.
 pub struct Pair {
@@ -41,7 +42,7 @@ fn takes(label: u32, first: u32, side: bool, lock: u8, most: i64, gain: i64) -> 
 
 // The vertex of the largest gain on a side, the last among equals; the count of vertices where there is none.
 fn largest_on(labels: &[u32], gains: &[i64], locks: &[u8], first: u32, side: bool) -> usize
-    requires { ⌜ (length (now gains) ≡ length (now labels)) × (length (now locks) ≡ length (now labels)) × (length (now labels) ≤ 4096) × Within (2 * mostGain) (now gains) ⌝ }
+    requires { ⌜ (length (now gains) ≡ length (now labels)) × (length (now locks) ≡ length (now labels)) × (length (now labels) ≤ mostVertices) × Within (2 * mostGain) (now gains) ⌝ }
     ensures { λ r. ⌜ r ≡ placeOf (length (now (labels .entry))) (largest (λ v. true) first side (now (labels .entry)) (now (gains .entry)) (now (locks .entry))) ⌝ }
 {
     let mut at = labels.len();

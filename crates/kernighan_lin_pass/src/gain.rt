@@ -1,10 +1,7 @@
 // The gains of a pass. Document 01, "KL": fresh gains are added at every swap, and the neighbours of a taken vertex are told.
 ghost use mathlib.Core.Path.{_≡_};
-ghost use mathlib.Core.Bool.{cond};
-ghost use Prim.Native.Nat.{_+_, _*_, _<_};
+ghost use Prim.Native.Nat.{_*_, _<_};
 ghost use lib.ListN.{length};
-ghost use lib.Dec.{eqb};
-ghost use lib.IntN.{pos, negℤ};
 ghost use Rattle.topology.specs.Graph.{inRows};
 ghost use Rattle.kernighan_lin_pass.specs.Gain.{fresh, added, told};
 ghost use Rattle.kernighan_lin_pass.specs.inner.Steps.{Fit, Within, mostGain};

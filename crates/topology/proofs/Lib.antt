@@ -4,9 +4,9 @@ pub mod Rises
 pub mod Rules
 pub mod Lookups
 pub mod Numbers
-pub mod Cuts
 pub mod Arounds
-pub mod Rowsums
+pub mod RowWalks
+pub mod GainSums
 pub mod Pairs
 pub mod Moves
 pub mod Gains

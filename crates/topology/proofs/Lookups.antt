@@ -10,8 +10,9 @@ use borrow.Author.Tests.{eq-eqb, ne-eqb, ltb-true, ltb-false}
 use Rattle.lists.proofs.Alls.{some-from-only, some-from-none}
 use Rattle.topology.specs.Graph.{Graph, first, past, neighbour, weight}
 use Rattle.topology.specs.Rule.{rowsOk, hasArc, Rows}
-use Rattle.topology.specs.inner.Lookup.{Rises, Halved}
+use Rattle.topology.specs.inner.Lookup.{Rises, Halved, Answerable}
 use Rattle.topology.proofs.Rises.{row-rises}
+use Rattle.topology.proofs.RowWalks.{row-of}
 
 -- a and b close in on the place: below u before a, u or above from b on
 pub record Halving (ns : List ℕ) (lo hi u a b : ℕ) : Type 0 where
@@ -102,9 +103,10 @@ module _
       pub settled : x ≡ u → (b : Bool) → b ≡ eqb (weight g r) w → b ≡ hasArc g v u w
       settled q b e = e ∙ rw (eq-eqb (neighbour g r) u (sym x-is ∙ q)) at at-place
 
--- what looking up in row v asks, of a graph that keeps the row rules, where arc e goes to v
-pub asked : (n : ℕ) (g : Graph) → Rows n g → rowsOk n g ≡ true → (e v : ℕ) → e < length (g .neighbours) → v ≡ neighbour g e → (v + 1 < length (g .starts)) × Rises (g .neighbours) (first g v) (past g v) × (length (g .weights) ≡ length (g .neighbours))
-asked n g ok rows e v l q =
-    let b = ok .below e l in
-    let k = ok .counted in
-    (omega arith, row-rises n g rows v (omega arith) ok, ok .paired)
+-- what looking up the opposites of row u asks, of a graph that keeps the row rules
+pub answerable :
+    {n : ℕ} {g : Graph} → Rows n g → rowsOk n g ≡ true → (u lo hi : ℕ) → u < n → lo ≡ first g u → hi ≡ past g u
+    → Answerable (g .starts) (g .neighbours) (g .weights) lo hi
+answerable {n} {g} ok rows u lo hi l p q =
+    let k : n ≡ length (g .starts) - 1 = omega (arith, ok .counted) in
+    record { row = rw k at (row-of ok u lo hi l p q); rises = λ v b. row-rises n g rows v (omega (arith, ok .counted)) ok; paired = ok .paired }

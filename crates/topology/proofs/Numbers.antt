@@ -18,7 +18,9 @@ use Rattle.imbalance.proofs.Limits.{light-total}
 use Rattle.topology.specs.Graph.{Graph, first, past}
 use Rattle.topology.specs.Rule.{misfit, oversize, fallsNot, startsOk, rowsOk, rowOk, answered, rowsNumber, graphNumber, Rows, Symmetric, Sound}
 use Rattle.topology.specs.Number.{edgeCutNumber, lambdaCutNumber, answerOf}
+use Rattle.topology.specs.inner.Row.{RowsAlone}
 use Rattle.topology.proofs.Starts.{start-rises, start-inside}
+use Rattle.topology.proofs.RowWalks.{each-row}
 use Rattle.topology.proofs.Rules.{arc-below, symmetric}
 
 -- every place below the last start is in some row
@@ -96,9 +98,9 @@ edge-cut-asked g labels r e z =
     rows-number-zero (length labels) g (or-else-zero (rowsNumber (length labels) g) (cond (heavy (g .weights)) 5 (cond (labelAbove 15 labels) 6 0)) (sym e ∙ z) .0) .0
 
 -- number 0 of the stand-alone lambda cut
-pub lambda-cut-asked : (g : Graph) (weights labels : List ℕ) (r : ℕ) → r ≡ lambdaCutNumber g weights labels → r ≡ 0 → Rows (length labels) g × Loadable weights labels
+pub lambda-cut-asked : (g : Graph) (weights labels : List ℕ) (r : ℕ) → r ≡ lambdaCutNumber g weights labels → r ≡ 0 → RowsAlone (length labels) (g .starts) (g .neighbours) × Loadable weights labels
 unfolding lambdaCutNumber
 lambda-cut-asked g weights labels r e z =
     let both = or-else-zero (graphNumber (length labels) weights g) (cond (labelAbove 15 labels) 6 0) (sym e ∙ z) in
     let s = sound (length labels) weights g (both .0) in
-    (s .rows, record { paired = s .weighed; few = s .rows .few; light = s .light; named = not-given (labelAbove 15 labels) 5 0 (both .1) .0 })
+    (each-row (s .rows), record { paired = s .weighed; few = s .rows .few; light = s .light; named = not-given (labelAbove 15 labels) 5 0 (both .1) .0 })

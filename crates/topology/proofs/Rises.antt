@@ -1,33 +1,16 @@
--- What the row rules say of a row: its arcs are within the lists, each keeps its rule, and the neighbours rise strictly. Assumes nothing.
+-- What the row rules say of a row: each arc keeps its rule, and the neighbours rise strictly. Assumes nothing.
 use mathlib.Core.Path.{_≡_, refl}
 use mathlib.Core.Bool.{Bool, true, false, not, _&&_, _||_}
 use Prim.Native.Nat.{ℕ, zero, suc, _-_, _≤_, _<_}
 use native.Mathlib.Omega.{arith}
-use lib.ListN.{length}
 use lib.Dec.{ltb, eqb}
 use borrow.Author.Tests.{ne-eqb, eqb-true, eqb-false, ltb-true}
 use Rattle.lists.specs.All.{all}
 use Rattle.lists.proofs.Bools.{and-right}
 use Rattle.lists.proofs.Alls.{all-at, from-at}
-use Rattle.imbalance.specs.Limit.{mostVertices, mostArcs}
 use Rattle.topology.specs.Graph.{Graph, first, past, neighbour}
 use Rattle.topology.specs.Rule.{startsOk, arcOk, rowOk, rowsOk, Rows}
 use Rattle.topology.specs.inner.Lookup.{Rises}
-
--- an arc of a row, and the vertex v that it goes to, are within the lists and the limits
-module _ (n : ℕ) (g : Graph) (ok : Rows n g) (u : ℕ) (below : u < n) (e : ℕ) (in-row : e < past g u) where
-  pub arc-inside : (e < length (g .neighbours)) × (e < length (g .weights)) × (e < mostArcs)
-  arc-inside =
-      let i = ok .inside u below in
-      let s = ok .small in
-      let p = ok .paired in
-      (omega arith, omega arith, omega arith)
-
-  pub arc-goes : (v : ℕ) → v ≡ neighbour g e → (v < n) × (v < mostVertices)
-  arc-goes v q =
-      let b = ok .below e (arc-inside .0) in
-      let f = ok .few in
-      (omega arith, omega arith)
 
 -- numbers from lo up to hi, each above the one before it: a later one is above every earlier one
 pub chain : (lo hi : ℕ) (f : ℕ → ℕ) → ((i : ℕ) → lo ≤ i → suc i < hi → f i < f (suc i)) → (i j : ℕ) → lo ≤ i → i < j → j < hi → f i < f j

@@ -1,17 +1,19 @@
 // The edge cut. Document 01, "Edge cut: each pair of different parts counted once, by its higher vertex".
 ghost use mathlib.Core.Path.{_≡_};
 ghost use mathlib.Core.Bool.{_&&_, not};
-ghost use Prim.Native.Nat.{_*_, _-_, _≤_, _<_};
+ghost use mathlib.Core.List.{[]};
+ghost use Prim.Native.Nat.{_≤_, _<_};
 ghost use lib.ListN.{length};
 ghost use lib.Dec.{ltb, eqb};
 ghost use Rattle.lists.specs.Sum.{between, weigh};
 ghost use Rattle.topology.specs.Graph.{inRows};
 ghost use Rattle.topology.specs.Rule.{Rows};
 ghost use Rattle.topology.specs.Cut.{crossing, cut};
+ghost use Rattle.topology.specs.inner.Row.{Row, wordBound, rowBound};
 
 // What an arc from u to v counts: its weight where v is lower and of another part, else 0.
 fn crossed(u: usize, v: usize, pu: u32, pv: u32, w: u32) -> u64
-    ensures { λ r. ⌜ (r ≡ weigh (ltb v u && not (eqb pv pu)) w) × (r < 4294967296) ⌝ }
+    ensures { λ r. ⌜ (r ≡ weigh (ltb v u && not (eqb pv pu)) w) × (r < wordBound) ⌝ }
 {
     if v < u {
         if pv == pu { 0 } else { w as u64 }
@@ -22,7 +24,6 @@ fn crossed(u: usize, v: usize, pu: u32, pv: u32, w: u32) -> u64
 
 // What row u counts, from arc a up to b.
 fn row_cut(
-    starts: &[u32],
     neighbours: &[u32],
     arc_weights: &[u32],
     labels: &[u32],
@@ -30,10 +31,8 @@ fn row_cut(
     a: usize,
     b: usize,
 ) -> u64
-    requires { ⌜ Rows (length (now labels)) (inRows (now starts) (now neighbours) (now «arc_weights»)) ⌝ }
-    requires { ⌜ (u < length (now labels)) × (a ≤ b) × (b ≤ length (now neighbours)) ⌝ }
-    ensures { λ r. ⌜ r ≡ between a b (crossing (inRows (now (starts .entry)) (now (neighbours .entry)) (now («arc_weights» .entry))) (now (labels .entry)) u) ⌝ }
-    ensures { λ r. ⌜ r ≤ 4294967296 * (b - a) ⌝ }
+    requires { ⌜ Row (length (now labels)) (now neighbours) a b × (length (now «arc_weights») ≡ length (now neighbours)) × (u < length (now labels)) ⌝ }
+    ensures { λ r. ⌜ (r ≡ between a b (crossing (inRows [] (now (neighbours .entry)) (now («arc_weights» .entry))) (now (labels .entry)) u)) × (r ≤ rowBound) ⌝ }
 {
     let mut sum: u64 = 0;
     let mut e = a;
@@ -55,7 +54,7 @@ pub fn cut_of(starts: &[u32], neighbours: &[u32], arc_weights: &[u32], labels: &
     while u < labels.len() {
         let a = lists::index(starts[u]);
         let b = lists::index(starts[u + 1]);
-        sum += row_cut(starts, neighbours, arc_weights, labels, u, a, b);
+        sum += row_cut(neighbours, arc_weights, labels, u, a, b);
         u += 1;
     }
     sum

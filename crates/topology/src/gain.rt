@@ -6,10 +6,11 @@ ghost use lib.Dec.{eqb};
 ghost use Rattle.lists.specs.Sum.{weigh};
 ghost use Rattle.topology.specs.Graph.{inRows, gain, change};
 ghost use Rattle.topology.specs.Rule.{Rows};
+ghost use Rattle.topology.specs.inner.Row.{wordBound};
 
 // An arc's weight where it goes into part t, else 0.
 pub fn counted(p: u32, t: u32, w: u32) -> u64
-    ensures { λ r. ⌜ (r ≡ weigh (eqb p t) w) × (r < 4294967296) ⌝ }
+    ensures { λ r. ⌜ (r ≡ weigh (eqb p t) w) × (r < wordBound) ⌝ }
 {
     if p == t { w as u64 } else { 0 }
 }

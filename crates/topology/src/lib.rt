@@ -134,6 +134,6 @@ pub fn lambda_cut(
     if number != 0 {
         return CutAnswer { number, cut: 0 };
     }
-    let cut = lambda_of(starts, neighbours, arc_weights, weights, labels);
+    let cut = lambda_of(starts, neighbours, weights, labels);
     CutAnswer { number: 0, cut }
 }

@@ -1,12 +1,12 @@
 // Every arc has an opposite of equal weight: number 4. Document 01, "Arc u to v needs arc v to u of equal weight".
 ghost use mathlib.Core.Path.{_≡_};
 ghost use mathlib.Core.Bool.{true};
-ghost use Prim.Native.Nat.{_+_, _≤_, _<_};
+ghost use Prim.Native.Nat.{_+_, _<_};
 ghost use lib.ListN.{length, getD};
 ghost use Rattle.lists.specs.All.{allFrom};
 ghost use Rattle.topology.specs.Graph.{inRows, weight};
 ghost use Rattle.topology.specs.Rule.{rowsOk, hasArc, answered, Rows};
-ghost use Rattle.topology.specs.inner.Lookup.{Rises, Halved};
+ghost use Rattle.topology.specs.inner.Lookup.{Rises, Halved, Answerable};
 
 // The first arc from lo up to hi that goes to u or above, hi where there is none. It halves the row, which rises strictly.
 fn lowest_from(neighbours: &[u32], lo: usize, hi: usize, u: usize) -> usize
@@ -58,12 +58,11 @@ fn row_answered(
     starts: &[u32],
     neighbours: &[u32],
     arc_weights: &[u32],
-    n: usize,
     u: usize,
     lo: usize,
     hi: usize,
 ) -> bool
-    requires { ⌜ Rows n (inRows (now starts) (now neighbours) (now «arc_weights»)) × (rowsOk n (inRows (now starts) (now neighbours) (now «arc_weights»)) ≡ true) × (lo ≤ hi) × (hi ≤ length (now neighbours)) ⌝ }
+    requires { ⌜ Answerable (now starts) (now neighbours) (now «arc_weights») lo hi ⌝ }
     ensures { λ r. ⌜ r ≡ allFrom lo hi (λ e. hasArc (inRows (now (starts .entry)) (now (neighbours .entry)) (now («arc_weights» .entry))) (getD (now (neighbours .entry)) e 0) u (getD (now («arc_weights» .entry)) e 0)) ⌝ }
 {
     let mut e = lo;
@@ -87,7 +86,7 @@ pub fn answered_all(starts: &[u32], neighbours: &[u32], arc_weights: &[u32], n: 
     while u < n {
         let lo = lists::index(starts[u]);
         let hi = lists::index(starts[u + 1]);
-        let ok = row_answered(starts, neighbours, arc_weights, n, u, lo, hi);
+        let ok = row_answered(starts, neighbours, arc_weights, u, lo, hi);
         if !ok {
             return false;
         }

@@ -25,10 +25,10 @@ pub fn misfits(starts: &[u32], neighbours: &[u32], arc_weights: &[u32], n: usize
 pub fn oversized(n: usize, a: usize) -> bool
     ensures { λ r. ⌜ r ≡ oversize n a ⌝ }
 {
-    if 4096 < n {
+    if imbalance::MOST_VERTICES < n {
         return true;
     }
-    65535 < a
+    imbalance::MOST_ARCS < a
 }
 
 // Starts begin at 0, never fall and end at a.

@@ -2,13 +2,13 @@
 use mathlib.Core.Path.{_≡_}
 use mathlib.Core.Bool.{Bool, true, false, not, cond}
 use mathlib.Core.List.{List, [], _∷_}
-use Prim.Native.Nat.{ℕ, _+_, _-_, _*_, _≤_, _<_}
+use Prim.Native.Nat.{ℕ, _+_, _-_, _*_, _^_, _≤_, _<_}
 use lib.ListN.{length, getD, set}
 use lib.Dec.{ltb}
 use lib.IntN.{ℤ}
 use Rattle.lists.specs.Fill.{table}
 use Rattle.lists.specs.Sum.{total}
-use Rattle.imbalance.specs.Limit.{mostWeight, labelAbove}
+use Rattle.imbalance.specs.Limit.{mostArcs, mostWeight, labelAbove}
 use Rattle.imbalance.specs.Load.{load, loadsOf}
 use Rattle.imbalance.specs.Ceiling.{unfitChoice, ceilings}
 use Rattle.topology.specs.Graph.{Graph, inRows}
@@ -66,12 +66,13 @@ standing fits x = at (x .labels) (x .stack) (x .counts) (x .gains) (not fits)
 abbrev pub Leads : (State → State) → List ℕ → List ℕ → RunRecord → List ℕ → List ℕ → RunRecord → Bool → Type 0
 Leads f labels stack counts labels′ stack′ counts′ full = (gs : List ℤ) → (hs : List ℤ) × (f (at labels stack counts gs false) ≡ at labels′ stack′ counts′ hs full)
 
--- no count can reach 2^62: each attempt takes a vertex off the stack or lowers the cut, and a move pushes at most 65,535
+-- the attempts made and those that may come: each takes a vertex off the stack or lowers the cut, and a move pushes at most a row's neighbours
 abbrev pub spent : RunRecord → ℕ → ℕ → ℕ
-spent counts top cut₀ = counts .attempts + top + 65535 * cut₀
+spent counts top cut₀ = counts .attempts + top + mostArcs * cut₀
 
+-- no count can reach it, so none wraps
 abbrev pub most : ℕ
-most = 4611686018427387904
+most = 2 ^ 62
 
 -- What a function of the run asks: all in order, and counts far from the ends of their types even after `more` first pushes.
 pub record Asked (s : Setting) (labels stack : List ℕ) (top cut₀ : ℕ) (loads : List ℕ) (counts : RunRecord) (more : ℕ) : Type 0 where

@@ -4,6 +4,7 @@ use mathlib.Core.List.{List}
 use Prim.Native.Nat.{ℕ, _/_, _≤_, _<_}
 use lib.ListN.{length}
 use lib.IntN.{ℤ}
+use Rattle.imbalance.specs.Limit.{mostPasses}
 use Rattle.topology.specs.Graph.{Graph}
 use Rattle.topology.specs.Cut.{cut}
 use Rattle.kernighan_lin_pass.specs.Pass.{Setting}
@@ -18,7 +19,7 @@ pub record Ready (g : Graph) (p : List ℕ) (gains : List ℤ) (locks swaps : Li
   pub gains-long : length gains ≡ length p
   pub locks-long : length locks ≡ length p
   pub swaps-long : length swaps ≡ length p / 2
-  pub few-passes : passes ≤ 1024
+  pub few-passes : passes ≤ mostPasses
 
 -- What the run answers, with at most so many swaps and passes, and the labels that it leaves.
 pub record Ran (s : Setting) (most passes : ℕ) (p : List ℕ) (r : Report) (labels : List ℕ) : Type 0 where

@@ -3,13 +3,13 @@ use mathlib.Core.Path.{_≡_}
 use mathlib.Core.Bool.{true}
 use mathlib.Core.List.{List}
 use mathlib.Core.Option.{Option, none, some}
-use Prim.Native.Nat.{ℕ, zero, suc, _+_, _-_, _*_, _/_, _%_, _≤_, _<_}
+use Prim.Native.Nat.{ℕ, zero, suc, _+_, _-_, _*_, _/_, _%_, _^_, _≤_, _<_}
 use lib.ListN.{length, getD}
 use lib.IntN.{ℤ, pos}
 use lib.Signed.{mag}
 use Rattle.lists.specs.Sum.{total}
 use Rattle.lists.specs.Fill.{table}
-use Rattle.imbalance.specs.Limit.{mostWeight}
+use Rattle.imbalance.specs.Limit.{mostVertices, mostWeight}
 use Rattle.topology.specs.Graph.{Graph}
 use Rattle.topology.specs.Rule.{Rows, Symmetric}
 use Rattle.topology.specs.Cut.{cut}
@@ -28,9 +28,25 @@ pub record Fit (n : ℕ) (g : Graph) : Type 0 where
 abbrev pub Within : ℕ → List ℤ → Type 0
 Within m gains = (u : ℕ) → mag (getD gains u (pos 0)) ≤ m
 
--- 2^44: no gain of a pass reaches it
+-- what adding a fresh gain changes of a gain at most: a row's weight, and one for the sign
+abbrev pub freshBound : ℕ
+freshBound = mostWeight + 1
+
+-- what telling changes of a gain at most: twice a row's weight
+abbrev pub tellBound : ℕ
+tellBound = 2 * mostWeight
+
+-- what a swap changes of a gain at most
+abbrev pub swapBound : ℕ
+swapBound = freshBound + tellBound
+
+-- no pass makes more swaps: each takes two vertices
+abbrev pub mostSwaps : ℕ
+mostSwaps = mostVertices / 2
+
+-- no gain of a pass reaches it: mostSwaps times swapBound is less
 abbrev pub mostGain : ℕ
-mostGain = 17592186044416
+mostGain = 2 ^ 44
 
 -- the vertex, or n where there is none
 abbrev pub placeOf : ℕ → Option ℕ → ℕ
@@ -51,12 +67,15 @@ pub record Chose (s : Setting) (p : List ℕ) (before : List ℤ) (locks : List 
   pub pair-is : r ≡ pairAt (length p) (pair s p before locks)
   pub gains-are : (t : Swap) → pair s p before locks ≡ some t → gains ≡ told (s .graph) p (t .one) (added (s .graph) p before)
 
--- a swap in the lent list: first × 65,536 + second
+-- a swap in the lent list is one number: the first vertex times this, and the second, which is below it
+abbrev pub codeBase : ℕ
+codeBase = 2 ^ 16
+
 abbrev pub codeOf : Swap → ℕ
-codeOf t = t .one * 65536 + t .two
+codeOf t = t .one * codeBase + t .two
 
 abbrev pub swapOf : ℕ → Swap
-swapOf code = record { one = code / 65536; two = code % 65536 }
+swapOf code = record { one = code / codeBase; two = code % codeBase }
 
 -- the first m swaps of the list are of the n vertices
 pub record Coded (n m : ℕ) (codes : List ℕ) : Type 0 where
@@ -74,7 +93,7 @@ pub record Started (s : Setting) (p : List ℕ) (gains : List ℤ) (locks : List
   pub gains-are : gains ≡ table (length p) (λ u. pos 0)
   pub locks-are : locks ≡ table (length p) (λ u. 0)
   pub room-for : limit ≤ room
-  pub few : limit ≤ 2048
+  pub few : limit ≤ mostSwaps
   pub cut-is : before ≡ cut (s .graph) p
 
 -- What they leave: undoing the swaps from the last down to those kept gives the labels that the pass leaves.
@@ -91,4 +110,4 @@ pub record Roomy (p : List ℕ) (gains : List ℤ) (locks : List ℕ) (room limi
   pub gains-long : length gains ≡ length p
   pub locks-long : length locks ≡ length p
   pub room-for : limit ≤ room
-  pub few : limit ≤ 2048
+  pub few : limit ≤ mostSwaps

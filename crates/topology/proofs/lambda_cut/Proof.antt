@@ -1,4 +1,5 @@
 -- `topology::lambda_cut` meets its contract: a refusal, or the cut. Assumes nothing.
+use Rattle.topology.specs.Cut.{touches, partsAround, lambda}
 use Rattle.topology.specs.Number.{lambdaCutAnswer}
 use Rattle.topology.proofs.Numbers.{answer-refused, answer-done, lambda-cut-asked}
 use borrow.Author.Needs.{needs}
@@ -16,7 +17,7 @@ lambda-of-requires : tie.Need-lambda-of-requires
 lambda-of-requires c κs = lambda-cut-asked _ _ _ _ (c .before .lambda-cut-number .ensures) (c .if1 .left)
 
 returns-2 : tie.Need-returns-2
-unfolding lambdaCutAnswer
+unfolding lambdaCutAnswer lambda partsAround touches
 returns-2 c = answer-done _ _ _ _ (c .before .before .lambda-cut-number .ensures) (c .before .if1 .left) (c .lambda-of .ensures)
 
 pub lambda-cut-spec : {M : Type 1} → statement M

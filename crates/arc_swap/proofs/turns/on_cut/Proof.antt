@@ -1,15 +1,13 @@
-use Prim.Native.Nat.{_<_, _-_}
-use native.Mathlib.Omega.{arith}
-use lib.ListN.{length}
+-- `arc_swap::turns::on_cut` meets its contract. The invariant: the arcs passed lead to the vertex's own part. Assumes nothing.
+use Prim.Native.Nat.{_-_}
 use Rattle.topology.specs.Graph.{inRows}
-use Rattle.topology.proofs.Rises.{arc-inside, arc-goes}
 use Rattle.arc_swap.proofs.Taken.{Looking, begins, found, passed, nowhere}
 use borrow.Author.Needs.{needs}
 use Rattle.arc_swap.proofs.turns.on_cut.Statement.{statement}
 use Rattle.arc_swap.proofs.turns.on_cut.Tie as tie
 
 abbrev Inv-loop : tie.InvT-loop
-Inv-loop starts neighbours arc-weights labels v end e₀ e = Looking (inRows starts neighbours arc-weights) labels v end e
+Inv-loop starts neighbours arc-weights labels v end e₀ e = Looking (inRows starts neighbours arc-weights) labels v e₀ end e
 
 abbrev μ-loop : tie.MeasureT-loop
 μ-loop starts neighbours arc-weights labels v end e₀ e = end - e
@@ -36,50 +34,22 @@ index-requires-2 : tie.Need-index-requires-2 Inv-loop μ-loop
 index-requires-2 c κs = search needs
 
 loop-holds : tie.Need-loop-holds Inv-loop μ-loop
-loop-holds c =
-    let given : tie.Start Inv-loop μ-loop = search needs in
-    begins _ _ _ (given .pre .0) (given .pre .1) _ _ (c .before .before .index .ensures) (c .index2 .ensures)
-
--- the arc is one of the list's
-inside :
-    (c : tie.In-loop Inv-loop μ-loop)
-    → let given : tie.Start Inv-loop μ-loop = search needs in
-    let e = c .before .loop .e in
-    (e < length (given .args .neighbours .now)) × (e < length (given .args .arc-weights .now)) × (e < 65535)
-inside c =
-    let given : tie.Start Inv-loop μ-loop = search needs in
-    let l = c .before .loop in
-    arc-inside (length (given .args .labels .now))
-    (inRows (given .args .starts .now) (given .args .neighbours .now) (given .args .arc-weights .now)) (given .pre .0) (given .args .v)
-    (given .pre .1) (l .e) (omega (arith, c .loop-test .taken, l .inv .end-is))
-
--- and goes to a vertex
-to-vertex :
-    (c : tie.After-index3 Inv-loop μ-loop)
-    → let given : tie.Start Inv-loop μ-loop = search needs in
-    (c .index3 .result < length (given .args .labels .now)) × (c .index3 .result < 4096)
-to-vertex c =
-    let entered : tie.At-loop Inv-loop μ-loop = search needs in
-    let given : tie.Start Inv-loop μ-loop = search needs in
-    let l = entered .loop in
-    arc-goes (length (given .args .labels .now))
-    (inRows (given .args .starts .now) (given .args .neighbours .now) (given .args .arc-weights .now)) (given .pre .0) (given .args .v)
-    (given .pre .1) (l .e) (omega (arith, c .before .before .loop-test .taken, l .inv .end-is)) (c .index3 .result) (c .index3 .ensures)
+loop-holds c = search (begins, needs)
 
 mul-index-3 : tie.Need-mul-index-3 Inv-loop μ-loop
-mul-index-3 c = omega (arith, inside c .2)
+mul-index-3 c = search needs
 
 shared-slice-read-index-3 : tie.Need-shared-slice-read-index-3 Inv-loop μ-loop
-shared-slice-read-index-3 c = inside (c .before) .0
+shared-slice-read-index-3 c = search needs
 
 index-requires-3 : tie.Need-index-requires-3 Inv-loop μ-loop
 index-requires-3 c κs = search needs
 
 mul-if1 : tie.Need-mul-if1 Inv-loop μ-loop
-mul-if1 c = omega (arith, to-vertex c .1)
+mul-if1 c = search needs
 
 shared-slice-read-if1 : tie.Need-shared-slice-read-if1 Inv-loop μ-loop
-shared-slice-read-if1 c = to-vertex (c .before) .0
+shared-slice-read-if1 c = search needs
 
 mul-if1-2 : tie.Need-mul-if1-2 Inv-loop μ-loop
 mul-if1-2 c = search needs
@@ -88,10 +58,7 @@ shared-slice-read-if1-2 : tie.Need-shared-slice-read-if1-2 Inv-loop μ-loop
 shared-slice-read-if1-2 c = search needs
 
 returns : tie.Need-returns Inv-loop μ-loop
-returns c =
-    let after-index3 : tie.After-index3 Inv-loop μ-loop = search needs in
-    let turn : tie.In-loop Inv-loop μ-loop = search needs in
-    found _ _ _ _ _ (turn .before .loop .inv) (turn .loop-test .taken) _ (after-index3 .index3 .ensures) (c .if1 .taken)
+returns c = search (found, needs)
 
 add-e : tie.Need-add-e Inv-loop μ-loop
 add-e c = search needs
@@ -101,12 +68,12 @@ loop-less c = search needs
 
 loop-again : tie.Need-loop-again Inv-loop μ-loop
 loop-again c =
-    let after-index3 : tie.After-index3 Inv-loop μ-loop = search needs in
+    let goes : tie.After-index3 Inv-loop μ-loop = search needs in
     let turn : tie.In-loop Inv-loop μ-loop = search needs in
-    passed _ _ _ _ _ (turn .before .loop .inv) (turn .loop-test .taken) _ (after-index3 .index3 .ensures) (c .if1 .left)
+    passed _ _ _ _ _ _ (turn .before .loop .inv) (turn .loop-test .taken) _ (goes .index3 .ensures) (c .if1 .left)
 
 returns-2 : tie.Need-returns-2 Inv-loop μ-loop
-returns-2 c = nowhere _ _ _ _ _ (c .before .loop .inv) (c .loop-test .left)
+returns-2 c = search (nowhere, needs)
 
 pub on-cut-spec : {M : Type 1} → statement M
 on-cut-spec =

@@ -18,7 +18,10 @@ index-requires c κs = search needs
 
 -- src/gains.rt:71:16
 sums-of-requires : tie.Need-sums-of-requires
-sums-of-requires c κs = search needs
+sums-of-requires c κs =
+    let given : tie.Start = search needs in
+    let ok = given .pre .0 in
+    (ok .rows, λ u l. omega (arith, ok .named u l, ok .few), given .pre .1)
 
 -- src/gains.rt:72:9
 best-part-requires : tie.Need-best-part-requires

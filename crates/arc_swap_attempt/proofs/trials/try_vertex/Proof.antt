@@ -21,7 +21,10 @@ index-requires c κs = search needs
 
 -- src/trials.rt:27:16
 sums-of-requires : tie.Need-sums-of-requires
-sums-of-requires c κs = search needs
+sums-of-requires c κs =
+    let given : tie.Start = search needs in
+    let ok = given .pre .ok in
+    (ok .rows, λ u l. omega (arith, ok .named u l, ok .few), given .pre .here)
 
 -- src/trials.rt:28:9
 best-part-requires : tie.Need-best-part-requires

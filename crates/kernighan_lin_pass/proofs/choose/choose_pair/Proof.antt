@@ -3,7 +3,7 @@ use mathlib.Core.Path.{_≡_, refl, sym, _∙_}
 use mathlib.Core.Bool.{true, false, _&&_}
 use mathlib.Core.List.{List}
 use mathlib.Core.Option.{Option, some}
-use Prim.Native.Nat.{ℕ, _<_}
+use Prim.Native.Nat.{ℕ, _+_, _<_}
 use native.Mathlib.Omega.{arith}
 use lib.ListN.{length, getD}
 use lib.Dec.{eqb}
@@ -14,7 +14,7 @@ use mir.Syntax.{w64}
 use mir.Val.{toZ, ofZ}
 use Rattle.topology.specs.Graph.{Graph, inRows}
 use Rattle.kernighan_lin_pass.specs.Gain.{added, told, largest}
-use Rattle.kernighan_lin_pass.specs.inner.Steps.{Within, placeOf, setting}
+use Rattle.kernighan_lin_pass.specs.inner.Steps.{Within, mostGain, freshBound, tellBound, placeOf, setting}
 use Rattle.kernighan_lin_pass.proofs.Bits.{place-read}
 use Rattle.kernighan_lin_pass.proofs.Within.{added-within, told-within}
 use Rattle.kernighan_lin_pass.proofs.Pairs.{largest-in, place-none, place-some, pair-one-out, pair-two-out, pair-stops, pair-goes, chose-none, chose-some}
@@ -33,8 +33,8 @@ choice-one s = largest (λ v. true) (s .args .first) true (s .args .labels .now)
 abbrev choice-two : tie.Start → ℕ → Option ℕ
 choice-two s v = largest (λ u. true) (s .args .first) false (s .args .labels .now) (told (graph s) (s .args .labels .now) v (gains-one s)) (s .args .locks .now)
 
-within-one : (s : tie.Start) → Within 17594333528064 (gains-one s)
-within-one s = added-within (graph s) (s .args .labels .now) (s .pre .0) 17592186044416 (s .args .gains .now) (s .pre .3)
+within-one : (s : tie.Start) → Within (mostGain + freshBound) (gains-one s)
+within-one s = added-within (graph s) (s .args .labels .now) (s .pre .0) mostGain (s .args .gains .now) (s .pre .3)
 
 -- the first choice
 at-one :
@@ -70,10 +70,10 @@ told-is c =
 within-two :
     (c : tie.Else1)
     → let given : tie.Start = search needs in
-    Within 17598628495358 (told (graph given) (given .args .labels .now) (c .before .largest-on .result) (gains-one given))
+    Within (mostGain + freshBound + tellBound) (told (graph given) (given .args .labels .now) (c .before .largest-on .result) (gains-one given))
 within-two c =
     let given : tie.Start = search needs in
-    told-within (graph given) (given .args .labels .now) (given .pre .0) 17594333528064 (gains-one given) (within-one given)
+    told-within (graph given) (given .args .labels .now) (given .pre .0) (mostGain + freshBound) (gains-one given) (within-one given)
     (c .before .largest-on .result) (one c .1)
 
 -- the second choice
@@ -114,7 +114,7 @@ g-is c =
     let after-largest-on : tie.After-largest-on = search needs in
     let after-add-fresh : tie.After-add-fresh = search needs in
     let given : tie.Start = search needs in
-    place-read _ _ (after-largest-on .largest-on .result) 17594333528064 (after-add-fresh .add-fresh .ensures) (within-one given) (omega arith)
+    place-read _ _ (after-largest-on .largest-on .result) (mostGain + freshBound) (after-add-fresh .add-fresh .ensures) (within-one given) (omega arith)
 
 h-is :
     (c : tie.After-h)
@@ -127,7 +127,7 @@ h-is :
 h-is c =
     let after-tell : tie.After-tell = search needs in
     let else1 : tie.Else1 = search needs in
-    place-read _ _ (c .before .before .largest-on2 .result) 17598628495358 (told-is after-tell) (within-two else1) (omega arith)
+    place-read _ _ (c .before .before .largest-on2 .result) (mostGain + freshBound + tellBound) (told-is after-tell) (within-two else1) (omega arith)
 
 stop-is :
     (c : tie.After-stops)

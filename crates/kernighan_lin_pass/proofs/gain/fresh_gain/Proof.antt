@@ -1,58 +1,31 @@
 -- `kernighan_lin_pass::gain::fresh_gain` meets its contract. The invariant: the two sums are those of the arcs passed. Assumes nothing.
+use mathlib.Core.Bool.{not}
 use mathlib.Core.Logic.{⊎-elim}
-use Prim.Native.Nat.{_-_, _^_, _<_}
+use Prim.Native.Nat.{_-_, _<_}
 use native.Mathlib.Omega.{arith}
 use lib.ListN.{length}
+use lib.Dec.{eqb}
 use borrow.Author.Needs.{needs}
+use borrow.Author.Tests.{eq-eqb, ne-eqb}
 use Rattle.lists.proofs.Differences as differences
-use Rattle.topology.specs.Graph.{Graph, inRows}
-use Rattle.topology.proofs.Rises.{arc-inside, arc-goes}
-use Rattle.kernighan_lin_pass.proofs.Freshes.{Sums, begins, turn-here, turn-there, small, answers}
+use Rattle.imbalance.specs.Load.{part}
+use Rattle.topology.specs.Graph.{inRows, into}
+use Rattle.topology.specs.inner.Row.{wordBound}
+use Rattle.topology.proofs.RowWalks.{further, one-summed, passed-over}
+use Rattle.topology.proofs.GainSums.{Sums, begins, within, answers}
+use Rattle.kernighan_lin_pass.specs.Gain.{fresh}
 use Rattle.kernighan_lin_pass.proofs.gain.fresh_gain.Statement.{statement}
 use Rattle.kernighan_lin_pass.proofs.gain.fresh_gain.Tie as tie
 
 abbrev Inv-loop : tie.InvT-loop
-Inv-loop starts neighbours arc-weights labels u own end e₀ there₀ here₀ e there here = Sums (inRows starts neighbours arc-weights) labels u end e there here
+Inv-loop starts neighbours arc-weights labels u own end e₀ there₀ here₀ e there here =
+    Sums (length labels) (inRows starts neighbours arc-weights) (λ v. not (eqb (part labels v) own)) (λ v. eqb (part labels v) own) e₀ end e there here
 
 abbrev μ-loop : tie.MeasureT-loop
 μ-loop starts neighbours arc-weights labels u own end e₀ there₀ here₀ e there here = end - e
 
-abbrev graph : tie.Start Inv-loop μ-loop → Graph
-graph s = inRows (s .args .starts .now) (s .args .neighbours .now) (s .args .arc-weights .now)
-
--- the arc is one of the lists
-inside :
-    (c : tie.In-loop Inv-loop μ-loop)
-    → let given : tie.Start Inv-loop μ-loop = search needs in
-    let e = c .before .loop .e in
-    (e < length (given .args .neighbours .now)) × (e < length (given .args .arc-weights .now)) × (e < 65535)
-inside c =
-    let given : tie.Start Inv-loop μ-loop = search needs in
-    let l = c .before .loop in
-    arc-inside (length (given .args .labels .now)) (graph given) (given .pre .0 .rows) (given .args .u) (given .pre .1) (l .e)
-    (omega (arith, c .loop-test .taken, l .inv .end-is))
-
--- and goes to a vertex
-goes :
-    (c : tie.After-index3 Inv-loop μ-loop)
-    → let given : tie.Start Inv-loop μ-loop = search needs in
-    (c .index3 .result < length (given .args .labels .now)) × (c .index3 .result < 4096)
-goes c =
-    let entered : tie.At-loop Inv-loop μ-loop = search needs in
-    let given : tie.Start Inv-loop μ-loop = search needs in
-    let l = entered .loop in
-    arc-goes (length (given .args .labels .now)) (graph given) (given .pre .0 .rows) (given .args .u) (given .pre .1) (l .e)
-    (omega (arith, c .before .before .loop-test .taken, l .inv .end-is)) (c .index3 .result) (c .index3 .ensures)
-
--- the sums fit an i64
-bounded : (c : tie.At-loop Inv-loop μ-loop) → (c .loop .there < 2 ^ 62) × (c .loop .here < 2 ^ 62)
-bounded c =
-    let given : tie.Start Inv-loop μ-loop = search needs in
-    small (graph given) (given .args .labels .now) (given .args .u) _ (c .loop .e) (c .loop .there) (c .loop .here) (c .loop .inv)
-    (given .pre .0 .rows) (given .pre .1)
-
 -- the weight is one of 32 bits
-weight-small : (c : tie.After-wide Inv-loop μ-loop) → c .wide .result < 4294967296
+weight-small : (c : tie.After-wide Inv-loop μ-loop) → c .wide .result < wordBound
 weight-small c =
     let entered : tie.At-loop Inv-loop μ-loop = search needs in
     omega (arith, c .wide .ensures, c .before .shared-slice-known9 .given (entered .loop .e))
@@ -87,45 +60,41 @@ index-requires-2 c κs = search needs
 loop-holds : tie.Need-loop-holds Inv-loop μ-loop
 loop-holds c =
     let given : tie.Start Inv-loop μ-loop = search needs in
-    begins (graph given) _ _ (given .pre .0 .rows) (given .pre .1) _ _ (c .before .before .index .ensures) (c .index2 .ensures)
+    begins (given .pre .0 .rows) (given .args .u) _ _ (given .pre .1) (c .index2 .ensures) (c .before .before .index .ensures)
 
 mul-index-3 : tie.Need-mul-index-3 Inv-loop μ-loop
-mul-index-3 c = omega (arith, inside c .2)
+mul-index-3 c = search needs
 
 shared-slice-read-index-3 : tie.Need-shared-slice-read-index-3 Inv-loop μ-loop
-shared-slice-read-index-3 c = inside (c .before) .0
+shared-slice-read-index-3 c = search needs
 
 index-requires-3 : tie.Need-index-requires-3 Inv-loop μ-loop
 index-requires-3 c κs = search needs
 
 mul-wide : tie.Need-mul-wide Inv-loop μ-loop
-mul-wide c = omega (arith, inside (c .before .before) .2)
+mul-wide c = search needs
 
 shared-slice-read-wide : tie.Need-shared-slice-read-wide Inv-loop μ-loop
-shared-slice-read-wide c =
-    let turn : tie.In-loop Inv-loop μ-loop = search needs in
-    inside turn .1
+shared-slice-read-wide c = search needs
 
 wide-requires : tie.Need-wide-requires Inv-loop μ-loop
 wide-requires c κs = search needs
 
 mul-if1 : tie.Need-mul-if1 Inv-loop μ-loop
-mul-if1 c = omega (arith, goes (c .before .before) .1)
+mul-if1 c = search needs
 
 shared-slice-read-if1 : tie.Need-shared-slice-read-if1 Inv-loop μ-loop
-shared-slice-read-if1 c =
-    let after-index3 : tie.After-index3 Inv-loop μ-loop = search needs in
-    goes after-index3 .0
+shared-slice-read-if1 c = search needs
 
 add-here : tie.Need-add-here Inv-loop μ-loop
 add-here c =
     let entered : tie.At-loop Inv-loop μ-loop = search needs in
-    omega (arith, bounded entered, weight-small (c .before .before))
+    omega (arith, within (entered .loop .inv), weight-small (c .before .before))
 
 add-there : tie.Need-add-there Inv-loop μ-loop
 add-there c =
     let entered : tie.At-loop Inv-loop μ-loop = search needs in
-    omega (arith, bounded entered, weight-small (c .before .before))
+    omega (arith, within (entered .loop .inv), weight-small (c .before .before))
 
 add-e : tie.Need-add-e Inv-loop μ-loop
 add-e c = search needs
@@ -135,33 +104,35 @@ loop-less c = search needs
 
 loop-again : tie.Need-loop-again Inv-loop μ-loop
 loop-again c =
-    let after-index3 : tie.After-index3 Inv-loop μ-loop = search needs in
+    let weighs : tie.After-wide Inv-loop μ-loop = search needs in
+    let goes : tie.After-index3 Inv-loop μ-loop = search needs in
     let turn : tie.In-loop Inv-loop μ-loop = search needs in
-    let given : tie.Start Inv-loop μ-loop = search needs in
-    let l = turn .before .loop in
-    let g = graph given in
+    let i = turn .before .loop .inv in
+    let on = further (i .walk) (turn .loop-test .taken) in
+    let f = i .walk .from in
+    let v = goes .index3 .ensures in
+    let w = weighs .wide .ensures in
     ⊎-elim
-    (λ w. rw (w .1, w .2) (turn-here g (given .args .labels .now) (given .args .u) _ (l .e) (l .there) (l .here) (l .inv)
-    (turn .loop-test .taken) (after-index3 .index3 .result) (c .before .before .wide .result) (after-index3 .index3 .ensures)
-    (c .before .before .wide .ensures) (weight-small (c .before .before)) (w .0 .taken)))
-    (λ w. rw (w .1, w .2) (turn-there g (given .args .labels .now) (given .args .u) _ (l .e) (l .there) (l .here) (l .inv)
-    (turn .loop-test .taken) (after-index3 .index3 .result) (c .before .before .wide .result) (after-index3 .index3 .ensures)
-    (c .before .before .wide .ensures) (weight-small (c .before .before)) (w .0 .left)))
+    (λ t.
+    let same = eq-eqb _ _ (t .0 .taken) in
+    rw (t .1, t .2) (record { walk = on; there-is = passed-over (i .there-is) f _ v (rw same); here-is = one-summed (i .here-is) f _ _ v (rw same w) (weight-small weighs) }))
+    (λ t.
+    let other = ne-eqb _ _ (t .0 .left) in
+    rw (t .1, t .2) (record { walk = on; there-is = one-summed (i .there-is) f _ _ v (rw other w) (weight-small weighs); here-is = passed-over (i .here-is) f _ v (rw other) }))
     (c .if1 .came)
 
 cast-result : tie.Need-cast-result Inv-loop μ-loop
-cast-result c = differences.small _ (omega (arith, bounded (c .before)))
+cast-result c = differences.small _ (within (c .before .loop .inv) .0)
 
 cast-result-2 : tie.Need-cast-result-2 Inv-loop μ-loop
-cast-result-2 c = differences.small _ (omega (arith, bounded (c .before)))
+cast-result-2 c = differences.small _ (within (c .before .loop .inv) .1)
 
 sub-result : tie.Need-sub-result Inv-loop μ-loop
-sub-result c = let a = bounded (c .before) in differences.read-minus-fits (c .before .loop .there) (c .before .loop .here) (omega arith) (omega arith)
+sub-result c = differences.read-minus-fits _ _ (within (c .before .loop .inv) .0) (within (c .before .loop .inv) .1)
 
 returns : tie.Need-returns Inv-loop μ-loop
-returns c =
-    let given : tie.Start Inv-loop μ-loop = search needs in
-    answers (graph given) _ _ _ _ _ _ (c .before .loop .inv) (given .pre .0 .rows) (given .pre .1) (c .loop-test .left)
+unfolding fresh into
+returns c = search (answers, needs)
 
 pub fresh-gain-spec : {M : Type 1} → statement M
 fresh-gain-spec =

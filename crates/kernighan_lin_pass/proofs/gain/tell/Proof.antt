@@ -1,6 +1,6 @@
 -- `kernighan_lin_pass::gain::tell` meets its contract. The invariant: each vertex is told the arcs passed. Assumes nothing.
-use mathlib.Core.Path.{_≡_, refl, sym, _∙_}
-use Prim.Native.Nat.{_≤_, _-_, _^_, _<_}
+use mathlib.Core.Path.{refl, sym, _∙_}
+use Prim.Native.Nat.{_+_, _*_, _-_, _^_, _≤_, _<_}
 use native.Mathlib.Omega.{arith}
 use lib.ListN.{getD, length}
 use lib.Dec.{eqb}
@@ -8,15 +8,16 @@ use lib.IntN.{pos}
 use lib.Signed.{mag}
 use borrow.Author.Needs.{needs}
 use Rattle.topology.specs.Graph.{Graph, inRows}
-use Rattle.topology.proofs.Rises.{arc-inside, arc-goes}
+use Rattle.topology.specs.inner.Row.{wordBound}
 use Rattle.topology.proofs.Gains.{twice-small}
+use Rattle.kernighan_lin_pass.specs.inner.Steps.{mostGain, tellBound}
 use Rattle.kernighan_lin_pass.proofs.Bits.{sum-fits, sum-kept}
-use Rattle.kernighan_lin_pass.proofs.Tells.{Telling, begins, turn, gain-small, long-kept, ended}
+use Rattle.kernighan_lin_pass.proofs.Tells.{Telling, begins, turn, gain-small, ended}
 use Rattle.kernighan_lin_pass.proofs.gain.tell.Statement.{statement}
 use Rattle.kernighan_lin_pass.proofs.gain.tell.Tie as tie
 
 abbrev Inv-loop : tie.InvT-loop
-Inv-loop starts neighbours arc-weights labels gains₀ v own end e₀ gains e = Telling (inRows starts neighbours arc-weights) labels v gains₀ end e gains
+Inv-loop starts neighbours arc-weights labels gains₀ v own end e₀ gains e = Telling (inRows starts neighbours arc-weights) labels v gains₀ e₀ end e gains
 
 abbrev μ-loop : tie.MeasureT-loop
 μ-loop starts neighbours arc-weights labels gains₀ v own end e₀ gains e = end - e
@@ -24,58 +25,32 @@ abbrev μ-loop : tie.MeasureT-loop
 abbrev graph : tie.Start Inv-loop μ-loop → Graph
 graph s = inRows (s .args .starts .now) (s .args .neighbours .now) (s .args .arc-weights .now)
 
--- the arc is one of the lists
-inside :
-    (c : tie.In-loop Inv-loop μ-loop)
-    → let given : tie.Start Inv-loop μ-loop = search needs in
-    let e = c .before .loop .e in
-    (e < length (given .args .neighbours .now)) × (e < length (given .args .arc-weights .now)) × (e < 65535)
-inside c =
-    let given : tie.Start Inv-loop μ-loop = search needs in
-    let l = c .before .loop in
-    arc-inside (length (given .args .labels .now)) (graph given) (given .pre .0 .rows) (given .args .v) (given .pre .2) (l .e)
-    (omega (arith, c .loop-test .taken, l .inv .end-is))
-
--- and goes to a vertex
+-- the arc goes to a vertex
 goes :
     (c : tie.After-index3 Inv-loop μ-loop)
     → let given : tie.Start Inv-loop μ-loop = search needs in
-    (c .index3 .result < length (given .args .labels .now)) × (c .index3 .result < 4096)
-goes c =
-    let entered : tie.At-loop Inv-loop μ-loop = search needs in
-    let given : tie.Start Inv-loop μ-loop = search needs in
-    let l = entered .loop in
-    arc-goes (length (given .args .labels .now)) (graph given) (given .pre .0 .rows) (given .args .v) (given .pre .2) (l .e)
-    (omega (arith, c .before .before .loop-test .taken, l .inv .end-is)) (c .index3 .result) (c .index3 .ensures)
-
-long :
-    (c : tie.At-loop Inv-loop μ-loop)
-    → let given : tie.Start Inv-loop μ-loop = search needs in
-    length (c .loop .gains) ≡ length (given .args .labels .now)
-long c =
-    let given : tie.Start Inv-loop μ-loop = search needs in
-    long-kept (graph given) (given .args .labels .now) (given .args .v) (given .args .gains .now) (given .pre .0) (given .pre .2) _
-    (c .loop .e) (c .loop .gains) (c .loop .inv)
+    c .index3 .result < length (given .args .labels .now)
+goes c = search needs
 
 -- the gain is far from the ends of the range, and so is what is added
 gain-far :
     (c : tie.After-index3 Inv-loop μ-loop)
     → let entered : tie.At-loop Inv-loop μ-loop = search needs in
-    mag (getD (entered .loop .gains) (c .index3 .result) (pos 0)) ≤ 35188667056126
+    mag (getD (entered .loop .gains) (c .index3 .result) (pos 0)) ≤ 2 * mostGain + tellBound
 gain-far c =
     let entered : tie.At-loop Inv-loop μ-loop = search needs in
     let given : tie.Start Inv-loop μ-loop = search needs in
     let l = entered .loop in
-    gain-small (graph given) (given .args .labels .now) (given .args .v) (given .args .gains .now) (given .pre .0) (given .pre .2) _ (l .e)
-    (l .gains) (l .inv) 35184372088832 (given .pre .3) (c .index3 .result) (goes c .0)
+    gain-small (graph given) (given .args .labels .now) (given .args .v) (given .args .gains .now) (given .pre .0) _ _ (l .e)
+    (l .gains) (l .inv) (2 * mostGain) (given .pre .3) (c .index3 .result) (goes c)
 
-added-far : (c : tie.After-twice Inv-loop μ-loop) → mag (c .twice .result) ≤ 8589934592
+added-far : (c : tie.After-twice Inv-loop μ-loop) → mag (c .twice .result) ≤ 2 * wordBound
 added-far c =
     let after-index3 : tie.After-index3 Inv-loop μ-loop = search needs in
     let entered : tie.At-loop Inv-loop μ-loop = search needs in
     let given : tie.Start Inv-loop μ-loop = search needs in
     let w = getD (given .args .arc-weights .now) (entered .loop .e) 0 in
-    let h : w < 4294967296 = omega (arith, c .before .before .shared-slice-known9 .given (entered .loop .e)) in
+    let h : w < wordBound = omega (arith, c .before .before .shared-slice-known9 .given (entered .loop .e)) in
     rw (c .twice .ensures) (omega (
       arith,
       twice-small w h
@@ -122,42 +97,34 @@ index-requires-2 c κs = search needs
 loop-holds : tie.Need-loop-holds Inv-loop μ-loop
 loop-holds c =
     let given : tie.Start Inv-loop μ-loop = search needs in
-    begins (graph given) _ _ _ (given .pre .0) (given .pre .2) (given .pre .1) _ _ (c .before .before .index .ensures) (c .index2 .ensures)
+    begins (graph given) _ _ _ (given .pre .0) _ _ (given .pre .1) (given .pre .2) (c .index2 .ensures) (c .before .before .index .ensures)
 
 mul-index-3 : tie.Need-mul-index-3 Inv-loop μ-loop
-mul-index-3 c = omega (arith, inside c .2)
+mul-index-3 c = search needs
 
 shared-slice-read-index-3 : tie.Need-shared-slice-read-index-3 Inv-loop μ-loop
-shared-slice-read-index-3 c = inside (c .before) .0
+shared-slice-read-index-3 c = search needs
 
 index-requires-3 : tie.Need-index-requires-3 Inv-loop μ-loop
 index-requires-3 c κs = search needs
 
 mul-g : tie.Need-mul-g Inv-loop μ-loop
-mul-g c = omega (arith, goes c .1)
+mul-g c = search needs
 
 slice-copy-out-g : tie.Need-slice-copy-out-g Inv-loop μ-loop
-slice-copy-out-g c =
-    let entered : tie.At-loop Inv-loop μ-loop = search needs in
-    rw (long entered) (goes c .0)
+slice-copy-out-g c = search needs
 
 mul-twice : tie.Need-mul-twice Inv-loop μ-loop
-mul-twice c =
-    let in-turn : tie.In-loop Inv-loop μ-loop = search needs in
-    omega (arith, inside in-turn .2)
+mul-twice c = search needs
 
 shared-slice-read-twice : tie.Need-shared-slice-read-twice Inv-loop μ-loop
-shared-slice-read-twice c =
-    let in-turn : tie.In-loop Inv-loop μ-loop = search needs in
-    inside in-turn .1
+shared-slice-read-twice c = search needs
 
 mul-twice-2 : tie.Need-mul-twice-2 Inv-loop μ-loop
-mul-twice-2 c = omega (arith, goes (c .before .before) .1)
+mul-twice-2 c = search needs
 
 shared-slice-read-twice-2 : tie.Need-shared-slice-read-twice-2 Inv-loop μ-loop
-shared-slice-read-twice-2 c =
-    let after-index3 : tie.After-index3 Inv-loop μ-loop = search needs in
-    goes after-index3 .0
+shared-slice-read-twice-2 c = search needs
 
 twice-requires : tie.Need-twice-requires Inv-loop μ-loop
 twice-requires c κs = search needs
@@ -169,15 +136,10 @@ add-gains c =
     sum-fits (getD (entered .loop .gains) (after-index3 .index3 .result) (pos 0)) (c .twice .result) (far c .0) (far c .1)
 
 mul-t29 : tie.Need-mul-t29 Inv-loop μ-loop
-mul-t29 c =
-    let after-index3 : tie.After-index3 Inv-loop μ-loop = search needs in
-    omega (arith, goes after-index3 .1)
+mul-t29 c = search needs
 
 slice-set-from-gains : tie.Need-slice-set-from-gains Inv-loop μ-loop
-slice-set-from-gains c =
-    let after-index3 : tie.After-index3 Inv-loop μ-loop = search needs in
-    let entered : tie.At-loop Inv-loop μ-loop = search needs in
-    rw (long entered) (goes after-index3 .0)
+slice-set-from-gains c = search needs
 
 add-e : tie.Need-add-e Inv-loop μ-loop
 add-e c = search needs
@@ -193,19 +155,17 @@ loop-again c =
     let l = in-turn .before .loop in
     let x = after-index3 .index3 .result in
     let kept = sum-kept (getD (l .gains) x (pos 0)) (c .twice .result) (far c .0) (far c .1) in
-    turn (graph given) (given .args .labels .now) (given .args .v) (given .args .gains .now) (given .pre .0) (given .pre .2) _ (l .e)
+    turn (graph given) (given .args .labels .now) (given .args .v) (given .args .gains .now) (given .pre .0) _ _ (l .e)
     (l .gains) (l .inv) (in-turn .loop-test .taken) x (getD (given .args .arc-weights .now) (l .e) 0) _ (after-index3 .index3 .ensures)
-    (goes after-index3 .0) refl (rw (← c .twice .ensures) kept)
+    (goes after-index3) refl (rw (← c .twice .ensures) kept)
 
 same-length : tie.Need-same-length Inv-loop μ-loop
 same-length c =
     let given : tie.Start Inv-loop μ-loop = search needs in
-    long (c .before) ∙ sym (given .pre .1)
+    c .before .loop .inv .long ∙ sym (given .pre .1)
 
 returns : tie.Need-returns Inv-loop μ-loop
-returns c =
-    let given : tie.Start Inv-loop μ-loop = search needs in
-    ended (graph given) _ _ _ (given .pre .0) (given .pre .2) _ _ _ (c .before .loop .inv) (c .loop-test .left)
+returns c = search (ended, needs)
 
 pub tell-spec : {M : Type 1} → statement M
 tell-spec =

@@ -6,15 +6,16 @@ use lib.ListN.{length}
 use Rattle.lists.specs.Sum.{sum}
 use Rattle.topology.specs.Graph.{inRows}
 use Rattle.topology.specs.Cut.{cut, rowCut}
+use Rattle.topology.specs.inner.Row.{rowBound}
 use Rattle.lists.proofs.Sums.{sum-none, sum-step}
-use Rattle.topology.proofs.Cuts.{row-at}
+use Rattle.topology.proofs.RowWalks.{row-of}
 use borrow.Author.Needs.{needs}
 use Rattle.topology.proofs.cut.cut_of.Statement.{statement}
 use Rattle.topology.proofs.cut.cut_of.Tie as tie
 
 abbrev Inv-loop : tie.InvT-loop
 Inv-loop starts neighbours arc-weights labels sum₀ u₀ sum′ u =
-    (u ≤ length labels) × (sum′ ≡ sum u (rowCut (inRows starts neighbours arc-weights) labels)) × (sum′ ≤ 281474976710656 * u)
+    (u ≤ length labels) × (sum′ ≡ sum u (rowCut (inRows starts neighbours arc-weights) labels)) × (sum′ ≤ rowBound * u)
 
 abbrev μ-loop : tie.MeasureT-loop
 μ-loop starts neighbours arc-weights labels sum₀ u₀ sum′ u = length labels - u
@@ -47,21 +48,11 @@ row-cut-requires : tie.Need-row-cut-requires Inv-loop μ-loop
 row-cut-requires c κs =
     let turn : tie.In-loop Inv-loop μ-loop = search needs in
     let given : tie.Start Inv-loop μ-loop = search needs in
-    let r = given .pre in
-    let hi = r .inside (turn .before .loop .u) (turn .loop-test .taken) in
-    let lo = r .rise (turn .before .loop .u) (turn .loop-test .taken) in
-    (r, (search needs, omega (arith, lo, c .index2 .ensures, c .before .before .index .ensures), omega (arith, hi, c .index2 .ensures)))
-
-row-small : (c : tie.After-row-cut Inv-loop μ-loop) → c .row-cut .result ≤ 281474976710656
-row-small c =
-    let turn : tie.In-loop Inv-loop μ-loop = search needs in
-    let given : tie.Start Inv-loop μ-loop = search needs in
-    let r = given .pre in
-    let hi = r .inside (turn .before .loop .u) (turn .loop-test .taken) in
-    omega (arith, hi, r .small, c .before .index2 .ensures, c .row-cut .ensures .1)
+    let low : tie.After-index Inv-loop μ-loop = search needs in
+    (row-of (given .pre) (turn .before .loop .u) _ _ (turn .loop-test .taken) (low .index .ensures) (c .index2 .ensures), search needs, search needs)
 
 add-sum : tie.Need-add-sum Inv-loop μ-loop
-add-sum c = omega (arith, row-small c)
+add-sum c = search needs
 
 add-u : tie.Need-add-u Inv-loop μ-loop
 add-u c = search needs
@@ -73,13 +64,10 @@ loop-again : tie.Need-loop-again Inv-loop μ-loop
 loop-again c =
     let after-index : tie.After-index Inv-loop μ-loop = search needs in
     let entered : tie.At-loop Inv-loop μ-loop = search needs in
-    let given : tie.Start Inv-loop μ-loop = search needs in
-    let x = given .args in (
+    let row = c .row-cut .ensures in (
       search needs,
-      sum-step (entered .loop .u) _ _ _ (entered .loop .inv .1)
-          (row-at (inRows (x .starts .now) (x .neighbours .now) (x .arc-weights .now)) (x .labels .now) (entered .loop .u) _ _ _
-          (after-index .index .ensures) (c .before .index2 .ensures) (c .row-cut .ensures .0)),
-      omega (arith, row-small c),
+      sum-step (entered .loop .u) _ _ _ (entered .loop .inv .1) (rw (after-index .index .ensures, c .before .index2 .ensures) at (row .0)),
+      omega (arith, row .1),
     )
 
 returns : tie.Need-returns Inv-loop μ-loop

@@ -1,39 +1,32 @@
 -- `topology::cut::row_cut` meets its contract: the loop's sum is that of the arcs so far. Assumes nothing.
-use mathlib.Core.Path.{_≡_, sym}
-use Prim.Native.Nat.{_-_, _*_, _≤_, _<_}
+use mathlib.Core.Bool.{Bool, not, _&&_}
+use mathlib.Core.List.{List, []}
+use Prim.Native.Nat.{ℕ, _-_}
 use native.Mathlib.Omega.{arith}
 use lib.ListN.{length}
-use Rattle.lists.specs.Sum.{between}
-use Rattle.topology.specs.Graph.{inRows}
-use Rattle.topology.specs.Cut.{crossing}
-use Rattle.lists.proofs.Sums.{between-none, between-step}
-use Rattle.topology.proofs.Cuts.{crossing-at}
+use lib.Dec.{ltb, eqb}
 use borrow.Author.Needs.{needs}
+use Rattle.imbalance.specs.Load.{part}
+use Rattle.topology.specs.Graph.{inRows}
+use Rattle.topology.proofs.RowWalks.{Walk, Summed, enters, further, over, none-summed, one-summed, summed-small}
 use Rattle.topology.proofs.cut.row_cut.Statement.{statement}
 use Rattle.topology.proofs.cut.row_cut.Tie as tie
 
+-- v is lower than u, and of another part
+abbrev crosses : List ℕ → ℕ → ℕ → Bool
+crosses labels u v = ltb v u && not (eqb (part labels v) (part labels u))
+
 abbrev Inv-loop : tie.InvT-loop
-Inv-loop starts neighbours arc-weights labels u a b sum₀ e₀ sum e =
-    (a ≤ e)
-    × (e ≤ b)
-    × (sum ≡ between a e (crossing (inRows starts neighbours arc-weights) labels u))
-    × (sum ≤ 4294967296 * (e - a))
+Inv-loop neighbours arc-weights labels u a b sum₀ e₀ sum e =
+    Walk (length labels) neighbours a b e × Summed (inRows [] neighbours arc-weights) (crosses labels u) a e sum
 
 abbrev μ-loop : tie.MeasureT-loop
-μ-loop starts neighbours arc-weights labels u a b sum₀ e₀ sum e = b - e
+μ-loop neighbours arc-weights labels u a b sum₀ e₀ sum e = b - e
 
 loop-holds : tie.Need-loop-holds Inv-loop μ-loop
-loop-holds c = (search needs, search needs, sym (between-none _ _), search needs)
-
-v-below :
-    (c : tie.After-shared-slice-known6 Inv-loop μ-loop)
-    → let given : tie.Start Inv-loop μ-loop = search needs in
-    c .before .index .result < length (given .args .labels .now)
-v-below c =
-    let entered : tie.At-loop Inv-loop μ-loop = search needs in
+loop-holds c =
     let given : tie.Start Inv-loop μ-loop = search needs in
-    let r = given .pre in
-    rw (c .before .index .ensures) (r .0 .below (entered .loop .e) (omega arith))
+    (enters (given .pre .0), none-summed (given .args .a))
 
 mul-index : tie.Need-mul-index Inv-loop μ-loop
 mul-index c = search needs
@@ -51,10 +44,10 @@ shared-slice-read-crossed : tie.Need-shared-slice-read-crossed Inv-loop μ-loop
 shared-slice-read-crossed c = search needs
 
 mul-crossed-2 : tie.Need-mul-crossed-2 Inv-loop μ-loop
-mul-crossed-2 c = record { fits = omega (arith, v-below c) }
+mul-crossed-2 c = search needs
 
 shared-slice-read-crossed-2 : tie.Need-shared-slice-read-crossed-2 Inv-loop μ-loop
-shared-slice-read-crossed-2 c = v-below (c .before)
+shared-slice-read-crossed-2 c = search needs
 
 mul-crossed-3 : tie.Need-mul-crossed-3 Inv-loop μ-loop
 mul-crossed-3 c = search needs
@@ -66,7 +59,9 @@ crossed-requires : tie.Need-crossed-requires Inv-loop μ-loop
 crossed-requires c κs = search needs
 
 add-sum : tie.Need-add-sum Inv-loop μ-loop
-add-sum c = omega (arith, c .crossed .ensures .1)
+add-sum c =
+    let entered : tie.At-loop Inv-loop μ-loop = search needs in
+    omega (arith, summed-small (entered .loop .inv .1) (entered .loop .inv .0), c .crossed .ensures .1)
 
 add-e : tie.Need-add-e Inv-loop μ-loop
 add-e c = search needs
@@ -76,23 +71,18 @@ loop-less c = search needs
 
 loop-again : tie.Need-loop-again Inv-loop μ-loop
 loop-again c =
-    let after-index : tie.After-index Inv-loop μ-loop = search needs in
-    let entered : tie.At-loop Inv-loop μ-loop = search needs in
-    let given : tie.Start Inv-loop μ-loop = search needs in
-    let x = given .args in (
-      search needs,
-      search needs,
-      between-step (x .a) (entered .loop .e) _ _ _ (entered .loop .inv .0) (entered .loop .inv .2)
-          (crossing-at (inRows (x .starts .now) (x .neighbours .now) (x .arc-weights .now)) (x .labels .now) (x .u) (entered .loop .e) _ _
-          (after-index .index .ensures) (c .crossed .ensures .0)),
-      omega (arith, c .crossed .ensures .1),
+    let goes : tie.After-index Inv-loop μ-loop = search needs in
+    let turn : tie.In-loop Inv-loop μ-loop = search needs in
+    let i = turn .before .loop .inv in
+    let x = c .crossed .ensures in (
+      further (i .0) (turn .loop-test .taken),
+      one-summed (i .1) (i .0 .from) _ _ (goes .index .ensures) (x .0) (x .1),
     )
 
 returns : tie.Need-returns Inv-loop μ-loop
 returns c =
-    let given : tie.Start Inv-loop μ-loop = search needs in
-    let e : c .before .loop .e ≡ given .args .b = omega arith in
-    (rw e at (c .before .loop .inv .2), rw e at (c .before .loop .inv .3))
+    let i = c .before .loop .inv in
+    (rw (over (i .0) (c .loop-test .left)) at (i .1 .sum-is), summed-small (i .1) (i .0))
 
 pub row-cut-spec : {M : Type 1} → statement M
 row-cut-spec =

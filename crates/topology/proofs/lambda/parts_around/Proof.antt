@@ -1,23 +1,19 @@
 -- `topology::lambda::parts_around` meets its contract. The invariant: the bytes and the count are those of the arcs passed. Assumes nothing.
 use mathlib.Core.Logic.{⊎-elim}
+use mathlib.Core.List.{[]}
 use Prim.Native.Nat.{_-_, _<_}
 use native.Mathlib.Omega.{arith}
-use lib.ListN.{length}
 use borrow.Author.Needs.{needs}
-use Rattle.topology.specs.Graph.{Graph, inRows}
-use Rattle.topology.proofs.Rises.{arc-inside, arc-goes}
-use Rattle.topology.proofs.Arounds.{Met, label-below, begins, few, turn-new, turn-known, ended}
+use Rattle.topology.specs.Graph.{inRows}
+use Rattle.topology.proofs.Arounds.{Met, begins, few, turn-new, turn-known, ended}
 use Rattle.topology.proofs.lambda.parts_around.Statement.{statement}
 use Rattle.topology.proofs.lambda.parts_around.Tie as tie
 
 abbrev Inv-loop : tie.InvT-loop
-Inv-loop starts neighbours arc-weights weights labels u end e₀ own met₀ count₀ e met count = Met (inRows starts neighbours arc-weights) labels u end e met count
+Inv-loop starts neighbours labels u end e₀ own met₀ count₀ e met count = Met (inRows starts neighbours []) labels u e₀ end e met count
 
 abbrev μ-loop : tie.MeasureT-loop
-μ-loop starts neighbours arc-weights weights labels u end e₀ own met₀ count₀ e met count = end - e
-
-abbrev graph : tie.Start Inv-loop μ-loop → Graph
-graph s = inRows (s .args .starts .now) (s .args .neighbours .now) (s .args .arc-weights .now)
+μ-loop starts neighbours labels u end e₀ own met₀ count₀ e met count = end - e
 
 add-index : tie.Need-add-index Inv-loop μ-loop
 add-index c = search needs
@@ -53,60 +49,37 @@ index-requires-3 c κs = search needs
 own-named : (c : tie.After-index3 Inv-loop μ-loop) → c .index3 .result < 16
 own-named c =
     let given : tie.Start Inv-loop μ-loop = search needs in
-    let b = label-below (given .args .weights .now) (given .args .labels .now) (given .pre .1) (given .args .u) (given .pre .2) in
-    omega (arith, b, c .index3 .ensures)
+    omega (arith, given .pre .1 (given .args .u) (given .pre .2), c .index3 .ensures)
 
 array-write-met : tie.Need-array-write-met Inv-loop μ-loop
 array-write-met c = own-named c
 
 loop-holds : tie.Need-loop-holds Inv-loop μ-loop
-loop-holds c = search (begins, own-named c, needs)
-
--- the arc is one of the lists
-inside :
-    (c : tie.In-loop Inv-loop μ-loop)
-    → let given : tie.Start Inv-loop μ-loop = search needs in
-    let e = c .before .loop .e in
-    (e < length (given .args .neighbours .now)) × (e < length (given .args .arc-weights .now)) × (e < 65535)
-inside c =
+loop-holds c =
     let given : tie.Start Inv-loop μ-loop = search needs in
-    let l = c .before .loop in
-    arc-inside (length (given .args .labels .now)) (graph given) (given .pre .0) (given .args .u) (given .pre .2) (l .e)
-    (omega (arith, c .loop-test .taken, l .inv .end-is))
+    search (begins, given .pre .0 .row (given .args .u) (given .pre .2), own-named c, needs)
 
--- and goes to a vertex
-goes :
-    (c : tie.After-index4 Inv-loop μ-loop)
-    → let given : tie.Start Inv-loop μ-loop = search needs in
-    (c .index4 .result < length (given .args .labels .now)) × (c .index4 .result < 4096)
-goes c =
-    let entered : tie.At-loop Inv-loop μ-loop = search needs in
-    let given : tie.Start Inv-loop μ-loop = search needs in
-    let l = entered .loop in
-    arc-goes (length (given .args .labels .now)) (graph given) (given .pre .0) (given .args .u) (given .pre .2) (l .e)
-    (omega (arith, c .before .before .loop-test .taken, l .inv .end-is)) (c .index4 .result) (c .index4 .ensures)
-
--- whose part is one of the sixteen
+-- the arc goes to a vertex whose part is one of the sixteen
 named : (c : tie.After-index5 Inv-loop μ-loop) → c .index5 .result < 16
 named c =
     let given : tie.Start Inv-loop μ-loop = search needs in
-    let b = label-below (given .args .weights .now) (given .args .labels .now) (given .pre .1) (c .before .before .index4 .result) (goes (c .before .before) .0) in
-    omega (arith, b, c .index5 .ensures)
+    let goes : tie.After-index4 Inv-loop μ-loop = search needs in
+    omega (arith, given .pre .1 (goes .index4 .result) (search needs), c .index5 .ensures)
 
 mul-index-4 : tie.Need-mul-index-4 Inv-loop μ-loop
-mul-index-4 c = omega (arith, inside c .2)
+mul-index-4 c = search needs
 
 shared-slice-read-index-4 : tie.Need-shared-slice-read-index-4 Inv-loop μ-loop
-shared-slice-read-index-4 c = inside (c .before) .0
+shared-slice-read-index-4 c = search needs
 
 index-requires-4 : tie.Need-index-requires-4 Inv-loop μ-loop
 index-requires-4 c κs = search needs
 
 mul-index-5 : tie.Need-mul-index-5 Inv-loop μ-loop
-mul-index-5 c = omega (arith, goes c .1)
+mul-index-5 c = search needs
 
 shared-slice-read-index-5 : tie.Need-shared-slice-read-index-5 Inv-loop μ-loop
-shared-slice-read-index-5 c = goes (c .before) .0
+shared-slice-read-index-5 c = search needs
 
 index-requires-5 : tie.Need-index-requires-5 Inv-loop μ-loop
 index-requires-5 c κs = search needs
@@ -120,7 +93,7 @@ array-write-met-2 c = named (c .before)
 add-count : tie.Need-add-count Inv-loop μ-loop
 add-count c =
     let entered : tie.At-loop Inv-loop μ-loop = search needs in
-    omega (arith, few _ _ _ _ _ _ _ (entered .loop .inv))
+    omega (arith, few _ _ _ _ _ _ _ _ (entered .loop .inv))
 
 add-e : tie.Need-add-e Inv-loop μ-loop
 add-e c = search needs
@@ -137,8 +110,8 @@ loop-again c =
     let v = after-index4 .index4 .ensures in
     let t = c .before .index5 .ensures in
     ⊎-elim
-    (λ w. rw (w .1, w .2) (turn-new _ _ _ _ _ _ _ i l _ _ v t (named (c .before)) (w .0 .taken)))
-    (λ w. rw (w .1, w .2) (turn-known _ _ _ _ _ _ _ i l _ _ v t (named (c .before)) (w .0 .left)))
+    (λ w. rw (w .1, w .2) (turn-new _ _ _ _ _ _ _ _ i l _ _ v t (named (c .before)) (w .0 .taken)))
+    (λ w. rw (w .1, w .2) (turn-known _ _ _ _ _ _ _ _ i l _ _ v t (named (c .before)) (w .0 .left)))
     (c .if1 .came)
 
 returns : tie.Need-returns Inv-loop μ-loop

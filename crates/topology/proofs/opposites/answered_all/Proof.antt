@@ -9,6 +9,7 @@ use Rattle.lists.specs.All.{all}
 use Rattle.lists.proofs.Alls.{all-none, all-more, all-fails}
 use Rattle.topology.specs.Graph.{Graph, inRows}
 use Rattle.topology.specs.Rule.{rowAnswered, answered}
+use Rattle.topology.proofs.Lookups.{answerable}
 use Rattle.topology.proofs.opposites.answered_all.Statement.{statement}
 use Rattle.topology.proofs.opposites.answered_all.Tie as tie
 
@@ -49,11 +50,8 @@ row-answered-requires : tie.Need-row-answered-requires Inv-loop μ-loop
 row-answered-requires c κs =
     let turn : tie.In-loop Inv-loop μ-loop = search needs in
     let given : tie.Start Inv-loop μ-loop = search needs in
-    let u = turn .before .loop .u in
-    let t = turn .loop-test .taken in
-    let a = given .pre .0 .rise u t in
-    let b = given .pre .0 .inside u t in
-    (given .pre .0, given .pre .1, omega (arith, a, c .before .before .index .ensures, c .index2 .ensures), omega (arith, b, c .index2 .ensures))
+    let low : tie.After-index Inv-loop μ-loop = search needs in
+    answerable (given .pre .0) (given .pre .1) (turn .before .loop .u) _ _ (turn .loop-test .taken) (low .index .ensures) (c .index2 .ensures)
 
 -- the call answers for the row itself
 learnt :

@@ -2,15 +2,15 @@
 use mathlib.Core.Path.{_≡_, sym, _∙_}
 use mathlib.Core.Bool.{Bool, true}
 use mathlib.Core.List.{List}
-use Prim.Native.Nat.{ℕ, _-_, _≤_}
-use native.Mathlib.Omega.{arith}
+use Prim.Native.Nat.{ℕ, _+_, _-_, _<_}
+use lib.ListN.{length}
 use borrow.Author.Needs.{needs}
 use borrow.Author.Tests.{not-true, not-false}
 use Rattle.lists.specs.All.{allFrom}
 use Rattle.lists.proofs.Alls.{from-none, from-more, from-fails}
 use Rattle.topology.specs.Graph.{inRows, neighbour, weight}
 use Rattle.topology.specs.Rule.{hasArc}
-use Rattle.topology.proofs.Lookups.{asked}
+use Rattle.topology.proofs.RowWalks.{Walk, enters, further, over}
 use Rattle.topology.proofs.opposites.row_answered.Statement.{statement}
 use Rattle.topology.proofs.opposites.row_answered.Tie as tie
 
@@ -19,15 +19,15 @@ abbrev test : List ℕ → List ℕ → List ℕ → ℕ → ℕ → Bool
 test starts neighbours weights u e = hasArc (inRows starts neighbours weights) (neighbour (inRows starts neighbours weights) e) u (weight (inRows starts neighbours weights) e)
 
 abbrev Inv-loop : tie.InvT-loop
-Inv-loop starts neighbours arc-weights n u lo hi e₀ e = (lo ≤ e) × (e ≤ hi) × (allFrom lo e (test starts neighbours arc-weights u) ≡ true)
+Inv-loop starts neighbours arc-weights u lo hi e₀ e = Walk (length starts - 1) neighbours lo hi e × (allFrom lo e (test starts neighbours arc-weights u) ≡ true)
 
 abbrev μ-loop : tie.MeasureT-loop
-μ-loop starts neighbours arc-weights n u lo hi e₀ e = hi - e
+μ-loop starts neighbours arc-weights u lo hi e₀ e = hi - e
 
 loop-holds : tie.Need-loop-holds Inv-loop μ-loop
 loop-holds c =
     let given : tie.Start Inv-loop μ-loop = search needs in
-    (search needs, search needs, from-none (given .args .lo) 0 _)
+    (enters (given .pre .row), from-none (given .args .lo) 0 _)
 
 mul-index : tie.Need-mul-index Inv-loop μ-loop
 mul-index c = search needs
@@ -46,12 +46,9 @@ shared-slice-read-has-arc c = search needs
 
 has-arc-requires : tie.Need-has-arc-requires Inv-loop μ-loop
 has-arc-requires c κs =
-    let turn : tie.In-loop Inv-loop μ-loop = search needs in
     let given : tie.Start Inv-loop μ-loop = search needs in
-    let l = turn .before .loop in
-    let t = turn .loop-test .taken in
-    asked (given .args .n) (inRows (given .args .starts .now) (given .args .neighbours .now) (given .args .arc-weights .now))
-    (given .pre .0) (given .pre .1) (l .e) (c .before .index .result) (omega (arith, given .pre .3)) (c .before .index .ensures)
+    let started : c .before .index .result + 1 < length (given .args .starts .now) = search needs in
+    (started, given .pre .rises _ started, given .pre .paired)
 
 -- the call answers for the arc itself
 learnt :
@@ -68,7 +65,7 @@ returns c =
     let given : tie.Start Inv-loop μ-loop = search needs in
     let l = turn .before .loop in
     sym (from-fails (given .args .lo) (given .args .hi)
-    (test (given .args .starts .now) (given .args .neighbours .now) (given .args .arc-weights .now) (given .args .u)) (l .e) (l .inv .0)
+    (test (given .args .starts .now) (given .args .neighbours .now) (given .args .arc-weights .now) (given .args .u)) (l .e) (l .inv .0 .from)
     (turn .loop-test .taken) (learnt (c .before) ∙ not-true _ (c .if1 .taken)))
 
 add-e : tie.Need-add-e Inv-loop μ-loop
@@ -79,21 +76,18 @@ loop-less c = search needs
 
 loop-again : tie.Need-loop-again Inv-loop μ-loop
 loop-again c =
-    let entered : tie.At-loop Inv-loop μ-loop = search needs in
+    let turn : tie.In-loop Inv-loop μ-loop = search needs in
     let given : tie.Start Inv-loop μ-loop = search needs in
-    let l = entered .loop in (
-      search needs,
-      search needs,
+    let l = turn .before .loop in (
+      further (l .inv .0) (turn .loop-test .taken),
       from-more (given .args .lo) (l .e) (test (given .args .starts .now) (given .args .neighbours .now) (given .args .arc-weights .now)
-          (given .args .u)) (l .inv .0) (l .inv .2) (learnt (c .before) ∙ not-false _ (c .if1 .left)),
+          (given .args .u)) (l .inv .0 .from) (l .inv .1) (learnt (c .before) ∙ not-false _ (c .if1 .left)),
     )
 
 returns-2 : tie.Need-returns-2 Inv-loop μ-loop
 returns-2 c =
-    let given : tie.Start Inv-loop μ-loop = search needs in
-    let l = c .before .loop in
-    let e : l .e ≡ given .args .hi = omega arith in
-    sym (rw e at (l .inv .2))
+    let i = c .before .loop .inv in
+    sym (rw (over (i .0) (c .loop-test .left)) at (i .1))
 
 pub row-answered-spec : {M : Type 1} → statement M
 row-answered-spec =
