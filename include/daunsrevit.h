@@ -23,7 +23,7 @@
  *
  * STACK. Nothing is on the heap. The most stack that a call takes below the caller's frame, in bytes, measured (docs/SPEED.md):
  *
- *     loads 304, edge cut 256, lambda cut 272, FM 1,024, KL 464, arc-swap 1,152, reading a plan 160, writing one 112,
+ *     loads 304, edge cut 256, lambda cut 272, FM 1,024, KL 464, arc-swap 1,152, reading a plan 160, writing one 144,
  *     self-test 2,176
  *
  * TIME. Every call ends. The checks walk each list a fixed number of times and look for each arc's opposite by halving a row. Beyond

@@ -38,7 +38,7 @@ function rt_name(line, words,   count, i, name) {
     if (line ~ /^ *(\/\/|$)/)
         return ""
     count = split(line, words, " ")
-    for (i = 1; i < count && (words[i] == "pub" || words[i] == "extern" || words[i] == "\"C\""); i++)
+    for (i = 1; i < count && (words[i] == "pub" || words[i] == "pub(crate)" || words[i] == "extern" || words[i] == "\"C\""); i++)
         ;
     if (words[i] != "fn" && words[i] != "struct" && words[i] != "enum" && words[i] != "const")
         return ""

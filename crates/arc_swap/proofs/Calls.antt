@@ -37,9 +37,9 @@ use Rattle.arc_swap.proofs.Lights.{cut-light}
 pub in-order : (p : Plan) (labels : List ℕ) (r : ℕ) → r ≡ number p labels → r ≡ 0 → InOrder p labels
 unfolding number
 in-order p labels r e z =
-    let a = or-else-zero (graphNumber (length labels) (p .weights) (graphOf p)) (cond (labelAbove 15 labels) 6 (cond (unfitChoice (p .settings .choice) (p .settings .imbalance)) 7 0)) (sym e ∙ z) in
-    let six = not-given (labelAbove 15 labels) 5 (cond (unfitChoice (p .settings .choice) (p .settings .imbalance)) 7 0) (a .1) in
-    let seven = not-given (unfitChoice (p .settings .choice) (p .settings .imbalance)) 6 0 (six .1) in
+    let a = or-else-zero (graphNumber (length labels) (p .weights) (graphOf p)) (cond (labelAbove 15 labels) 6 (cond (unfitChoice (p .settings .ceiling)) 7 0)) (sym e ∙ z) in
+    let six = not-given (labelAbove 15 labels) 5 (cond (unfitChoice (p .settings .ceiling)) 7 0) (a .1) in
+    let seven = not-given (unfitChoice (p .settings .ceiling)) 6 0 (six .1) in
     record { sound = sound (length labels) (p .weights) (graphOf p) (a .0); named = six .0; fit = seven .0 }
 
 -- the setting of a run that begins with b
@@ -48,7 +48,7 @@ set-by p stack b = settingBy (p .starts) (p .neighbours) (p .arcs) (p .weights) 
 
 module _ (p : Plan) (labels : List ℕ) (ok : InOrder p labels) where
   -- what the ceilings ask
-  pub ceilings-asked : (t k : ℕ) → t ≡ total (p .weights) → k ≡ partsOf labels → (t ≤ mostWeight) × (0 < k) × (k ≤ 16) × (unfitChoice (p .settings .choice) (p .settings .imbalance) ≡ false)
+  pub ceilings-asked : (t k : ℕ) → t ≡ total (p .weights) → k ≡ partsOf labels → (t ≤ mostWeight) × (0 < k) × (k ≤ 16) × (unfitChoice (p .settings .ceiling) ≡ false)
   ceilings-asked t k e q =
       let a = parts-few labels (ok .named) in
       let b = ok .sound .light in
@@ -58,7 +58,7 @@ module _ (p : Plan) (labels : List ℕ) (ok : InOrder p labels) where
   pub begins :
       (k n : ℕ) (loads : Loads) (t : ℕ) (ceils : Ceilings) (c : ℕ)
       → n ≡ k → k ≡ partsOf labels → loads ≡ loadsOf (p .weights) labels → t ≡ total (p .weights)
-      → ceils .at ≡ ceilings (loads .at) t k (p .settings .choice) (p .settings .whole) (p .settings .imbalance) → c ≡ cut (graphOf p) labels
+      → ceils .at ≡ ceilings (loads .at) t k (p .settings .ceiling) → c ≡ cut (graphOf p) labels
       → Begins p labels (record { parts = n; ceilings = ceils; st = record { fits = true; top = 0; cut = c; loads = loads } })
   begins k n loads t ceils c n-is k-is loads-are t-is ceils-are c-is = record {
     parts = n-is ∙ k-is;
@@ -69,7 +69,7 @@ module _ (p : Plan) (labels : List ℕ) (ok : InOrder p labels) where
   module _ (stack : List ℕ) (b : Begun) (is : Begins p labels b) where
     capped : length (b .ceilings .at) ≡ 16
     unfolding ceilings
-    capped = ap length (is .capped) ∙ length-table 16 (λ u. ceiling (table 16 (load (p .weights) labels)) (total (p .weights)) (partsOf labels) (p .settings .choice) (p .settings .whole) (p .settings .imbalance))
+    capped = ap length (is .capped) ∙ length-table 16 (λ u. ceiling (table 16 (load (p .weights) labels)) (total (p .weights)) (partsOf labels) (p .settings .ceiling))
 
     pub passes-asked : (counts : RunRecord) → counts ≡ noCounts → TurnAsked (set-by p stack b) labels stack (b .st) counts 0 × (counts ≡ noCounts) × (b .st .cut ≤ mostWeight)
     passes-asked counts none =

@@ -26,15 +26,14 @@ pub number-smallest : (p : Plan) (labels : List ℕ) → Smallest (rules p label
 unfolding number
 number-smallest p labels =
     let n = length labels in
-    let choice = p .settings .choice in
-    let e = p .settings .imbalance in
-    let own = NoneAbove 15 labels ∷ FitChoice choice e ∷ [] in
+    let asked = p .settings .ceiling in
+    let own = NoneAbove 15 labels ∷ FitChoice asked ∷ [] in
     let graph = graphRules n (p .weights) (graphOf p) in
     let k = graphNumber n (p .weights) (graphOf p) in
     smallest (rules p labels) (number p labels) tt
     (thence (rules p labels) 1 6 8 k _ (omega arith) (with-more graph own 1 6 k (omega arith) (graph-first n (p .weights) (graphOf p)))
     (tested (rules p labels) 6 8 _ (labelAbove 15 labels) (omega arith) (omega arith) (labelled 15 labels)
-    (tested (rules p labels) 7 8 0 (unfitChoice choice e) (omega arith) (omega arith) (fit-choice choice e)
+    (tested (rules p labels) 7 8 0 (unfitChoice asked) (omega arith) (omega arith) (fit-choice asked)
     (passed (rules p labels) 8))))
 
 -- "FM and arc-swap with n = 0 come before all checks: done, end 3, all else zero, nothing written but the zeroed run record."

@@ -26,7 +26,7 @@ plan =
       neighbours = grid .neighbours;
       arcs = grid .weights;
       weights = ones;
-      settings = record { choice = 2; whole = 0; imbalance = fin false 1 (negsuc 1) };
+      settings = record { ceiling = record { choice = 2; whole = 0; imbalance = fin false 1 (negsuc 1) } };
     }
 
 -- A, and a stack

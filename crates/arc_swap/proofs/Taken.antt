@@ -11,10 +11,10 @@ use borrow.Author.Tests.{eq-eqb, ne-eqb, eqb-true, eqb-false}
 use Rattle.lists.specs.All.{someFrom}
 use Rattle.lists.proofs.Alls.{some-from-empty, some-from-more, some-from-holds}
 use Rattle.imbalance.specs.Load.{part}
-use Rattle.topology.specs.Graph.{Graph, first, past, neighbour}
-use Rattle.topology.specs.Rule.{Rows}
+use Rattle.topology.specs.Graph.{Graph, inRows, first, past, neighbour}
+use Rattle.topology.specs.inner.Row.{RowsAlone}
 use Rattle.topology.specs.Cut.{cut}
-use Rattle.topology.proofs.RowWalks.{Walk, row-of, enters, further, over}
+use Rattle.topology.proofs.RowWalks.{Walk, enters, further, over}
 use Rattle.arc_swap_attempt.specs.inner.Steps.{held}
 use Rattle.arc_swap_attempt.specs.declared.Standing.{Standing}
 use Rattle.arc_swap_attempt.proofs.Stacks.{held-push, held-none}
@@ -34,8 +34,8 @@ module _ (g : Graph) (p : List ℕ) (v : ℕ) where
   away i = not (eqb (part p (neighbour g i)) (part p v))
 
   module _ (a b : ℕ) where
-    pub begins : Rows (length p) g → v < length p → a ≡ first g v → b ≡ past g v → Looking g p v a b a
-    begins ok here q r = record { walk = enters (row-of ok v a b here q r); none = some-from-empty a 0 away }
+    pub begins : RowsAlone (length p) (g .starts) (g .neighbours) → v < length p → a ≡ first g v → b ≡ past g v → Looking g p v a b a
+    begins ok here q r = record { walk = enters (rw (q, r) (ok .row v here)); none = some-from-empty a 0 away }
 
     module _ (e : ℕ) (inv : Looking g p v a b e) where
       module _ (l : e < b) (u : ℕ) (u-is : u ≡ neighbour g e) where
@@ -54,6 +54,13 @@ module _ (g : Graph) (p : List ℕ) (v : ℕ) where
       pub nowhere : a ≡ first g v → b ≡ past g v → b ≤ e → false ≡ onCut g p v
       unfolding onCut
       nowhere q r l = sym (rw (over (inv .walk) l, q, r) at (inv .none))
+
+-- a first push does not look at the arcs' weights
+pub first-weighed :
+    (starts neighbours weights labels stack : List ℕ) (v : ℕ) (c : Standing) (stack′ : List ℕ) (r : Standing)
+    → FirstDone (inRows starts neighbours []) labels stack v c stack′ r → FirstDone (inRows starts neighbours weights) labels stack v c stack′ r
+unfolding onCut
+first-weighed starts neighbours weights labels stack v c stack′ r d = record { off = d .off; full = d .full; alone = d .alone }
 
 -- ---- the turn
 module _ (s : Setting) (anyone : s .movable ≡ (λ v. true)) where

@@ -19,13 +19,13 @@ use Rattle.arc_swap.proofs.Refusals.{number-smallest}
 module _ (p : Plan) (s : Settings) (l : Lent) (same : SameSettings (p .settings) s) where
   same-number : number p (l .labels) ≡ number (withSettings p s) (l .labels)
   unfolding number
-  same-number = rw (same-fit (p .settings .choice) (p .settings .whole) (p .settings .imbalance) (s .choice) (s .whole) (s .imbalance) same)
+  same-number = rw (same-fit (p .settings .ceiling) (s .ceiling) same)
 
   -- a call that is done has a choice of 0, 1 or 2, so that the ceilings are the same
   same-run : number p (l .labels) ≡ 0 → runOf p l ≡ runOf (withSettings p s) l
   same-run z =
       let known = number-smallest p (l .labels) .kept z 7 .known in
-      let c = same-ceilings (p .settings .choice) (p .settings .whole) (p .settings .imbalance) (s .choice) (s .whole) (s .imbalance) same (table 16 (load (p .weights) (l .labels))) (total (p .weights)) (partsOf (l .labels)) known in
+      let c = same-ceilings (p .settings .ceiling) (s .ceiling) same (table 16 (load (p .weights) (l .labels))) (total (p .weights)) (partsOf (l .labels)) known in
       let t : settingOf p l ≡ settingOf (withSettings p s) l = λ i. record { graph = graphOf p; weights = p .weights; ceilings = c i; movable = λ v. true; parts = partsOf (l .labels); room = length (l .stack) } in
       ap (λ (x : Setting). run x (cut (graphOf p) (l .labels) + 1) 0 (begin (l .labels))) t
 

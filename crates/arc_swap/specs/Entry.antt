@@ -42,7 +42,7 @@ unfoldable pub number : Plan → List ℕ → ℕ
 number p labels =
     orElse (graphNumber (length labels) (p .weights) (graphOf p))
     (cond (labelAbove 15 labels) 6
-    (cond (unfitChoice (p .settings .choice) (p .settings .imbalance)) 7 0))
+    (cond (unfitChoice (p .settings .ceiling)) 7 0))
 
 -- "k is the largest label + 1, at least 2"
 unfoldable pub partsOf : List ℕ → ℕ
@@ -56,7 +56,7 @@ settingOf p l =
     record {
       graph = graphOf p;
       weights = p .weights;
-      ceilings = ceilings (table 16 (load (p .weights) (l .labels))) (total (p .weights)) (partsOf (l .labels)) (p .settings .choice) (p .settings .whole) (p .settings .imbalance);
+      ceilings = ceilings (table 16 (load (p .weights) (l .labels))) (total (p .weights)) (partsOf (l .labels)) (p .settings .ceiling);
       movable = λ v. true;
       parts = partsOf (l .labels);
       room = length (l .stack);

@@ -10,4 +10,4 @@ use Rattle.arc_swap.specs.Entry.{Plan, graphOf}
 abbrev pub rules : Plan → List ℕ → List (Type 0)
 rules p labels =
     graphRules (length labels) (p .weights) (graphOf p)
-    ++ NoneAbove 15 labels ∷ FitChoice (p .settings .choice) (p .settings .imbalance) ∷ []
+    ++ NoneAbove 15 labels ∷ FitChoice (p .settings .ceiling) ∷ []

@@ -5,7 +5,7 @@ use Rattle.arc_swap.specs.Entry.{Plan}
 
 -- two settings differ at most in what the choice does not use
 abbrev pub SameSettings : Settings → Settings → Type 0
-SameSettings s s′ = SameUsed (s .choice) (s .whole) (s .imbalance) (s′ .choice) (s′ .whole) (s′ .imbalance)
+SameSettings s s′ = SameUsed (s .ceiling) (s′ .ceiling)
 
 -- the same lists with other settings
 abbrev pub withSettings : Plan → Settings → Plan

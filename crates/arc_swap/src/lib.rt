@@ -4,7 +4,7 @@ ghost use mathlib.Core.Bool.{false};
 ghost use mathlib.Core.List.{[], _∷_};
 ghost use Prim.Native.Nat.{ℕ, _+_, _*_, _≤_};
 ghost use lib.ListN.{length, getD};
-ghost use Rattle.imbalance.specs.Limit.{labelAbove};
+ghost use Rattle.imbalance.specs.Limit.{mostWeight, labelAbove};
 ghost use Rattle.imbalance.specs.Number.{noLoads};
 ghost use Rattle.topology.specs.Cut.{cut};
 ghost use Rattle.topology.specs.Graph.{inRows};
@@ -12,12 +12,17 @@ ghost use Rattle.arc_swap.specs.Run.{noted, drain, sweep, Summed};
 ghost use Rattle.arc_swap.specs.Entry.{number, partsOf, noCounts, Swapped};
 ghost use Rattle.arc_swap.specs.inner.Steps.{settingBy, standing, most, Asked, TurnAsked, Done, endBy, PassesDone, InOrder, Begins, Ran};
 
+mod answers;
+mod number;
+mod steps;
 mod turns;
 
 use arc_swap_attempt::Standing;
 use arc_swap_attempt::Trial;
+use imbalance::Ceiling;
 use imbalance::Ceilings;
 use imbalance::Loads;
+pub use number::parts_of;
 
 // The counts of a run: attempts, and what came of them.
 #[repr(C)]
@@ -28,12 +33,10 @@ pub struct RunRecord {
     pub bad_balance: u64,
 }
 
-// The ceiling's choice, its whole number, and the imbalance.
+// What is asked of the ceiling.
 #[repr(C)]
 pub struct Settings {
-    pub choice: u32,
-    pub whole: u32,
-    pub imbalance: f64,
+    pub ceiling: Ceiling,
 }
 
 // What a call answers: document 01's number, the run's end, its passes, the first and the last cut, and the loads left.
@@ -73,40 +76,12 @@ pub struct Answered {
     pub run: RunRecord,
 }
 
-// The counts after an attempt.
-fn next_run(run: RunRecord, trial: Trial) -> RunRecord
-    requires { ⌜ Summed run × (run .attempts ≤ most) ⌝ }
-    ensures { λ r. ⌜ r ≡ noted trial run ⌝ }
-{
-    let attempts = run.attempts + 1;
-    match trial {
-        Trial::NoGain => RunRecord {
-            attempts,
-            moves: run.moves,
-            no_gain: run.no_gain + 1,
-            bad_balance: run.bad_balance,
-        },
-        Trial::BadBalance => RunRecord {
-            attempts,
-            moves: run.moves,
-            no_gain: run.no_gain,
-            bad_balance: run.bad_balance + 1,
-        },
-        Trial::Goes(_, _) => RunRecord {
-            attempts,
-            moves: run.moves + 1,
-            no_gain: run.no_gain,
-            bad_balance: run.bad_balance,
-        },
-    }
-}
-
 // One more attempt, in place.
 fn note(run: &mut RunRecord, trial: Trial)
     requires { ⌜ Summed (now run) × (now run .attempts ≤ most) ⌝ }
     ensures { λ _. ⌜ now (run .exit) ≡ noted trial (now (run .entry)) ⌝ }
 {
-    *run = next_run(*run, trial);
+    *run = steps::next_run(*run, trial);
 }
 
 // No counts: what the run record holds at a run's start.
@@ -185,7 +160,7 @@ fn sweep_all(
     let mut st = first;
     let mut v: usize = 0;
     while v < labels.len() {
-        let pushed = turns::push_first(starts, neighbours, arc_weights, labels, stack, v, st);
+        let pushed = turns::push_first(starts, neighbours, labels, stack, v, st);
         st = drain_stack(
             starts,
             neighbours,
@@ -206,19 +181,6 @@ fn sweep_all(
     st
 }
 
-// How a pass ends the run: 2 where pushes did not fit, 1 where the cut did not fall, 0 where the run goes on.
-fn end_of(before: u64, fits: bool, after: u64) -> u32
-    ensures { λ r. ⌜ r ≡ endBy before fits after ⌝ }
-{
-    if !fits {
-        return 2;
-    }
-    if before <= after {
-        return 1;
-    }
-    0
-}
-
 // Pass after pass, until one has no gain or pushes do not fit.
 fn run_passes(
     starts: &[u32],
@@ -232,7 +194,7 @@ fn run_passes(
     first: Standing,
     run: &mut RunRecord,
 ) -> Ended
-    requires { ⌜ TurnAsked (settingBy (now starts) (now neighbours) (now «arc_weights») (now weights) (ceilings .at) parts (length (now stack))) (now labels) (now stack) first (now run) 0 × (now run ≡ noCounts) × (first .cut ≤ 2147483647) ⌝ }
+    requires { ⌜ TurnAsked (settingBy (now starts) (now neighbours) (now «arc_weights») (now weights) (ceilings .at) parts (length (now stack))) (now labels) (now stack) first (now run) 0 × (now run ≡ noCounts) × (first .cut ≤ mostWeight) ⌝ }
     ensures { λ r. ⌜ PassesDone
         (settingBy (now (starts .entry)) (now (neighbours .entry)) (now («arc_weights» .entry)) (now (weights .entry)) (ceilings .at) parts (length (now (stack .entry))))
         (now (labels .entry)) (now (labels .exit)) (now (stack .exit)) (now (run .exit)) r ⌝ }
@@ -254,122 +216,10 @@ fn run_passes(
             run,
         );
         passes += 1;
-        let end = end_of(before, st.fits, st.cut);
+        let end = steps::end_of(before, st.fits, st.cut);
         if end != 0 {
             return Ended { end, passes, st };
         }
-    }
-}
-
-// The number of a call.
-fn number_of(
-    starts: &[u32],
-    neighbours: &[u32],
-    arc_weights: &[u32],
-    weights: &[u32],
-    labels: &[u32],
-    settings: Settings,
-) -> u32
-    ensures { λ r. ⌜ r ≡ number (record { starts = now (starts .entry); neighbours = now (neighbours .entry); arcs = now («arc_weights» .entry); weights = now (weights .entry); settings = settings }) (now (labels .entry)) ⌝ }
-{
-    let number = topology::graph_number(starts, neighbours, arc_weights, weights, labels.len());
-    if number != 0 {
-        return number;
-    }
-    if imbalance::label_above(labels, 15) {
-        return 6;
-    }
-    if imbalance::unfit_choice(settings.choice, settings.imbalance) {
-        return 7;
-    }
-    0
-}
-
-// The largest label + 1, at least 2.
-pub fn parts_of(labels: &[u32]) -> u32
-    requires { ⌜ labelAbove 15 (now labels) ≡ false ⌝ }
-    ensures { λ r. ⌜ r ≡ partsOf (now (labels .entry)) ⌝ }
-{
-    let mut most: u32 = 0;
-    let mut v: usize = 0;
-    while v < labels.len() {
-        if most < labels[v] {
-            most = labels[v];
-        }
-        v += 1;
-    }
-    if most == 0 {
-        return 2;
-    }
-    most + 1
-}
-
-// A report of zeros but for the number and the end.
-fn bare_report(number: u32, end: u32) -> Report
-    ensures { λ r. ⌜ r ≡ record { number = number; end = end; passes = 0; first = 0; last = 0; loads = noLoads } ⌝ }
-{
-    let loads = Loads { at: [0; 16] };
-    Report {
-        number,
-        end,
-        passes: 0,
-        first: 0,
-        last: 0,
-        loads,
-    }
-}
-
-// What a run begins with.
-fn begin_run(
-    starts: &[u32],
-    neighbours: &[u32],
-    arc_weights: &[u32],
-    weights: &[u32],
-    labels: &[u32],
-    settings: Settings,
-) -> Begun
-    requires { ⌜ InOrder (record { starts = now starts; neighbours = now neighbours; arcs = now «arc_weights»; weights = now weights; settings = settings }) (now labels) ⌝ }
-    ensures { λ r. ⌜ Begins
-        (record { starts = now (starts .entry); neighbours = now (neighbours .entry); arcs = now («arc_weights» .entry); weights = now (weights .entry); settings = settings })
-        (now (labels .entry)) r ⌝ }
-{
-    let parts = parts_of(labels);
-    let loads = imbalance::parts_load(weights, labels);
-    let total = imbalance::total_weight(weights);
-    let ceilings = imbalance::ceilings_of(
-        loads,
-        total,
-        parts,
-        settings.choice,
-        settings.whole,
-        settings.imbalance,
-    );
-    let st = Standing {
-        fits: true,
-        top: 0,
-        cut: topology::cut_of(starts, neighbours, arc_weights, labels),
-        loads,
-    };
-    Begun {
-        parts: lists::index(parts),
-        ceilings,
-        st,
-    }
-}
-
-// The report of a run from the first cut.
-fn run_report(first: u64, e: Ended) -> Report
-    ensures { λ r. ⌜ r ≡ record { number = 0; end = e .end; passes = e .passes; first = first; last = e .st .cut; loads = e .st .loads } ⌝ }
-{
-    let last = e.st;
-    let loads = last.loads;
-    Report {
-        number: 0,
-        end: e.end,
-        passes: e.passes,
-        first,
-        last: last.cut,
-        loads,
     }
 }
 
@@ -391,7 +241,7 @@ fn swap_all(
         r
         (record { labels = now (labels .exit); stack = now (stack .exit); run = now (run .exit) }) ⌝ }
 {
-    let begun = begin_run(starts, neighbours, arc_weights, weights, labels, settings);
+    let begun = steps::begin_run(starts, neighbours, arc_weights, weights, labels, settings);
     zero_run(run);
     let st = begun.st;
     let e = run_passes(
@@ -407,7 +257,7 @@ fn swap_all(
         run,
     );
     lists::clear_numbers(stack, stack.len());
-    run_report(st.cut, e)
+    answers::run_report(st.cut, e)
 }
 
 // Arc-swap, for every input: the checked call.
@@ -429,11 +279,11 @@ pub fn arc_swap(
 {
     if labels.len() == 0 {
         zero_run(run);
-        return bare_report(0, 3);
+        return answers::bare_report(0, 3);
     }
-    let number = number_of(starts, neighbours, arc_weights, weights, labels, settings);
+    let number = number::number_of(starts, neighbours, arc_weights, weights, labels, settings);
     if number != 0 {
-        return bare_report(number, 0);
+        return answers::bare_report(number, 0);
     }
     swap_all(
         starts,
@@ -457,14 +307,6 @@ fn blank_runs() -> [RunRecord; 1]
         no_gain: 0,
         bad_balance: 0,
     }]
-}
-
-// The report, and the one run record.
-fn with_counts(report: Report, runs: [RunRecord; 1]) -> Answered
-    ensures { λ r. ⌜ r ≡ record { report = report; run = getD runs 0 noCounts } ⌝ }
-{
-    let run = runs[0];
-    Answered { report, run }
 }
 
 // The checked call for callers written in Rattle, which take the counts by value.
@@ -494,5 +336,5 @@ pub fn arc_swap_counted(
         settings,
         &mut runs[0],
     );
-    with_counts(report, runs)
+    answers::with_counts(report, runs)
 }

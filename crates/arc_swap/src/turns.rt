@@ -1,9 +1,11 @@
 // What a turn is made of that leaves the run record alone: a first push, and an attempt on the vertex on top. Document 01, "Arc-swap".
 ghost use mathlib.Core.Path.{_≡_};
-ghost use Prim.Native.Nat.{_<_};
+ghost use mathlib.Core.List.{[]};
+ghost use Prim.Native.Nat.{_≤_, _<_};
 ghost use lib.ListN.{length};
+ghost use Rattle.imbalance.specs.Limit.{mostVertices};
 ghost use Rattle.topology.specs.Graph.{inRows};
-ghost use Rattle.topology.specs.Rule.{Rows};
+ghost use Rattle.topology.specs.inner.Row.{RowsAlone};
 ghost use Rattle.arc_swap.specs.Run.{onCut};
 ghost use Rattle.arc_swap.specs.inner.Steps.{settingBy, AttemptAsked, AttemptDone, FirstDone};
 use crate::Attempted;
@@ -65,9 +67,9 @@ pub fn attempt(
 }
 
 // Whether v has a neighbour in another part.
-fn on_cut(starts: &[u32], neighbours: &[u32], arc_weights: &[u32], labels: &[u32], v: usize) -> bool
-    requires { ⌜ Rows (length (now labels)) (inRows (now starts) (now neighbours) (now «arc_weights»)) × (v < length (now labels)) ⌝ }
-    ensures { λ r. ⌜ r ≡ onCut (inRows (now (starts .entry)) (now (neighbours .entry)) (now («arc_weights» .entry))) (now (labels .entry)) v ⌝ }
+fn on_cut(starts: &[u32], neighbours: &[u32], labels: &[u32], v: usize) -> bool
+    requires { ⌜ RowsAlone (length (now labels)) (now starts) (now neighbours) × (v < length (now labels)) ⌝ }
+    ensures { λ r. ⌜ r ≡ onCut (inRows (now (starts .entry)) (now (neighbours .entry)) []) (now (labels .entry)) v ⌝ }
 {
     let end = lists::index(starts[v + 1]);
     let mut e = lists::index(starts[v]);
@@ -85,16 +87,15 @@ fn on_cut(starts: &[u32], neighbours: &[u32], arc_weights: &[u32], labels: &[u32
 pub fn push_first(
     starts: &[u32],
     neighbours: &[u32],
-    arc_weights: &[u32],
     labels: &[u32],
     stack: &mut [u32],
     v: usize,
     st: Standing,
 ) -> Standing
-    requires { ⌜ Rows (length (now labels)) (inRows (now starts) (now neighbours) (now «arc_weights»)) × (v < length (now labels)) ⌝ }
-    ensures { λ r. ⌜ FirstDone (inRows (now (starts .entry)) (now (neighbours .entry)) (now («arc_weights» .entry))) (now (labels .entry)) (now (stack .entry)) v st (now (stack .exit)) r ⌝ }
+    requires { ⌜ RowsAlone (length (now labels)) (now starts) (now neighbours) × (v < length (now labels)) × (length (now labels) ≤ mostVertices) ⌝ }
+    ensures { λ r. ⌜ FirstDone (inRows (now (starts .entry)) (now (neighbours .entry)) []) (now (labels .entry)) (now (stack .entry)) v st (now (stack .exit)) r ⌝ }
 {
-    if !on_cut(starts, neighbours, arc_weights, labels, v) {
+    if !on_cut(starts, neighbours, labels, v) {
         return st;
     }
     let mut pushed = st;

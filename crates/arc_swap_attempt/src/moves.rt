@@ -1,27 +1,10 @@
 // A move: the label, the loads, the cut and the stack follow. Document 01, "Else it moves, and its neighbours whose largest gain is now positive are pushed in row order".
-ghost use mathlib.Core.Path.{_≡_};
-ghost use Prim.Native.Nat.{_+_, _-_, _≤_, _<_};
-ghost use lib.ListN.{length, getD, set};
-ghost use Rattle.imbalance.specs.Limit.{mostWeight};
+ghost use Prim.Native.Nat.{_≤_, _<_};
+ghost use lib.ListN.{length};
 ghost use Rattle.topology.specs.Graph.{inRows};
 ghost use Rattle.arc_swap_attempt.specs.inner.Steps.{Named, fresh, PushDone, MoveAsked, MoveDone};
 use crate::Pushed;
 use crate::Standing;
-use imbalance::Loads;
-
-// The loads after a vertex of weight w left one part for another: one place down and one up.
-fn moved_loads(loads: Loads, old: u32, new: u32, w: u32) -> Loads
-    requires { ⌜ (old < 16) × (new < 16) × (length (loads .at) ≡ 16) × (w ≤ getD (loads .at) old 0) × (getD (loads .at) new 0 ≤ mostWeight) ⌝ }
-    ensures { λ r. ⌜ r .at ≡ set (set (loads .at) old (getD (loads .at) old 0 - w)) new (getD (loads .at) new 0 + w) ⌝ }
-{
-    let from = lists::index(old);
-    let to = lists::index(new);
-    let at = loads.at;
-    let mut next = loads;
-    next.at[from] = at[from] - lists::wide(w);
-    next.at[to] = at[to] + lists::wide(w);
-    next
-}
 
 // The neighbours of v that gain by a move now, on top of the places held, in row order. Where one does not fit, the places held stay as they were.
 fn push_neighbours(
@@ -83,7 +66,7 @@ pub fn move_vertex(
     ensures { λ r. ⌜ MoveDone (inRows (now (starts .entry)) (now (neighbours .entry)) (now («arc_weights» .entry))) parts (now (weights .entry)) (now (labels .entry)) (now (stack .entry)) held v t (now (labels .exit)) (now (stack .exit)) r ⌝ }
 {
     let before = st.loads;
-    let loads = moved_loads(before, labels[v], t, weights[v]);
+    let loads = imbalance::moved_loads(before, labels[v], t, weights[v]);
     labels[v] = t;
     let p = push_neighbours(
         starts,

@@ -13,6 +13,7 @@ use arc_swap::RunRecord;
 use fiduccia_mattheyses::Move;
 use fiduccia_mattheyses::Report;
 use fiduccia_mattheyses::Settings;
+use imbalance::Ceiling;
 use imbalance::LoadsAnswer;
 use plan::ReadAnswer;
 use plan::WriteAnswer;
@@ -183,11 +184,16 @@ pub extern "C" fn daunsrevit_write_plan(
     target: &mut [u8],
 ) -> WriteAnswer
     ensures { λ r. ⌜ Written
-        (record { labels = now (labels .entry); weights = now (weights .entry); starts = now (starts .entry); neighbours = now (neighbours .entry); arcWeights = now («arc_weights» .entry); k = k; choice = choice; whole = whole; imbalance = imbalance })
+        (record { labels = now (labels .entry); weights = now (weights .entry); starts = now (starts .entry); neighbours = now (neighbours .entry); arcWeights = now («arc_weights» .entry); k = k; ceiling = record { choice = choice; whole = whole; imbalance = imbalance } })
         (now (target .entry))
         r
         (now (target .exit)) ⌝ }
 {
+    let asked = Ceiling {
+        choice,
+        whole,
+        imbalance,
+    };
     plan::write_plan(
         labels,
         weights,
@@ -195,9 +201,7 @@ pub extern "C" fn daunsrevit_write_plan(
         neighbours,
         arc_weights,
         k,
-        choice,
-        whole,
-        imbalance,
+        asked,
         target,
     )
 }

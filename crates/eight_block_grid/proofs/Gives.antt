@@ -145,7 +145,7 @@ swapPlanBy e =
       neighbours = grid .neighbours;
       arcs = grid .weights;
       weights = ones;
-      settings = record { choice = 2; whole = 0; imbalance = e };
+      settings = record { ceiling = record { choice = 2; whole = 0; imbalance = e } };
     }
 
 pub swap-gives : (labels numbers : List ℕ) (e : Float) (r : SwapReport.Report) (k : Swap.Lent) (x y b : Bool) →

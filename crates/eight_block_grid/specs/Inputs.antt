@@ -77,7 +77,7 @@ swapPlan =
       neighbours = grid .neighbours;
       arcs = grid .weights;
       weights = ones;
-      settings = record { choice = 2; whole = 0; imbalance = quarter };
+      settings = record { ceiling = record { choice = 2; whole = 0; imbalance = quarter } };
     }
 
 abbrev pub swapLent : Swap.Lent

@@ -4,7 +4,7 @@ use mathlib.Core.List.{List, [], _∷_}
 use Prim.Native.Nat.{ℕ, _-_}
 use lib.IntN.{ℤ, pos, negsuc}
 use lib.ListN.{replicate}
-use Rattle.lists.specs.Fill.{table}
+use Rattle.lists.specs.Fill.{table, over}
 use Rattle.imbalance.specs.Load.{part}
 use Rattle.imbalance.specs.Number.{loadsAnswer}
 use Rattle.imbalance.specs.declared.Loads.{Loads}
@@ -36,7 +36,7 @@ labels8 = 0 ∷ 0 ∷ 0 ∷ 1 ∷ 0 ∷ 1 ∷ 1 ∷ 1 ∷ []
 -- what FM leaves: the labels, the moves made and the moves rewound of its passes, and zeros everywhere else
 abbrev pub fmLeft : List ℕ → List ℕ → List ℕ → FM.Lent
 fmLeft labels made rewound =
-    record { labels = labels; gains = noGains 8; moves = blank 8; made = FM.over made (zeros 64); rewound = FM.over rewound (zeros 64) }
+    record { labels = labels; gains = noGains 8; moves = blank 8; made = over made (zeros 64); rewound = over rewound (zeros 64) }
 
 pub record TenRows : Type 0 where
   -- "1. A: cut 6, lambda 6, loads 4 and 4."

@@ -3,6 +3,7 @@ ghost use mathlib.Core.Path.{_≡_};
 ghost use mathlib.Core.Bool.{_&&_};
 ghost use lib.Signed.{leZ};
 ghost use Rattle.eight_block_grid.specs.SelfTest.{same, equalGains, sameGains, cutsGive, loadsGive, fmGives, klGives, swapGives, row1, row2, row3, row4, row5, row6, row7, row8, row9, row10, rounds, Tested};
+use imbalance::Ceiling;
 
 // 0-1-2-3, 4-5-6-7, 0-4, 1-5, 2-6, 3-7, weights 1.
 const STARTS: [u32; 9] = [0, 2, 5, 8, 10, 12, 15, 18, 20];
@@ -235,11 +236,12 @@ fn swap_gives(labels: &[u32], numbers: &[u64]) -> bool
 {
     let mut refined = A;
     let mut stack: [u32; 8] = [0; 8];
-    let s = arc_swap::Settings {
+    let ceiling = Ceiling {
         choice: 2,
         whole: 0,
         imbalance: 0.25,
     };
+    let s = arc_swap::Settings { ceiling };
     let answered = arc_swap::arc_swap_counted(
         &STARTS,
         &NEIGHBOURS,

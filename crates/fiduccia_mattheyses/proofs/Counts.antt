@@ -12,7 +12,7 @@ use Rattle.topology.specs.Cut.{cut}
 use Rattle.fiduccia_mattheyses_pass.specs.Choice.{Setting}
 use Rattle.fiduccia_mattheyses_pass.specs.Pass.{Pass, pass}
 use Rattle.fiduccia_mattheyses_pass.proofs.Keeps.{keeps-walk}
-use Rattle.fiduccia_mattheyses_pass.proofs.Limits.{few-moves}
+use Rattle.fiduccia_mattheyses_pass.proofs.MoveLimits.{few-moves}
 use Rattle.fiduccia_mattheyses.specs.Run.{Run, run}
 use Rattle.fiduccia_mattheyses.specs.Counts.{counted}
 use Rattle.fiduccia_mattheyses.proofs.Running.{mades, rewounds, run-last, run-more}

@@ -10,7 +10,7 @@ use lib.Seq.{ext-getD, getD-drop, drop-at}
 use lib.IntN.{ℤ, pos}
 use borrow.Author.Tests.{eq-eqb, ne-eqb, ltb-true, ltb-false, le-ltb}
 use Rattle.lists.specs.Sum.{total}
-use Rattle.lists.specs.Fill.{filled, table}
+use Rattle.lists.specs.Fill.{filled, table, over}
 use Rattle.lists.proofs.Bools.{or-false}
 use Rattle.lists.proofs.Numbers.{or-else-zero, not-given}
 use Rattle.lists.proofs.Alls.{some-nowhere}
@@ -19,6 +19,7 @@ use Rattle.lists.proofs.Tables.{length-table}
 use Rattle.imbalance.specs.Limit.{labelAbove}
 use Rattle.imbalance.specs.Load.{part, load, loadsOf, Loadable}
 use Rattle.imbalance.specs.Ceiling.{unfitChoice, ceilings}
+use Rattle.imbalance.specs.declared.Ceiling.{Ceiling}
 use Rattle.imbalance.specs.declared.Loads.{Loads}
 use Rattle.imbalance.proofs.Limits.{label-most}
 use Rattle.topology.specs.Rule.{graphNumber}
@@ -31,7 +32,7 @@ use Rattle.fiduccia_mattheyses.specs.declared.Move.{Move}
 use Rattle.fiduccia_mattheyses.specs.declared.Report.{Report}
 use Rattle.fiduccia_mattheyses.specs.declared.Ended.{Ended}
 use Rattle.fiduccia_mattheyses.specs.Run.{Run, run}
-use Rattle.fiduccia_mattheyses.specs.Entry.{Plan, Lent, graphOf, unfit, short, roomOf, numberOf, number, settingOf, runOf, none, refused, empty, reportOf, over, leftBy, answer, left, Refined}
+use Rattle.fiduccia_mattheyses.specs.Entry.{Plan, Lent, graphOf, askedCeiling, unfit, short, roomOf, numberOf, number, settingOf, runOf, none, refused, empty, reportOf, leftBy, answer, left, Refined}
 use Rattle.fiduccia_mattheyses.specs.inner.Steps.{settingBy, PassesAsked, PassesDone, Ready, Ran}
 
 -- ---- a call's number k is that of its checks m, unless there is no vertex
@@ -52,7 +53,7 @@ ready p l k s e z =
     let six = not-given (labelAbove 1 (l .labels)) 5 (cond (unfit (p .settings)) 7 (cond (short n q r) 8 0)) (both .1) in
     let seven = not-given (unfit (p .settings)) 6 (cond (short n q r) 8 0) (six .1) in
     let eight = not-given (short n q r) 7 0 (seven .1) in
-    let u = or-false (ltb 1024 q) (unfitChoice (p .settings .choice) (p .settings .imbalance)) (seven .0) in
+    let u = or-false (ltb 1024 q) (unfitChoice (askedCeiling (p .settings))) (seven .0) in
     let s0 = or-false (ltb (r .gains) n) (ltb (r .moves) n || (ltb (r .made) q || ltb (r .rewound) q)) (eight .0) in
     let s1 = or-false (ltb (r .moves) n) (ltb (r .made) q || ltb (r .rewound) q) (s0 .1) in
     let s2 = or-false (ltb (r .made) q) (ltb (r .rewound) q) (s1 .1) in
@@ -103,12 +104,12 @@ module _ (p : Plan) (l : Lent) (a : Ready p l) where
     named = some-nowhere n (λ v. ltb 15 (getD (l .labels) v 0)) (λ v k. (let h = two-labels v in le-ltb 15 (getD (l .labels) v 0) (omega arith)));
   }
 
-  module _ (loads : Loads) (total′ cut′ bad limit : ℕ) (ceil : List ℕ) (el : loads ≡ loadsOf (p .weights) (l .labels)) (et : total′ ≡ total (p .weights)) (ec : ceil ≡ ceilings (loads .at) total′ 2 (p .settings .choice) (p .settings .whole) (p .settings .imbalance)) (eu : cut′ ≡ cut (graphOf p) (l .labels)) (eb : bad ≡ p .settings .bad) (em : limit ≡ p .settings .moves) where
+  module _ (loads : Loads) (total′ cut′ bad limit : ℕ) (asked : Ceiling) (ceil : List ℕ) (el : loads ≡ loadsOf (p .weights) (l .labels)) (et : total′ ≡ total (p .weights)) (ea : asked ≡ askedCeiling (p .settings)) (ec : ceil ≡ ceilings (loads .at) total′ 2 asked) (eu : cut′ ≡ cut (graphOf p) (l .labels)) (eb : bad ≡ p .settings .bad) (em : limit ≡ p .settings .moves) where
     abbrev s : Setting
-    s = settingBy (p .starts) (p .neighbours) (p .arcs) (p .weights) ceil bad limit
+    s = settingBy (p .starts) (p .neighbours) (p .arcs) (p .weights) (record { ceilings = record { at = ceil }; bad = bad; moves = limit })
 
-    ceil-is : ceil ≡ ceilings (table 16 (load (p .weights) (l .labels))) (total (p .weights)) 2 (p .settings .choice) (p .settings .whole) (p .settings .imbalance)
-    ceil-is = ec ∙ ap₂ (λ (x : List ℕ) (t : ℕ). ceilings x t 2 (p .settings .choice) (p .settings .whole) (p .settings .imbalance)) (ap (λ (x : Loads). x .at) el) et
+    ceil-is : ceil ≡ ceilings (table 16 (load (p .weights) (l .labels))) (total (p .weights)) 2 (askedCeiling (p .settings))
+    ceil-is = ec ∙ rw (el, et, ea)
 
     -- the setting that the code works with is the definition's
     same-setting : s ≡ settingOf p l

@@ -6,14 +6,14 @@ use Prim.Native.Nat.{ℕ, zero, suc, _≤_}
 use lib.Dec.{ltb, eqb}
 use lib.ListN.{length}
 use lib.IntN.{pos}
-use Rattle.lists.specs.Fill.{filled}
+use Rattle.lists.specs.Fill.{filled, over}
 use Rattle.imbalance.specs.Load.{loadsOf}
 use Rattle.topology.specs.Cut.{cut}
 use Rattle.fiduccia_mattheyses_pass.specs.Choice.{Setting, withMoveLimit}
 use Rattle.fiduccia_mattheyses_pass.specs.Pass.{Pass, pass}
-use Rattle.fiduccia_mattheyses_pass.proofs.Limits.{pass-limit}
+use Rattle.fiduccia_mattheyses_pass.proofs.MoveLimits.{pass-limit}
 use Rattle.fiduccia_mattheyses.specs.Run.{Run, run}
-use Rattle.fiduccia_mattheyses.specs.Entry.{Plan, withMoves, Lent, graphOf, unfit, numberOf, number, settingOf, runOf, none, refused, empty, reportOf, over, leftBy, answer, left}
+use Rattle.fiduccia_mattheyses.specs.Entry.{Plan, withMoves, Lent, graphOf, unfit, numberOf, number, settingOf, runOf, none, refused, empty, reportOf, leftBy, answer, left}
 use Rattle.fiduccia_mattheyses.proofs.Running.{mades, rewounds, run-last, run-more}
 use Rattle.fiduccia_mattheyses.proofs.Single.{pass-long}
 

@@ -16,6 +16,7 @@ use Rattle.lists.proofs.Fills.{length-written, written-below}
 use Rattle.imbalance.specs.Load.{load}
 use Rattle.imbalance.specs.declared.Loads.{Loads}
 use Rattle.topology.specs.Cut.{cut}
+use Rattle.fiduccia_mattheyses_pass.specs.inner.Bounds.{mostCut}
 use Rattle.fiduccia_mattheyses_pass.specs.Choice.{Setting, worth}
 use Rattle.fiduccia_mattheyses_pass.specs.Pass.{State, start, walk, flips, pass}
 use Rattle.fiduccia_mattheyses_pass.specs.inner.Standing.{freshGains}
@@ -39,7 +40,7 @@ module _ (s : Setting) (p : List ℕ) (gains₀ : List ℤ) (moves₀ : List Mov
   n = length p
 
   -- the cut is far from the end of its type
-  pub cut-room : cut₀ ≤ 1152921504606846976
+  pub cut-room : cut₀ ≤ mostCut
   cut-room = rw (a .cut-is) (cut-small (s .graph) p (light (a .fixed)) (a .fixed .rows .few))
 
   -- what the walk asks, after fresh gains

@@ -4,10 +4,11 @@ use mathlib.Core.List.{List, map}
 use Prim.Native.Nat.{ℕ, _≤_, _<_}
 use native.Mathlib.Omega.{arith}
 use lib.ListN.{length, getD, length-map}
+use Rattle.lists.specs.Fill.{over}
 use Rattle.topology.specs.Cut.{cut}
 use Rattle.fiduccia_mattheyses_pass.specs.Pass.{Pass}
 use Rattle.fiduccia_mattheyses.specs.declared.Report.{Report}
-use Rattle.fiduccia_mattheyses.specs.Entry.{Plan, Lent, graphOf, settingOf, runOf, empty, reportOf, over, leftBy, Refined}
+use Rattle.fiduccia_mattheyses.specs.Entry.{Plan, Lent, graphOf, settingOf, runOf, empty, reportOf, leftBy, Refined}
 use Rattle.fiduccia_mattheyses.specs.inner.Steps.{Ready, Ran}
 use Rattle.fiduccia_mattheyses.specs.Counts.{CountsKept}
 use Rattle.fiduccia_mattheyses.proofs.Running.{mades, rewounds, over-long}

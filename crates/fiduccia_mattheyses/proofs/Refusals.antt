@@ -19,7 +19,7 @@ use Rattle.topology.specs.Rules.{graphRules}
 use Rattle.topology.proofs.Refusals.{graph-first}
 use Rattle.fiduccia_mattheyses.specs.declared.Settings.{Settings}
 use Rattle.fiduccia_mattheyses.specs.declared.Report.{Report}
-use Rattle.fiduccia_mattheyses.specs.Entry.{Plan, Lent, graphOf, roomOf, unfit, short, numberOf, number, empty, reportOf, refused, answer, Refined}
+use Rattle.fiduccia_mattheyses.specs.Entry.{Plan, Lent, graphOf, askedCeiling, roomOf, unfit, short, numberOf, number, empty, reportOf, refused, answer, Refined}
 use Rattle.fiduccia_mattheyses.specs.Rules.{FitSettings, LongEnough, rules}
 use Rattle.fiduccia_mattheyses.proofs.Entering.{at-empty}
 use Rattle.fiduccia_mattheyses.proofs.Unique.{unique}
@@ -27,7 +27,7 @@ use Rattle.fiduccia_mattheyses.proofs.Unique.{unique}
 fit-settings : (s : Settings) → (unfit s ≡ false) ↔ FitSettings s
 unfolding unfit
 fit-settings s =
-    let b = either-fails (ltb 1024 (s .passes)) (unfitChoice (s .choice) (s .imbalance)) (at-most 1024 (s .passes)) (fit-choice (s .choice) (s .imbalance)) in
+    let b = either-fails (ltb 1024 (s .passes)) (unfitChoice (askedCeiling s)) (at-most 1024 (s .passes)) (fit-choice (askedCeiling s)) in
     ((λ h. let k = b .0 h in record { fewPasses = k .0; fitChoice = k .1 }), λ k. b .1 (k .fewPasses, k .fitChoice))
 
 long-enough : (passes : ℕ) (l : Lent) → (short (length (l .labels)) passes (roomOf l) ≡ false) ↔ LongEnough passes l

@@ -7,9 +7,10 @@ use native.Mathlib.Omega.{arith}
 use lib.Dec.{eqb}
 use lib.ListN.{length, getD, drop, length-map, List·getD-append}
 use borrow.Author.Tests.{eqb-true, eqb-false}
+use Rattle.lists.specs.Fill.{over}
 use Rattle.fiduccia_mattheyses_pass.specs.Pass.{Pass}
 use Rattle.fiduccia_mattheyses.specs.declared.Report.{Report}
-use Rattle.fiduccia_mattheyses.specs.Entry.{Plan, Lent, number, runOf, refused, empty, reportOf, over, leftBy, answer, left, Refined}
+use Rattle.fiduccia_mattheyses.specs.Entry.{Plan, Lent, number, runOf, refused, empty, reportOf, leftBy, answer, left, Refined}
 use Rattle.fiduccia_mattheyses.specs.inner.Steps.{Ready, Ran}
 use Rattle.fiduccia_mattheyses.proofs.Running.{mades, rewounds}
 use Rattle.fiduccia_mattheyses.proofs.Entering.{ready}

@@ -8,12 +8,13 @@ use lib.Seq.{split-at, take-all, take-suc, getD-take, getD-drop, getD-set-same}
 use Rattle.lists.specs.Fill.{table}
 use Rattle.lists.proofs.Tables.{table-at, length-table}
 use Rattle.imbalance.specs.Load.{part, load}
+use Rattle.imbalance.specs.inner.Moved.{loadsMoved}
 use Rattle.imbalance.proofs.PartLoads.{load-within}
 use Rattle.fiduccia_mattheyses_pass.specs.Choice.{other, flip}
 use Rattle.fiduccia_mattheyses_pass.specs.Pass.{flips}
-use Rattle.fiduccia_mattheyses_pass.specs.inner.Standing.{Apart, loadsAfter}
+use Rattle.fiduccia_mattheyses_pass.specs.inner.Standing.{Apart}
 use Rattle.fiduccia_mattheyses_pass.proofs.Backs.{two-flips, flips-append, flips-other, flips-long, flips-more, rewound}
-use Rattle.fiduccia_mattheyses_pass.proofs.Stands.{loads-follow, load-holds}
+use Rattle.topology.proofs.Moves.{load-holds, loads-move}
 use Rattle.fiduccia_mattheyses.specs.declared.Move.{Move}
 use Rattle.fiduccia_mattheyses.specs.Entry.{none}
 use Rattle.fiduccia_mattheyses.specs.inner.Steps.{records, undone, UndoAsked, UndoDone, RewindAsked}
@@ -172,30 +173,35 @@ module _ (weights labels : List ℕ) (moves : List Move) (loads : List ℕ) (kep
         let w = a .weighed in
         (omega arith, omega arith)
 
+    -- the vertex goes back to the other part
+    back-is : m .part ≡ other (part labels′ i)
+    back-is =
+        let f = ap (λ (x : Move). x .vertex) m-is in
+        let g = ap (λ (x : Move). x .part) m-is in
+        let o : part labels′ i ≡ other (q k′ lt′) = ap₂ part now f ∙ now-other k′ lt′ in
+        let h = q-two k′ lt′ in
+        omega arith
+
     -- what taking this move back asks
     pub turn-asked : UndoAsked weights labels′ back m
     turn-asked =
         let t = two-now i in
         let s = inside in
         let at-own = ap (λ (l : List ℕ). getD l (part labels′ i) 0) loaded ∙ table-at 16 (part labels′ i) 0 (load weights labels′) (omega arith) in
-        let at-other = ap (λ (l : List ℕ). getD l (other (part labels′ i)) 0) loaded ∙ table-at 16 (other (part labels′ i)) 0 (load weights labels′) (omega arith) in
-        let w = load-within weights labels′ (a .weighed ∙ sym long-now) (other (part labels′ i)) in
+        let b = back-is in
+        let at-before = ap (λ (l : List ℕ). getD l (m .part) 0) loaded ∙ table-at 16 (m .part) 0 (load weights labels′) (omega arith) in
+        let w = load-within weights labels′ (a .weighed ∙ sym long-now) (m .part) in
         let lim = a .light in
-        let h = load-holds weights labels′ i (s .0) t in
+        let h = load-holds weights labels′ i (s .0) in
         record {
           in-labels = s .0;
           in-weights = s .1;
           two = t;
+          before = b;
           sixteen = ap length loaded ∙ length-table 16 (load weights labels′);
           held = omega arith;
           within = omega arith;
         }
-
-    flipped : set labels′ i (m .part) ≡ flip labels′ i
-    flipped =
-        let f = ap (λ (x : Move). x .vertex) m-is in
-        let g = ap (λ (x : Move). x .part) m-is in
-        rw (f, g, now) (put-back k′ lt′)
 
     one-label-more : set labels′ i (m .part) ≡ undone moves kept (at + 1 - kept) labels
     unfolding undone
@@ -206,10 +212,12 @@ module _ (weights labels : List ℕ) (moves : List Move) (loads : List ℕ) (kep
 
     -- the labels and the loads once it is taken back
     pub turn-done : (labels″ next : List ℕ) → UndoDone weights labels′ back m labels″ next → (labels″ ≡ undone moves kept (at + 1 - kept) labels) × (next ≡ table 16 (load weights labels″))
-    turn-done labels″ next d = (
-      d .labelled ∙ one-label-more,
-      d .loaded
-          ∙ ap (λ (l : List ℕ). loadsAfter l (part labels′ i) (getD weights i 0)) loaded
-          ∙ loads-follow weights labels′ i (inside .0) (two-now i)
-          ∙ ap (λ (l : List ℕ). table 16 (load weights l)) (sym (d .labelled ∙ flipped)),
-    )
+    turn-done labels″ next d =
+        let b = back-is in
+        let t = two-now i in (
+          d .labelled ∙ one-label-more,
+          d .loaded
+              ∙ ap (λ (l : List ℕ). loadsMoved l (part labels′ i) (m .part) (getD weights i 0)) loaded
+              ∙ loads-move weights labels′ i (m .part) (inside .0) (omega arith) (omega arith) (λ e. omega arith)
+              ∙ ap (λ (l : List ℕ). table 16 (load weights l)) (sym (d .labelled)),
+        )

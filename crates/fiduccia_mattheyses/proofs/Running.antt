@@ -9,6 +9,7 @@ use lib.ListN.{length, getD, set, drop, length-append, length-drop}
 use lib.Seq.{drop-cons, set-at}
 use lib.IntN.{ℤ}
 use borrow.Author.Tests.{lt-ltb, le-ltb, leb-true, leb-false}
+use Rattle.lists.specs.Fill.{over}
 use Rattle.imbalance.specs.declared.Loads.{Loads}
 use Rattle.topology.specs.Cut.{cut}
 use Rattle.fiduccia_mattheyses_pass.specs.Choice.{Setting}
@@ -17,7 +18,6 @@ use Rattle.fiduccia_mattheyses.specs.declared.Move.{Move}
 use Rattle.fiduccia_mattheyses.specs.declared.Passed.{Passed}
 use Rattle.fiduccia_mattheyses.specs.declared.Ended.{Ended}
 use Rattle.fiduccia_mattheyses.specs.Run.{Run, run}
-use Rattle.fiduccia_mattheyses.specs.Entry.{over}
 use Rattle.fiduccia_mattheyses.specs.declared.Course.the-variants.{Ends, GoesOn}
 use Rattle.fiduccia_mattheyses.specs.inner.Steps.{PassAsked, PassDone, RowAsked, RowDone, courseOf, PassesAsked, PassesDone}
 

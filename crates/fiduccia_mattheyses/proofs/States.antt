@@ -13,7 +13,7 @@ use Rattle.topology.specs.Cut.{cut}
 use Rattle.fiduccia_mattheyses_pass.specs.Choice.{Setting}
 use Rattle.fiduccia_mattheyses_pass.specs.Pass.{State, start, next, walk, pass}
 use Rattle.fiduccia_mattheyses_pass.proofs.Walks.{walk-stop, walk-step}
-use Rattle.fiduccia_mattheyses_pass.proofs.Limits.{next-longer}
+use Rattle.fiduccia_mattheyses_pass.proofs.MoveLimits.{next-longer}
 use Rattle.fiduccia_mattheyses.specs.Run.{Run, run}
 use Rattle.fiduccia_mattheyses.specs.Demand.{statesFrom, states}
 use Rattle.fiduccia_mattheyses.proofs.Running.{mades, run-last, run-more}

@@ -6,7 +6,7 @@ use lib.ListN.{length}
 use lib.Dec.{eqb}
 use lib.IntN.{pos}
 use Rattle.lists.specs.Sum.{total}
-use Rattle.lists.specs.Fill.{filled, table}
+use Rattle.lists.specs.Fill.{filled, table, over}
 use Rattle.imbalance.specs.Load.{load, loadsOf}
 use Rattle.imbalance.proofs.Unused.{same-outcome, same-fit, same-ceilings}
 use Rattle.topology.specs.Cut.{cut}
@@ -14,14 +14,14 @@ use Rattle.fiduccia_mattheyses_pass.specs.Pass.{Pass}
 use Rattle.fiduccia_mattheyses.specs.declared.Settings.{Settings}
 use Rattle.fiduccia_mattheyses.specs.declared.Report.{Report}
 use Rattle.fiduccia_mattheyses.specs.Run.{run}
-use Rattle.fiduccia_mattheyses.specs.Entry.{Plan, Lent, graphOf, unfit, numberOf, number, settingOf, none, empty, refused, reportOf, over, leftBy, answer, left}
+use Rattle.fiduccia_mattheyses.specs.Entry.{Plan, Lent, graphOf, askedCeiling, unfit, numberOf, number, settingOf, none, empty, refused, reportOf, leftBy, answer, left}
 use Rattle.fiduccia_mattheyses.specs.Used.{SameSettings, withSettings}
 use Rattle.fiduccia_mattheyses.proofs.Refusals.{number-smallest}
 
 module _ (p : Plan) (s : Settings) (l : Lent) (same : SameSettings (p .settings) s) where
   same-unfit : unfit (p .settings) ≡ unfit s
   unfolding unfit
-  same-unfit = rw (same .passes, same-fit (p .settings .choice) (p .settings .whole) (p .settings .imbalance) (s .choice) (s .whole) (s .imbalance) (same .ceiling))
+  same-unfit = rw (same .passes, same-fit (askedCeiling (p .settings)) (askedCeiling s) (same .ceiling))
 
   same-number : number p l ≡ number (withSettings p s) l
   unfolding numberOf
@@ -31,7 +31,7 @@ module _ (p : Plan) (s : Settings) (l : Lent) (same : SameSettings (p .settings)
   same-setting : number p l ≡ 0 → settingOf p l ≡ settingOf (withSettings p s) l
   same-setting z =
       let known = number-smallest p l .kept z 7 .fitChoice .known in
-      let c = same-ceilings (p .settings .choice) (p .settings .whole) (p .settings .imbalance) (s .choice) (s .whole) (s .imbalance) (same .ceiling) (table 16 (load (p .weights) (l .labels))) (total (p .weights)) 2 known in
+      let c = same-ceilings (askedCeiling (p .settings)) (askedCeiling s) (same .ceiling) (table 16 (load (p .weights) (l .labels))) (total (p .weights)) 2 known in
       λ i. record { graph = graphOf p; weights = p .weights; ceilings = c i; movable = λ v. true; badLimit = same .bad i; moveLimit = same .moves i }
 
   same-report : number p l ≡ 0 → reportOf p l ≡ reportOf (withSettings p s) l

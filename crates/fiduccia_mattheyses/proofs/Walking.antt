@@ -8,6 +8,7 @@ use lib.Dec.{ltb}
 use lib.ListN.{length, getD, set, drop, length-append, length-drop}
 use lib.Seq.{drop-cons, set-at}
 use lib.IntN.{ℤ}
+use Rattle.imbalance.specs.Limit.{mostVertices}
 use Rattle.imbalance.specs.Load.{part}
 use Rattle.topology.specs.Cut.{cut}
 use Rattle.fiduccia_mattheyses_pass.specs.Choice.{Setting, flip}
@@ -87,7 +88,7 @@ module _ (s : Setting) (limit : ℕ) (p : List ℕ) (moves₀ : List Move) where
     answer = asked s (length p) f (w .state) labels gains st (w .stands)
 
     -- what the next move asks
-    pub scanned : Scannable gains labels (s .weights) (st .loads .at) × (length (s .ceilings) ≡ 16) × (st .bad ≤ 4096)
+    pub scanned : Scannable gains labels (s .weights) (st .loads .at) × (length (s .ceilings) ≡ 16) × (st .bad ≤ mostVertices)
     scanned = (
       scannable s (length p) f (w .state) labels gains st (w .stands),
       f .capped,
@@ -128,7 +129,7 @@ module _ (s : Setting) (limit : ℕ) (p : List ℕ) (moves₀ : List Move) where
       pub move-asked : Moveable (s .graph) gains labels (s .weights) st v g
       move-asked = moveable s (length p) f (w .state) labels gains st (w .stands) v g b going
 
-      pub move-room : (v < length labels) × (v ≤ 4096) × (made < length moves)
+      pub move-room : (v < length labels) × (v ≤ mostVertices) × (made < length moves)
       move-room =
           let a = going .here in
           let long = w .stands .long in

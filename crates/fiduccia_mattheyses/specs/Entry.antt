@@ -1,18 +1,19 @@
 -- The call of FM: its number, its report, and what it leaves in each lent list (document 01, "FM" and "Numbers a call gives back").
 use mathlib.Core.Path.{_≡_}
 use mathlib.Core.Bool.{Bool, true, cond, _||_}
-use mathlib.Core.List.{List, _++_, map}
+use mathlib.Core.List.{List, map}
 use Prim.Native.Nat.{ℕ}
-use lib.ListN.{length, drop}
+use lib.ListN.{length}
 use lib.Dec.{ltb, eqb}
 use lib.IntN.{ℤ, pos}
 use Rattle.lists.specs.Sum.{total}
-use Rattle.lists.specs.Fill.{filled, table}
+use Rattle.lists.specs.Fill.{filled, table, over}
 use Rattle.lists.specs.Number.{orElse}
 use Rattle.imbalance.specs.Limit.{labelAbove}
 use Rattle.imbalance.specs.Load.{load, loadsOf}
 use Rattle.imbalance.specs.Ceiling.{unfitChoice, ceilings}
 use Rattle.imbalance.specs.Number.{noLoads}
+use Rattle.imbalance.specs.declared.Ceiling.{Ceiling}
 use Rattle.topology.specs.Graph.{Graph, inRows}
 use Rattle.topology.specs.Rule.{graphNumber}
 use Rattle.topology.specs.Cut.{cut}
@@ -54,9 +55,13 @@ pub record Lent : Type 0 where
 abbrev pub graphOf : Plan → Graph
 graphOf p = inRows (p .starts) (p .neighbours) (p .arcs)
 
+-- what the settings ask of the ceiling
+abbrev pub askedCeiling : Settings → Ceiling
+askedCeiling s = record { choice = s .choice; whole = s .whole; imbalance = s .imbalance }
+
 -- 7: "pass limit above 1,024 (FM, KL); choice 2 with e NaN, below 0 or above 64, or choice above 2 (FM, arc-swap)"
 unfoldable pub unfit : Settings → Bool
-unfit s = ltb 1024 (s .passes) || unfitChoice (s .choice) (s .imbalance)
+unfit s = ltb 1024 (s .passes) || unfitChoice (askedCeiling s)
 
 -- the lengths of the lent lists
 abbrev pub roomOf : Lent → Room
@@ -83,7 +88,7 @@ settingOf p l =
     record {
       graph = graphOf p;
       weights = p .weights;
-      ceilings = ceilings (table 16 (load (p .weights) (l .labels))) (total (p .weights)) 2 (p .settings .choice) (p .settings .whole) (p .settings .imbalance);
+      ceilings = ceilings (table 16 (load (p .weights) (l .labels))) (total (p .weights)) 2 (askedCeiling (p .settings));
       movable = λ v. true;
       badLimit = p .settings .bad;
       moveLimit = p .settings .moves;
@@ -121,11 +126,7 @@ reportOf p l =
       loads = loadsOf (p .weights) (runOf p l .labels);
     }
 
--- the numbers xs, and past them what stood in ys: "Rows after the last pass keep their values."
-abbrev pub over : List ℕ → List ℕ → List ℕ
-over xs ys = xs ++ drop (length xs) ys
-
--- "After a done call, the gain, move, lock and swap lists hold zeros up to the needed length and are unchanged past it."
+-- "After a done call, the gain, move, lock and swap lists hold zeros up to the needed length and are unchanged past it." "Rows after the last pass keep their values."
 unfoldable pub leftBy : Plan → Lent → Lent
 leftBy p l =
     record {

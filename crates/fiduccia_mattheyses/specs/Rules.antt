@@ -5,12 +5,12 @@ use lib.ListN.{length}
 use Rattle.imbalance.specs.Rules.{NoneAbove, FitChoice}
 use Rattle.topology.specs.Rules.{graphRules}
 use Rattle.fiduccia_mattheyses.specs.declared.Settings.{Settings}
-use Rattle.fiduccia_mattheyses.specs.Entry.{Plan, Lent, graphOf}
+use Rattle.fiduccia_mattheyses.specs.Entry.{Plan, Lent, graphOf, askedCeiling}
 
 -- 7: not "pass limit above 1,024", and the ceiling's choice is fit
 pub record FitSettings (s : Settings) : Type 0 where
   pub fewPasses : s .passes ≤ 1024
-  pub fitChoice : FitChoice (s .choice) (s .imbalance)
+  pub fitChoice : FitChoice (askedCeiling s)
 
 -- 8: no "lent working list is too short". "Lists: gains n, moves n, two row lists of P."
 pub record LongEnough (passes : ℕ) (l : Lent) : Type 0 where

@@ -2,14 +2,14 @@
 use mathlib.Core.Path.{_≡_}
 use Rattle.imbalance.specs.Used.{SameUsed}
 use Rattle.fiduccia_mattheyses.specs.declared.Settings.{Settings}
-use Rattle.fiduccia_mattheyses.specs.Entry.{Plan}
+use Rattle.fiduccia_mattheyses.specs.Entry.{Plan, askedCeiling}
 
 -- two settings differ at most in what the choice does not use
 pub record SameSettings (s s′ : Settings) : Type 0 where
   pub passes : s .passes ≡ s′ .passes
   pub moves : s .moves ≡ s′ .moves
   pub bad : s .bad ≡ s′ .bad
-  pub ceiling : SameUsed (s .choice) (s .whole) (s .imbalance) (s′ .choice) (s′ .whole) (s′ .imbalance)
+  pub ceiling : SameUsed (askedCeiling s) (askedCeiling s′)
 
 -- the same lists with other settings
 abbrev pub withSettings : Plan → Settings → Plan

@@ -1,20 +1,19 @@
 // Fiduccia-Mattheyses between two parts: coupe's algorithms/fiduccia_mattheyses.rs. Document 01, "FM".
+mod answers;
+mod number;
+mod steps;
+
 ghost use mathlib.Core.Path.{_≡_};
-ghost use mathlib.Core.Bool.{true, cond};
 ghost use Prim.Native.Nat.{_-_, _<_, _≤_};
-ghost use lib.IntN.{pos};
 ghost use lib.ListN.{length, set, getD};
-ghost use lib.Dec.{eqb};
-ghost use lib.Signed.{leZ};
 ghost use Rattle.lists.specs.Fill.{filled, table};
 ghost use Rattle.imbalance.specs.Load.{load};
 ghost use Rattle.fiduccia_mattheyses_pass.specs.Pass.{start, walk};
-ghost use Rattle.topology.specs.Graph.{inRows};
-ghost use Rattle.fiduccia_mattheyses.specs.Entry.{none, unfit, short, numberOf, bare, Refined};
-ghost use Rattle.fiduccia_mattheyses.specs.inner.Steps.{settingBy, firstStanding, undone, WalkAsked, WalkDone, UndoAsked, UndoDone, RewindAsked, RowAsked, RowDone, courseOf, PassAsked, PassDone, PassesAsked, PassesDone, Ready, Ran};
+ghost use Rattle.fiduccia_mattheyses.specs.Entry.{none, Refined};
+ghost use Rattle.fiduccia_mattheyses.specs.inner.Steps.{settingBy, undone, WalkAsked, WalkDone, RewindAsked, PassAsked, PassDone, PassesAsked, PassesDone, Ready, Ran};
+use fiduccia_mattheyses_pass::Limits;
 use fiduccia_mattheyses_pass::Next;
 use fiduccia_mattheyses_pass::Standing;
-use imbalance::Ceilings;
 use imbalance::Loads;
 
 // A move of a pass: the vertex, and the part that it was in before.
@@ -105,14 +104,6 @@ fn clear(moves: &mut [Move], n: usize)
     }
 }
 
-// A vertex as a record holds it.
-fn narrow(v: usize) -> u32
-    requires { ⌜ v ≤ 4096 ⌝ }
-    ensures { λ r. ⌜ r ≡ v ⌝ }
-{
-    v as u32
-}
-
 // The moves of a pass, each chosen, recorded and made, until none may move, the bad limit stops it, or the move limit is reached.
 fn walk_moves(
     starts: &[u32],
@@ -123,30 +114,21 @@ fn walk_moves(
     gains: &mut [i64],
     moves: &mut [Move],
     first: Standing,
-    ceilings: Ceilings,
-    bad_limit: u64,
-    limit: usize,
+    limits: Limits,
 ) -> Walked
-    requires { ⌜ WalkAsked (settingBy (now starts) (now neighbours) (now «arc_weights») (now weights) (ceilings .at) «bad_limit» limit) (now labels) (now gains) (now moves) first ⌝ }
-    ensures { λ r. ⌜ (let s = settingBy (now (starts .entry)) (now (neighbours .entry)) (now («arc_weights» .entry)) (now (weights .entry)) (ceilings .at) «bad_limit» limit in
-        WalkDone s (now (labels .entry)) (now (moves .entry)) (walk s limit (start s (now (labels .entry))))
+    requires { ⌜ WalkAsked (settingBy (now starts) (now neighbours) (now «arc_weights») (now weights) limits) (now labels) (now gains) (now moves) first ⌝ }
+    ensures { λ r. ⌜ (let s = settingBy (now (starts .entry)) (now (neighbours .entry)) (now («arc_weights» .entry)) (now (weights .entry)) limits in
+        WalkDone s (now (labels .entry)) (now (moves .entry)) (walk s (limits .moves) (start s (now (labels .entry))))
         (now (labels .exit)) (now (gains .exit)) (now (moves .exit)) (r .made) (r .last)) ⌝ }
 {
     let mut st = first;
     let mut made: usize = 0;
-    while made < limit {
-        let next = fiduccia_mattheyses_pass::next_move(
-            gains,
-            labels,
-            weights,
-            st,
-            ceilings,
-            bad_limit,
-        );
+    while made < limits.moves {
+        let next = fiduccia_mattheyses_pass::next_move(gains, labels, weights, st, limits);
         let Next::Go(v, g, bad) = next else {
             return Walked { made, last: st };
         };
-        put_move(moves, made, narrow(v), labels[v]);
+        put_move(moves, made, lists::narrow(v), labels[v]);
         made += 1;
         st = fiduccia_mattheyses_pass::make_move(
             starts,
@@ -165,17 +147,6 @@ fn walk_moves(
     Walked { made, last: st }
 }
 
-// One move taken back: its vertex is in the part before it again, and the loads follow.
-fn undo_move(weights: &[u32], labels: &mut [u32], loads: Loads, m: Move) -> Loads
-    requires { ⌜ UndoAsked (now weights) (now labels) (loads .at) m ⌝ }
-    ensures { λ r. ⌜ UndoDone (now (weights .entry)) (now (labels .entry)) (loads .at) m (now (labels .exit)) (r .at) ⌝ }
-{
-    let v = lists::index(m.vertex);
-    let taken_back = fiduccia_mattheyses_pass::moved_loads(loads, labels[v], weights[v]);
-    labels[v] = m.part;
-    taken_back
-}
-
 // The labels and the loads put back by the records from the kept prefix on.
 fn rewind(
     weights: &[u32],
@@ -192,37 +163,10 @@ fn rewind(
     let mut at = kept;
     while at < made {
         let m = move_at(moves, at);
-        back = undo_move(weights, labels, back, m);
+        back = steps::undo_move(weights, labels, back, m);
         at += 1;
     }
     back
-}
-
-// Where a pass starts: nothing is moved, and the cut is the least so far.
-fn first_standing(loads: Loads, cut: u64) -> Standing
-    requires { ⌜ cut ≤ 1152921504606846976 ⌝ }
-    ensures { λ r. ⌜ r ≡ firstStanding loads cut ⌝ }
-{
-    Standing {
-        loads,
-        cut: cut as i64,
-        least: cut as i64,
-        kept: 0,
-        bad: 0,
-    }
-}
-
-// What a pass leaves, its least cut as a plain number.
-fn pass_answer(made: usize, kept: usize, least: i64, loads: Loads) -> Passed
-    requires { ⌜ leZ (pos 0) least ≡ true ⌝ }
-    ensures { λ r. ⌜ (r .made ≡ made) × (r .kept ≡ kept) × (pos (r .cut) ≡ least) × (r .loads ≡ loads) ⌝ }
-{
-    Passed {
-        made,
-        kept,
-        cut: least as u64,
-        loads,
-    }
 }
 
 // A pass: fresh gains, the moves, and back to the earliest state of least cut, labels and loads.
@@ -236,16 +180,14 @@ fn pass(
     moves: &mut [Move],
     loads: Loads,
     cut: u64,
-    ceilings: Ceilings,
-    bad_limit: u64,
-    limit: usize,
+    limits: Limits,
 ) -> Passed
-    requires { ⌜ PassAsked (settingBy (now starts) (now neighbours) (now «arc_weights») (now weights) (ceilings .at) «bad_limit» limit) (now labels) (now gains) (now moves) (loads .at) cut ⌝ }
-    ensures { λ r. ⌜ PassDone (settingBy (now (starts .entry)) (now (neighbours .entry)) (now («arc_weights» .entry)) (now (weights .entry)) (ceilings .at) «bad_limit» limit)
+    requires { ⌜ PassAsked (settingBy (now starts) (now neighbours) (now «arc_weights») (now weights) limits) (now labels) (now gains) (now moves) (loads .at) cut ⌝ }
+    ensures { λ r. ⌜ PassDone (settingBy (now (starts .entry)) (now (neighbours .entry)) (now («arc_weights» .entry)) (now (weights .entry)) limits)
         (now (labels .entry)) (now (moves .entry)) (now (labels .exit)) (now (moves .exit)) r ⌝ }
 {
     fiduccia_mattheyses_pass::fresh_gains(starts, neighbours, arc_weights, labels, gains);
-    let first = first_standing(loads, cut);
+    let first = steps::first_standing(loads, cut);
     let walked = walk_moves(
         starts,
         neighbours,
@@ -255,9 +197,7 @@ fn pass(
         gains,
         moves,
         first,
-        ceilings,
-        bad_limit,
-        limit,
+        limits,
     );
     let made = walked.made;
     let last = walked.last;
@@ -265,44 +205,10 @@ fn pass(
     let least = last.least;
     let moved = last.loads;
     let back = rewind(weights, labels, moves, moved, kept, made);
-    pass_answer(made, kept, least, back)
+    steps::pass_answer(made, kept, least, back)
 }
 
-// The row of the pass after those made: its moves, and those of them that were rewound. It answers how many passes are made then.
-fn put_row(
-    rows_made: &mut [u32],
-    rows_rewound: &mut [u32],
-    passes: u32,
-    made: usize,
-    kept: usize,
-) -> u32
-    requires { ⌜ RowAsked (now «rows_made») (now «rows_rewound») passes made kept ⌝ }
-    ensures { λ r. ⌜ RowDone (now («rows_made» .entry)) (now («rows_rewound» .entry)) passes made kept (now («rows_made» .exit)) (now («rows_rewound» .exit)) r ⌝ }
-{
-    let done = passes + 1;
-    let rewound = made - kept;
-    let row = lists::index(passes);
-    rows_made[row] = narrow(made);
-    rows_rewound[row] = narrow(rewound);
-    done
-}
-
-// How a run stands after a pass: a gainless one ends it with 1, also where it was the last allowed; the last allowed ends it with 0.
-fn course_of(before: u64, after: u64, passes: u32, limit: u32) -> Course
-    ensures { λ r. ⌜ r ≡ courseOf before after passes limit ⌝ }
-{
-    let gainless = before <= after;
-    let full = limit <= passes;
-    if gainless {
-        return Course::Ends(1);
-    }
-    if full {
-        return Course::Ends(0);
-    }
-    Course::GoesOn
-}
-
-// The passes of a run, at most limit of them. Each pass writes its row.
+// The passes of a run, at most as many as the pass limit. Each writes its row.
 fn make_passes(
     starts: &[u32],
     neighbours: &[u32],
@@ -315,20 +221,18 @@ fn make_passes(
     rows_rewound: &mut [u32],
     first: Loads,
     first_cut: u64,
-    ceilings: Ceilings,
-    bad_limit: u64,
-    move_limit: usize,
-    limit: u32,
+    limits: Limits,
+    pass_limit: u32,
 ) -> Ended
-    requires { ⌜ PassesAsked (settingBy (now starts) (now neighbours) (now «arc_weights») (now weights) (ceilings .at) «bad_limit» «move_limit») limit (now labels) (now gains) (now moves) (now «rows_made») (now «rows_rewound») (first .at) «first_cut» ⌝ }
-    ensures { λ r. ⌜ PassesDone (settingBy (now (starts .entry)) (now (neighbours .entry)) (now («arc_weights» .entry)) (now (weights .entry)) (ceilings .at) «bad_limit» «move_limit») limit
+    requires { ⌜ PassesAsked (settingBy (now starts) (now neighbours) (now «arc_weights») (now weights) limits) «pass_limit» (now labels) (now gains) (now moves) (now «rows_made») (now «rows_rewound») (first .at) «first_cut» ⌝ }
+    ensures { λ r. ⌜ PassesDone (settingBy (now (starts .entry)) (now (neighbours .entry)) (now («arc_weights» .entry)) (now (weights .entry)) limits) «pass_limit»
         (now (labels .entry)) (now (moves .entry)) (now («rows_made» .entry)) (now («rows_rewound» .entry))
         (now (labels .exit)) (now (moves .exit)) (now («rows_made» .exit)) (now («rows_rewound» .exit)) r ⌝ }
 {
     let mut loads = first;
     let mut cut = first_cut;
     let mut passes: u32 = 0;
-    while passes < limit {
+    while passes < pass_limit {
         let r = pass(
             starts,
             neighbours,
@@ -339,17 +243,15 @@ fn make_passes(
             moves,
             loads,
             cut,
-            ceilings,
-            bad_limit,
-            move_limit,
+            limits,
         );
         let made = r.made;
         let kept = r.kept;
-        passes = put_row(rows_made, rows_rewound, passes, made, kept);
+        passes = steps::put_row(rows_made, rows_rewound, passes, made, kept);
         let before = cut;
         cut = r.cut;
         loads = r.loads;
-        let Course::Ends(end) = course_of(before, cut, passes, limit) else {
+        let Course::Ends(end) = steps::course_of(before, cut, passes, pass_limit) else {
             continue;
         };
         return Ended {
@@ -363,23 +265,6 @@ fn make_passes(
         end: 0,
         passes,
         cut,
-        loads,
-    }
-}
-
-// What a run ends with: zeros in the gains' first n places, and the report.
-fn finish(gains: &mut [i64], n: usize, r: Ended, first_cut: u64) -> Report
-    requires { ⌜ (0 < n) × (n ≤ length (now gains)) ⌝ }
-    ensures { λ q. ⌜ (now (gains .exit) ≡ filled (pos 0) n (now (gains .entry))) × (q ≡ record { number = 0; end = r .end; passes = r .passes; first = «first_cut»; last = r .cut; loads = r .loads }) ⌝ }
-{
-    lists::clear_gains(gains, n);
-    let loads = r.loads;
-    Report {
-        number: 0,
-        end: r.end,
-        passes: r.passes,
-        first: first_cut,
-        last: r.cut,
         loads,
     }
 }
@@ -409,13 +294,14 @@ fn refine(
     let n = labels.len();
     let first = imbalance::parts_load(weights, labels);
     let total = imbalance::total_weight(weights);
-    let choice = s.choice;
-    let whole = s.whole;
-    let e = s.imbalance;
-    let ceilings = imbalance::ceilings_of(first, total, 2, choice, whole, e);
+    let asked = number::asked_ceiling(s);
+    let ceilings = imbalance::ceilings_of(first, total, 2, asked);
     let cut = topology::cut_of(starts, neighbours, arc_weights, labels);
-    let bad = lists::wide(s.bad);
-    let limit = lists::index(s.moves);
+    let limits = Limits {
+        ceilings,
+        bad: lists::wide(s.bad),
+        moves: lists::index(s.moves),
+    };
     let passes = s.passes;
     let r = make_passes(
         starts,
@@ -429,13 +315,11 @@ fn refine(
         rows_rewound,
         first,
         cut,
-        ceilings,
-        bad,
-        limit,
+        limits,
         passes,
     );
     clear(moves, n);
-    finish(gains, n, r, cut)
+    answers::finish(gains, n, r, cut)
 }
 
 // The lengths of the lent lists.
@@ -444,102 +328,6 @@ pub struct Room {
     pub moves: usize,
     pub made: usize,
     pub rewound: usize,
-}
-
-// Number 7's test.
-fn unfit_settings(s: Settings) -> bool
-    ensures { λ r. ⌜ r ≡ unfit s ⌝ }
-{
-    let passes = s.passes;
-    if 1024 < passes {
-        return true;
-    }
-    let choice = s.choice;
-    let e = s.imbalance;
-    imbalance::unfit_choice(choice, e)
-}
-
-// Number 8's test.
-fn too_short(n: usize, passes: u32, room: Room) -> bool
-    ensures { λ r. ⌜ r ≡ short n passes room ⌝ }
-{
-    if room.gains < n {
-        return true;
-    }
-    if room.moves < n {
-        return true;
-    }
-    let rows = lists::index(passes);
-    if room.made < rows {
-        return true;
-    }
-    room.rewound < rows
-}
-
-// The number of a call.
-fn number_of(
-    starts: &[u32],
-    neighbours: &[u32],
-    arc_weights: &[u32],
-    weights: &[u32],
-    labels: &[u32],
-    room: Room,
-    s: Settings,
-) -> u32
-    ensures { λ r. ⌜ r ≡ numberOf (inRows (now (starts .entry)) (now (neighbours .entry)) (now («arc_weights» .entry))) (now (weights .entry)) (now (labels .entry)) room s ⌝ }
-{
-    let n = labels.len();
-    let number = topology::graph_number(starts, neighbours, arc_weights, weights, n);
-    if number != 0 {
-        return number;
-    }
-    if imbalance::label_above(labels, 1) {
-        return 6;
-    }
-    let unfit = unfit_settings(s);
-    let passes = s.passes;
-    let short = too_short(n, passes, room);
-    if unfit {
-        return 7;
-    }
-    if short {
-        return 8;
-    }
-    0
-}
-
-// The number of a call: without vertices it is done, whatever else is wrong.
-fn call_number(
-    starts: &[u32],
-    neighbours: &[u32],
-    arc_weights: &[u32],
-    weights: &[u32],
-    labels: &[u32],
-    room: Room,
-    s: Settings,
-) -> u32
-    ensures { λ r. ⌜ r ≡ cond (eqb (length (now (labels .entry))) 0) 0 (numberOf (inRows (now (starts .entry)) (now (neighbours .entry)) (now («arc_weights» .entry))) (now (weights .entry)) (now (labels .entry)) room s) ⌝ }
-{
-    let n = labels.len();
-    if n == 0 {
-        return 0;
-    }
-    number_of(starts, neighbours, arc_weights, weights, labels, room, s)
-}
-
-// A report of zeros but for the number and the end.
-fn bare_report(number: u32, end: u32) -> Report
-    ensures { λ r. ⌜ r ≡ bare number end ⌝ }
-{
-    let loads = Loads { at: [0; 16] };
-    Report {
-        number,
-        end,
-        passes: 0,
-        first: 0,
-        last: 0,
-        loads,
-    }
 }
 
 // FM on a graph, from the labels given: the call, for every input.
@@ -567,12 +355,12 @@ pub fn fiduccia_mattheyses(
         made: rows_made.len(),
         rewound: rows_rewound.len(),
     };
-    let number = call_number(starts, neighbours, arc_weights, weights, labels, room, s);
+    let number = number::call_number(starts, neighbours, arc_weights, weights, labels, room, s);
     if number != 0 {
-        return bare_report(number, 0);
+        return answers::bare_report(number, 0);
     }
     if labels.len() == 0 {
-        return bare_report(0, 3);
+        return answers::bare_report(0, 3);
     }
     refine(
         starts,

@@ -53,10 +53,10 @@ module _ (s : Setting) (p locked : List ℕ) (gs : List ℤ) (loads : List ℕ) 
   unfolding choice
   same-choice = best-ext (may gs L C) (allowed s p locked) (over gs L C) (better s p) n may-same over-same
 
-  -- the pick is the choice, with what its move is worth and the load of its target
-  pub pick-choice : pickBelow gs L C n ≡ picked (worth s p) (after s p) (choice s p locked)
+  -- the pick is the choice, with what its move is worth
+  pub pick-choice : pickBelow gs L C n ≡ picked (worth s p) (choice s p locked)
   pick-choice = rw same-choice (go (choice s p locked) refl)
     where
-      go : (o : Option ℕ) → choice s p locked ≡ o → picked (λ v. getD gs v (pos 0)) L o ≡ picked (worth s p) (after s p) o
+      go : (o : Option ℕ) → choice s p locked ≡ o → picked (λ v. getD gs v (pos 0)) o ≡ picked (worth s p) o
       go none e = refl
-      go (some v) e = let c = chosen s p locked v .0 e in rw (worth-same v (c .here) (c .may), loads-same v)
+      go (some v) e = let c = chosen s p locked v .0 e in rw (worth-same v (c .here) (c .may))

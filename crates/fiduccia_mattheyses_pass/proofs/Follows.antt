@@ -3,7 +3,7 @@ use mathlib.Core.Path.{_≡_, refl, sym, ap, _∙_}
 use mathlib.Core.Logic.{_≢_}
 use mathlib.Core.Bool.{Bool, true, false, cond}
 use mathlib.Core.List.{List}
-use Prim.Native.Nat.{ℕ, zero, suc, _+_, _*_, _≤_, _<_}
+use Prim.Native.Nat.{ℕ, zero, suc, _+_, _-_, _*_, _≤_, _<_}
 use native.Mathlib.Omega.{arith}
 use native.Mathlib.Nat.{add-zero}
 use lib.Dec.{eqb}
@@ -16,11 +16,12 @@ use Rattle.lists.specs.Sum.{sum, weigh}
 use Rattle.fiduccia_mattheyses_pass.specs.inner.Scan.{isFree}
 use Rattle.fiduccia_mattheyses_pass.specs.inner.Update.{shift, updated}
 use Rattle.lists.proofs.Differences.{mag-up, mag-down}
+use Rattle.fiduccia_mattheyses_pass.specs.inner.Bounds.{mostGain, lockSize}
 
 -- a small gain is no lock
-pub free-small : (z : ℤ) → mag z < 4611686018427387903 → isFree z ≡ true
+pub free-small : (z : ℤ) → mag z < lockSize - 1 → isFree z ≡ true
 free-small (pos a) h = refl
-free-small (negsuc a) h = lt-ltb a 4611686018427387903 h
+free-small (negsuc a) h = lt-ltb a (lockSize - 1) h
 
 -- two shifts are one
 pub shift-none : (t : Bool) (z : ℤ) → shift t z 0 ≡ z
@@ -63,7 +64,7 @@ module _ (neighbours weights labels : List ℕ) (old a : ℕ) (gs : List ℤ) wh
       go l true h = simp length-set h
       go l false h = h
 
-  module _ (x : ℕ) (lx : x < length gs) (small : isFree (getD gs x (pos 0)) ≡ true → mag (getD gs x (pos 0)) ≤ 1125899906842624) where
+  module _ (x : ℕ) (lx : x < length gs) (small : isFree (getD gs x (pos 0)) ≡ true → mag (getD gs x (pos 0)) ≤ mostGain) where
     abbrev pub z : ℤ
     z = getD gs x (pos 0)
 
@@ -80,7 +81,7 @@ module _ (neighbours weights labels : List ℕ) (old a : ℕ) (gs : List ℤ) wh
       elsewhere ne true = getD-set-other l y x (shift (behind y) (getD l y (pos 0)) w) (pos 0) ne
       elsewhere ne false = refl
 
-      here : (f : Bool) → isFree z ≡ f → y ≡ x → getD l x (pos 0) ≡ moved-on f (behind x) z m → m + w ≤ 1125899906842624 → getD (l′ (isFree (getD l y (pos 0)))) x (pos 0) ≡ moved-on f (behind x) z (m + w)
+      here : (f : Bool) → isFree z ≡ f → y ≡ x → getD l x (pos 0) ≡ moved-on f (behind x) z m → m + w ≤ mostGain → getD (l′ (isFree (getD l y (pos 0)))) x (pos 0) ≡ moved-on f (behind x) z (m + w)
       here true e q ih h =
           let s1 = shift-small (behind x) z m in
           let s2 = small e in
@@ -88,11 +89,11 @@ module _ (neighbours weights labels : List ℕ) (old a : ℕ) (gs : List ℤ) wh
           rw (q, fr) (getD-set-same l x (shift (behind x) (getD l x (pos 0)) w) (pos 0) ll ∙ rw ih (shift-twice (behind x) z m w))
       here false e q ih h = rw (q, ih, e) ih
 
-      step : (t : Bool) → eqb y x ≡ t → getD l x (pos 0) ≡ moved-on (isFree z) (behind x) z m → m + weigh t w ≤ 1125899906842624 → getD (l′ (isFree (getD l y (pos 0)))) x (pos 0) ≡ moved-on (isFree z) (behind x) z (m + weigh t w)
+      step : (t : Bool) → eqb y x ≡ t → getD l x (pos 0) ≡ moved-on (isFree z) (behind x) z m → m + weigh t w ≤ mostGain → getD (l′ (isFree (getD l y (pos 0)))) x (pos 0) ≡ moved-on (isFree z) (behind x) z (m + weigh t w)
       step true e ih h = here (isFree z) refl (eqb-true y x e) ih h
       step false e ih h = rw add-zero (elsewhere (λ q. eqb-false y x e (sym q)) (isFree (getD l y (pos 0))) ∙ ih)
 
-    pub updated-at : (k : ℕ) → total k x ≤ 1125899906842624 → getD (updated neighbours weights labels old a k gs) x (pos 0) ≡ moved-on (isFree z) (behind x) z (total k x)
+    pub updated-at : (k : ℕ) → total k x ≤ mostGain → getD (updated neighbours weights labels old a k gs) x (pos 0) ≡ moved-on (isFree z) (behind x) z (total k x)
     unfolding updated sum
     updated-at zero h = none-yet (isFree z) (behind x)
     updated-at (suc k) h =

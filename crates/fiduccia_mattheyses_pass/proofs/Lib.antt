@@ -12,5 +12,5 @@ pub mod Stands
 pub mod Backs
 pub mod Walks
 pub mod Keeps
-pub mod Limits
+pub mod MoveLimits
 pub mod Zeros

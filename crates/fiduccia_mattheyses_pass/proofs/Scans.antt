@@ -16,9 +16,10 @@ use Rattle.lists.proofs.Bools.{and-left}
 use Rattle.lists.proofs.Orders.{clash, lt-self, not-lt-le}
 use Rattle.imbalance.specs.Load.{part}
 use Rattle.imbalance.specs.Limit.{mostWeight}
+use Rattle.fiduccia_mattheyses_pass.specs.inner.Bounds.{pastWeights, lockSize, far}
 use Rattle.fiduccia_mattheyses_pass.specs.Choice.{other}
 use Rattle.fiduccia_mattheyses_pass.specs.inner.Scan.{isFree, beats, picked, loadAfter, ceilingAt, pickBelow, nextOf}
-use Rattle.fiduccia_mattheyses_pass.specs.inner.Turn.{far, lesser, roomOf, roomsOf, liftsOf, nobody, Sighted, gainOf, loadOf, fitsOf, mayOf, Holds, Swept}
+use Rattle.fiduccia_mattheyses_pass.specs.inner.Turn.{lowest, lesser, roomOf, roomsOf, liftsOf, nobody, Sighted, gainOf, loadOf, fitsOf, mayOf, Holds, Swept}
 use Rattle.fiduccia_mattheyses_pass.specs.inner.Standing.{Scannable}
 use Rattle.fiduccia_mattheyses_pass.specs.declared.Held.{Held}
 use Rattle.fiduccia_mattheyses_pass.specs.declared.Next.the-variants.{Stop, Go}
@@ -27,9 +28,9 @@ use Rattle.fiduccia_mattheyses_pass.specs.declared.Pick.the-variants.{No
 use Rattle.fiduccia_mattheyses_pass.proofs.Beats.{by-load}
 
 -- a free vertex's gain is not below the lowest
-free-low : (g : ℤ) → isFree g ≡ true → leZ (negsuc 4611686018427387902) g ≡ true
+free-low : (g : ℤ) → isFree g ≡ true → leZ lowest g ≡ true
 free-low (pos g) p = refl
-free-low (negsuc g) p = let x = ltb-true g 4611686018427387903 p in le-leb g 4611686018427387902 (omega arith)
+free-low (negsuc g) p = let x = ltb-true g (lockSize - 1) p in le-leb g (lockSize - 2) (omega arith)
 
 -- the sample's gain, and one above its load
 abbrev pub startOf : Held → Held
@@ -79,7 +80,7 @@ ltb-above k l m = go (ltb (k + l) (k + m)) refl
     go false e = let x = ltb-false (k + l) (k + m) e in le-ltb l m (omega arith)
 
 -- the scan, with the rooms and lifts that the code has by loads and ceilings
-module _ (gains : List ℤ) (labels weights loads ceilings : List ℕ) (q : Scannable gains labels weights loads) (narrow : (v : ℕ) → getD weights v 0 < 4294967296) where
+module _ (gains : List ℤ) (labels weights loads ceilings : List ℕ) (q : Scannable gains labels weights loads) (narrow : (v : ℕ) → getD weights v 0 < pastWeights) where
   abbrev rooms : List ℕ
   rooms = roomsOf loads ceilings
 
@@ -133,8 +134,8 @@ module _ (gains : List ℤ) (labels weights loads ceilings : List ℕ) (q : Scan
   over-is : (u v : ℕ) → B u v ≡ beats (G u) (loadAfter loads weights labels u) (G v) (loadAfter loads weights labels v)
   over-is u v = rw (← load-is u, ← load-is v) (ap (λ (b : Bool). ltZ (G v) (G u) || (leZ (G v) (G u) && b)) (ltb-above (lesser loads) (L u) (L v)))
 
-  pick-is : picked G (λ v. lesser loads + L v) (best M B (length labels)) ≡ pick
-  pick-is = λ i. picked G (λ v. load-is v i) (best (λ v. isFree (G v) && fits-is v i) (λ u v. over-is u v i) (length labels))
+  pick-is : picked G (best M B (length labels)) ≡ pick
+  pick-is = λ i. picked G (best (λ v. isFree (G v) && fits-is v i) (λ u v. over-is u v i) (length labels))
 
   -- what is sampled has a load within the bound
   pub sample-near : (found : Held) → Holds rooms lifts gains labels weights nobody found → found .load ≤ far
@@ -188,20 +189,20 @@ module _ (gains : List ℤ) (labels weights loads ceilings : List ℕ) (q : Scan
           let k = s .holds .load-is found-one in
           best-is M B (length labels) (s .holds .vertex) (s .holds .here found-one) (s .holds .may-is found-one) (λ u i m. rw (← g, ← k) (s .beaten u i m)) (λ u i m. rw (← g, ← k) (s .ahead found-one u i m))
 
-      pub scan-found : (v k : ℕ) (g : ℤ) → v + 1 ≡ held .past → g ≡ held .gain → k ≡ lesser loads → Vertex v g (k + held .load) ≡ pick
-      scan-found v k g e z i =
+      pub scan-found : (v : ℕ) (g : ℤ) → v + 1 ≡ held .past → g ≡ held .gain → Vertex v g ≡ pick
+      scan-found v g e z =
           let p = s .holds .past-is found-one in
-          vertex-is v (s .holds .vertex) g (held .load) k (omega arith) (z ∙ s .holds .gain-is found-one) (s .holds .load-is found-one) i
-          ∙ ap (picked G (λ u. lesser loads + L u)) (sym is-best)
+          vertex-is v (s .holds .vertex) g (omega arith) (z ∙ s .holds .gain-is found-one)
+          ∙ ap (picked G) (sym is-best)
           ∙ pick-is
         where
-          vertex-is : (v a : ℕ) (g : ℤ) (l k : ℕ) → v ≡ a → g ≡ G a → l ≡ L a → k ≡ lesser loads → Vertex v g (k + l) ≡ picked G (λ u. lesser loads + L u) (some a)
-          vertex-is v a g l k x y z i = rw (y, z, x, i)
+          vertex-is : (v a : ℕ) (g : ℤ) → v ≡ a → g ≡ G a → Vertex v g ≡ picked G (some a)
+          vertex-is v a g x y = rw (y, x)
 
     pub scan-nobody : far ≤ held .load → Nobody ≡ pick
     scan-nobody l = go (s .holds .found) refl (h .found) refl ∙ pick-is
       where
-        go : (t : Bool) → s .holds .found ≡ t → (u : Bool) → h .found ≡ u → Nobody ≡ picked G (λ v. lesser loads + L v) (best M B (length labels))
+        go : (t : Bool) → s .holds .found ≡ t → (u : Bool) → h .found ≡ u → Nobody ≡ picked G (best M B (length labels))
         go true f u e = let k = s .holds .load-is f in let i = small (s .holds .vertex) in absurd (omega arith)
         go false n true e = absurd (sampled e n)
         go false n false e = rw (best-none M B (length labels) (λ u i. none-may e n u i (M u) refl))
@@ -211,7 +212,7 @@ module _ (q q′ : Pick) (bad limit : ℕ) (e : q ≡ q′) where
   pub next-nobody : q ≡ Nobody → Stop ≡ nextOf q′ bad limit
   next-nobody f = rw (sym e ∙ f)
 
-  module _ (v : ℕ) (g : ℤ) (l : ℕ) (f : q ≡ Vertex v g l) where
+  module _ (v : ℕ) (g : ℤ) (f : q ≡ Vertex v g) where
     pub next-stop : leZ g (pos 0) ≡ true → limit ≤ bad → Stop ≡ nextOf q′ bad limit
     next-stop b h = rw (sym e ∙ f, b, le-leb limit bad h)
 

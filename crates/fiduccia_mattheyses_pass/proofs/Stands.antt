@@ -3,29 +3,32 @@ use mathlib.Core.Path.{_≡_, refl, sym, ap, ap₂, _∙_}
 use mathlib.Core.Bool.{Bool, true, false, not, cond, _&&_}
 use mathlib.Core.List.{List, [], _∷_}
 use mathlib.Core.Option.{Option, none, some}
-use Prim.Native.Nat.{ℕ, zero, suc, _+_, _-_, _*_, _≤_, _<_}
+use Prim.Native.Nat.{ℕ, _+_, _-_, _≤_, _<_}
 use native.Mathlib.Omega.{arith}
 use lib.Dec.{ltb, leb, eqb}
 use lib.ListN.{length, getD, set, length-set, length-append, List·getD-eq-default}
 use lib.Seq.{getD-set-same, getD-set-other}
 use lib.IntN.{ℤ, pos, _-ℤ_}
 use lib.Signed.{mag, ltZ}
-use borrow.Author.Tests.{eq-eqb, ne-eqb, eqb-true, eqb-false, ltb-true, ltb-false}
+use borrow.Author.Tests.{eqb-true, eqb-false, ltb-true, ltb-false}
 use Rattle.lists.specs.Sum.{sum, total}
 use Rattle.lists.specs.Fill.{table}
-use Rattle.lists.proofs.Totals.{sum-holds, sum-zero}
-use Rattle.lists.proofs.Tables.{length-table, table-at, table-set}
+use Rattle.lists.proofs.Totals.{sum-holds, sum-most, sum-zero}
+use Rattle.lists.proofs.Tables.{length-table, table-at}
 use Rattle.lists.proofs.Differences.{pos-minus}
+use Rattle.imbalance.specs.Limit.{mostVertices, mostArcs}
 use Rattle.imbalance.specs.Load.{part, load}
+use Rattle.imbalance.specs.inner.Moved.{loadsMoved}
 use Rattle.imbalance.proofs.PartLoads.{load-within}
 use Rattle.topology.specs.Graph.{Graph, first, past, arcs, into, gain}
 use Rattle.topology.specs.Rule.{Symmetric}
 use Rattle.topology.specs.Cut.{cut, rowCut}
-use Rattle.topology.proofs.Moves.{cut-move, load-move}
-use Rattle.fiduccia_mattheyses_pass.specs.Choice.{Setting, other, flip, member, worth, after, fits, choice, isBad}
+use Rattle.topology.proofs.Moves.{cut-move, load-holds, loads-move}
+use Rattle.fiduccia_mattheyses_pass.specs.inner.Bounds.{mostInRow, mostCut, lockSize}
+use Rattle.fiduccia_mattheyses_pass.specs.Choice.{Setting, other, flip, member, worth, fits, choice, isBad}
 use Rattle.fiduccia_mattheyses_pass.specs.Pass.{State, start, moveOn, next}
 use Rattle.fiduccia_mattheyses_pass.specs.inner.Scan.{lock, picked, pickBelow, loadAfter, ceilingAt, nextOf}
-use Rattle.fiduccia_mattheyses_pass.specs.inner.Standing.{loadsAfter, gainsAfter, standingAfter, Scannable, Moveable, Fixed, Stands}
+use Rattle.fiduccia_mattheyses_pass.specs.inner.Standing.{gainsAfter, standingAfter, Scannable, Moveable, Fixed, Stands}
 use Rattle.fiduccia_mattheyses_pass.specs.declared.Pick.the-variants.{Nobody, Vertex}
 use Rattle.fiduccia_mattheyses_pass.specs.declared.Next.{Next}
 use Rattle.fiduccia_mattheyses_pass.specs.declared.Next.the-variants.{Stop, Go}
@@ -51,7 +54,7 @@ light {s} {n} f = record {
   short = λ u. short u (ltb u n) refl;
 }
   where
-    short : (u : ℕ) (b : Bool) → ltb u n ≡ b → past (s .graph) u - first (s .graph) u ≤ 65535
+    short : (u : ℕ) (b : Bool) → ltb u n ≡ b → past (s .graph) u - first (s .graph) u ≤ mostArcs
     short u true t = let l = ltb-true u n t in let a = f .rows .inside u l in let c = f .rows .small in omega arith
     short u false t =
         let l = ltb-false u n t in
@@ -59,14 +62,9 @@ light {s} {n} f = record {
         rw (List·getD-eq-default (s .graph .starts) 0 {n = u + 1} (omega arith)) (omega arith)
 
 -- the cut is far from the end of its type
-rows-small : (n : ℕ) (f : ℕ → ℕ) → ((u : ℕ) → f u ≤ 281474976710656) → sum n f ≤ 281474976710656 * n
-unfolding sum
-rows-small zero f h = omega arith
-rows-small (suc n) f h = omega (arith, rows-small n f h, h n)
-
-pub cut-small : (g : Graph) (p : List ℕ) → Light g → length p ≤ 4096 → cut g p ≤ 1152921504606846976
+pub cut-small : (g : Graph) (p : List ℕ) → Light g → length p ≤ mostVertices → cut g p ≤ mostCut
 unfolding cut arcs
-cut-small g p l few = omega (arith, rows-small (length p) (rowCut g p) (λ u. arcs-small g u (λ x. ltb x u && not (eqb (part p x) (part p u))) l))
+cut-small g p l few = omega (arith, sum-most (length p) mostInRow (rowCut g p) (λ u k. arcs-small g u (λ x. ltb x u && not (eqb (part p x) (part p u))) l))
 
 -- the cut after a move is the cut less the gain
 pub cut-after : (s : Setting) (p : List ℕ) (v : ℕ) → Symmetric (length p) (s .graph) → v < length p → pos (cut (s .graph) p) -ℤ worth s p v ≡ pos (cut (s .graph) (flip p v))
@@ -76,56 +74,9 @@ cut-after s p v ok l =
     (cut-move (s .graph) p v (other (part p v)) ok l)
 
 -- the loads after a move are those of the labels after it
-pub loads-follow : (ws p : List ℕ) (v : ℕ) → v < length p → part p v < 2 → loadsAfter (table 16 (load ws p)) (part p v) (getD ws v 0) ≡ table 16 (load ws (flip p v))
+loads-follow : (ws p : List ℕ) (v : ℕ) → v < length p → part p v < 2 → loadsMoved (table 16 (load ws p)) (part p v) (other (part p v)) (getD ws v 0) ≡ table 16 (load ws (flip p v))
 unfolding flip
-loads-follow ws p v lv two =
-    ap₂ (λ (l : List ℕ) (x : ℕ). set l (other old) x) down (ap (λ (x : ℕ). x + w) (table-at 16 (other old) 0 F (omega arith)))
-    ∙ table-set 16 (other old) (F (other old) + w) M H (omega arith) up rest
-  where
-    old : ℕ
-    old = part p v
-
-    w : ℕ
-    w = getD ws v 0
-
-    F : ℕ → ℕ
-    F = load ws p
-
-    H : ℕ → ℕ
-    H = load ws (set p v (other old))
-
-    M : ℕ → ℕ
-    M t = cond (eqb t old) (F old - w) (F t)
-
-    down : set (table 16 F) old (getD (table 16 F) old 0 - w) ≡ table 16 M
-    down =
-        table-set 16 old (getD (table 16 F) old 0 - w) F M (omega arith)
-        (rw (table-at 16 old 0 F (omega arith), eq-eqb old old refl))
-        (λ j ne. rw (ne-eqb j old ne))
-
-    up : F (other old) + w ≡ H (other old)
-    up =
-        let m = rw (ne-eqb old (other old) (λ r. omega arith), eq-eqb (other old) (other old) refl) at (load-move ws p v (other old) (other old) lv) in
-        omega arith
-
-    rest : (j : ℕ) → (j ≡ other old → ⊥) → M j ≡ H j
-    rest j ne = go (eqb j old) refl
-      where
-        go : (b : Bool) → eqb j old ≡ b → cond b (F old - w) (F j) ≡ H j
-        go true e =
-            let q = eqb-true j old e in
-            let m = rw (eq-eqb old old refl, ne-eqb (other old) old (λ r. omega arith)) at (load-move ws p v (other old) old lv) in
-            rw q (omega arith)
-        go false e =
-            let q = eqb-false j old e in
-            let m = rw (ne-eqb old j (λ r. q (sym r)), ne-eqb (other old) j (λ r. ne (sym r))) at (load-move ws p v (other old) j lv) in
-            omega arith
-
--- a vertex's weight stands in its part's load
-pub load-holds : (ws p : List ℕ) (v : ℕ) → v < length p → part p v < 2 → getD ws v 0 ≤ load ws p (part p v)
-load-holds ws p v lv two =
-    let m = rw (eq-eqb (part p v) (part p v) refl, ne-eqb (other (part p v)) (part p v) (λ r. omega arith)) at (load-move ws p v (other (part p v)) (part p v) lv) in
-    omega arith
+loads-follow ws p v lv two = loads-move ws p v (other (part p v)) lv (omega arith) (omega arith) (λ r. omega arith)
 
 pub two-flip : (p : List ℕ) (v : ℕ) → v < length p → ((x : ℕ) → part p x < 2) → (x : ℕ) → part (flip p v) x < 2
 unfolding flip
@@ -176,7 +127,7 @@ module _ (s : Setting) (n : ℕ) (f : Fixed s n) (st : State) (labels : List ℕ
   loads-are : (t : ℕ) → t < 2 → getD (c .loads .at) t 0 ≡ load (s .weights) labels t
   loads-are t l = rw (on .loaded) (table-at 16 t 0 (load (s .weights) labels) (omega arith))
 
-  pick-is : pickBelow gains (loadAfter (c .loads .at) (s .weights) labels) (ceilingAt (s .ceilings) labels) (length labels) ≡ picked (worth s labels) (after s labels) (choice s labels (st .moved))
+  pick-is : pickBelow gains (loadAfter (c .loads .at) (s .weights) labels) (ceilingAt (s .ceilings) labels) (length labels) ≡ picked (worth s labels) (choice s labels (st .moved))
   pick-is = pick-choice s labels (st .moved) gains (c .loads .at) (f .anyone) (light f) (on .gained) loads-are
 
   pub scannable : Scannable gains labels (s .weights) (c .loads .at)
@@ -191,7 +142,7 @@ module _ (s : Setting) (n : ℕ) (f : Fixed s n) (st : State) (labels : List ℕ
   next-as : (o : Option ℕ) → choice s labels (st .moved) ≡ o → asked ≡ Stop → next s st ≡ none
   next-as none e a = next-none s st (rw (on .labelled) at e)
   next-as (some v) e a =
-      let q : nextOf (Vertex v (worth s labels v) (after s labels v)) (c .bad) (s .badLimit) ≡ Stop = rw (pick-is, e) at a in
+      let q : nextOf (Vertex v (worth s labels v)) (c .bad) (s .badLimit) ≡ Stop = rw (pick-is, e) at a in
       let r = bad-stop (isBad s labels v) (leb (s .badLimit) (st .bad)) v (worth s labels v) (st .bad) (rw (on .bad-is) at q) in
       next-stop s st v (rw (on .labelled) at e) (rw (on .labelled) at r)
 
@@ -205,7 +156,7 @@ module _ (s : Setting) (n : ℕ) (f : Fixed s n) (st : State) (labels : List ℕ
       let o : _≡_ {A = ℕ} 0 1 = cc in
       absurd (omega arith)
   goes-as (some u) e v g b a =
-      let q : nextOf (Vertex u (worth s labels u) (after s labels u)) (c .bad) (s .badLimit) ≡ Go v g b = rw (pick-is, e) at a in
+      let q : nextOf (Vertex u (worth s labels u)) (c .bad) (s .badLimit) ≡ Go v g b = rw (pick-is, e) at a in
       let r = bad-go (isBad s labels u) (leb (s .badLimit) (st .bad)) u (worth s labels u) (st .bad) v g b (rw (on .bad-is) at q) in
       let i = chosen s labels (st .moved) u .0 e in
       let al = allowed-is s labels (st .moved) u (i .may) in
@@ -234,7 +185,7 @@ module _ (s : Setting) (n : ℕ) (f : Fixed s n) (st : State) (labels : List ℕ
     pub room : length (st .moved) + 1 ≤ n
     room = count-room v (st .moved) n in-n (go .new) (on .counted)
 
-    few′ : length labels ≤ 4096
+    few′ : length labels ≤ mostVertices
     few′ = let a = on .long in let b = f .rows .few in omega arith
 
     -- what the code of a move asks
@@ -243,21 +194,21 @@ module _ (s : Setting) (n : ℕ) (f : Fixed s n) (st : State) (labels : List ℕ
       rows = rw (on .long) (f .rows);
       scanned = scannable;
       here = go .here;
-      held = rw (loads-are (part labels v) (on .two v)) (load-holds (s .weights) labels v (go .here) (on .two v));
+      held = rw (loads-are (part labels v) (on .two v)) (load-holds (s .weights) labels v (go .here));
       smallGains = small-gains;
       smallGain = rw (go .gain-is) (worth-small s labels v (light f));
       smallCut = rw (on .cut-is) (cut-small (s .graph) labels (light f) few′);
       smallLeast = rw (on .least-is) (on .least-low);
     }
       where
-        lock-or : (x : ℕ) (t : Bool) → mag (cond t lock (worth s labels x)) ≤ 4611686018427387904
+        lock-or : (x : ℕ) (t : Bool) → mag (cond t lock (worth s labels x)) ≤ lockSize
         lock-or x true = omega arith
         lock-or x false = let w = worth-small s labels x (light f) in omega arith
 
-        small-gains : (x : ℕ) → mag (getD gains x (pos 0)) ≤ 4611686018427387904
+        small-gains : (x : ℕ) → mag (getD gains x (pos 0)) ≤ lockSize
         small-gains x = inside (ltb x (length labels)) refl
           where
-            inside : (t : Bool) → ltb x (length labels) ≡ t → mag (getD gains x (pos 0)) ≤ 4611686018427387904
+            inside : (t : Bool) → ltb x (length labels) ≡ t → mag (getD gains x (pos 0)) ≤ lockSize
             inside true t = rw (on .gained .each x (ltb-true x (length labels) t)) (lock-or x (member x (st .moved)))
             inside false t =
                 let l = ltb-false x (length labels) t in
@@ -290,7 +241,7 @@ module _ (s : Setting) (n : ℕ) (f : Fixed s n) (st : State) (labels : List ℕ
           long = flip-long ∙ on .long;
           two = two-flip labels v (go .here) (on .two);
           gained = gains-move s labels (st .moved) gains v symmetric′ (light f) (on .two) (go .here) (on .gained);
-          loaded = ap (λ (l : List ℕ). loadsAfter l (part labels v) (getD (s .weights) v 0)) (on .loaded) ∙ loads-follow (s .weights) labels v (go .here) (on .two v);
+          loaded = ap (λ (l : List ℕ). loadsMoved l (part labels v) (other (part labels v)) (getD (s .weights) v 0)) (on .loaded) ∙ loads-follow (s .weights) labels v (go .here) (on .two v);
           cut-is = cut-now;
           least-is = least-now;
           least-low = low;
@@ -312,11 +263,11 @@ module _ (s : Setting) (n : ℕ) (f : Fixed s n) (st : State) (labels : List ℕ
         least-now : cond (ltZ (c .cut -ℤ g) (c .least)) (c .cut -ℤ g) (c .least) ≡ pos (cond (ltb (cut (s .graph) (flip (st .labels) v)) (st .least)) (cut (s .graph) (flip (st .labels) v)) (st .least))
         least-now = rw (lower, cut-now, on .least-is) (push (ltb c′ (st .least)) c′ (st .least) ∙ ap pos state-least)
 
-        low-of : (t : Bool) → cond t c′ (st .least) ≤ 1152921504606846976
+        low-of : (t : Bool) → cond t c′ (st .least) ≤ mostCut
         low-of true = cut-small (s .graph) (flip labels v) (light f) (let a = flip-long in let b = few′ in omega arith)
         low-of false = on .least-low
 
-        low : cond (ltb (cut (s .graph) (flip (st .labels) v)) (st .least)) (cut (s .graph) (flip (st .labels) v)) (st .least) ≤ 1152921504606846976
+        low : cond (ltb (cut (s .graph) (flip (st .labels) v)) (st .least)) (cut (s .graph) (flip (st .labels) v)) (st .least) ≤ mostCut
         low = rw (← state-least) (low-of (ltb c′ (st .least)))
 
         as-state-kept : cond (ltb c′ (st .least)) (length (st .moved) + 1) (st .kept) ≡ cond (ltb (cut (s .graph) (flip (st .labels) v)) (st .least)) (length (st .moved) + 1) (st .kept)

@@ -2,7 +2,7 @@
 use mathlib.Core.Path.{_≡_, refl, sym, ap, ap₂, _∙_}
 use mathlib.Core.Bool.{Bool, true, false, cond}
 use mathlib.Core.List.{List}
-use Prim.Native.Nat.{ℕ, suc, _+_, _-_, _*_, _≤_, _<_}
+use Prim.Native.Nat.{ℕ, suc, _+_, _-_, _*_, _^_, _≤_, _<_}
 use native.Mathlib.Omega.{arith}
 use lib.Dec.{ltb, eqb}
 use lib.ListN.{length, getD, set}
@@ -12,7 +12,7 @@ use borrow.Author.Needs.{sfits-of}
 use lib.IntN.{ℤ, pos, _+ℤ_}
 use lib.Signed.{mag}
 use mir.Facts.{toZ-ofZ}
-use mir.Val.{toZ, ofZ, SFits}
+use mir.Val.{toZ, ofZ, SFits, hbits}
 use mir.Syntax.{w64}
 use Rattle.topology.specs.Graph.{change}
 use Rattle.fiduccia_mattheyses_pass.specs.inner.Scan.{isFree, slotOf}
@@ -21,9 +21,10 @@ use Rattle.fiduccia_mattheyses_pass.specs.declared.Slot.{Slot}
 use Rattle.fiduccia_mattheyses_pass.specs.declared.Slot.the-variants.{Locked, Free}
 use Rattle.lists.proofs.Differences.{mag-up, mag-down}
 use Rattle.topology.proofs.Gains.{twice-small}
+use Rattle.fiduccia_mattheyses_pass.specs.inner.Bounds.{pastWeights, mostTwice, mostUpdated}
 
 -- a signed number that went through memory is itself
-pub back : (z : ℤ) → mag z < 9223372036854775808 → toZ w64 (ofZ w64 z) ≡ z
+pub back : (z : ℤ) → mag z < 2 ^ hbits w64 → toZ w64 (ofZ w64 z) ≡ z
 back z h = toZ-ofZ (sfits-of h)
 
 -- what a place in the list of gains answers
@@ -42,13 +43,13 @@ locked-of : (s : Slot) (z : ℤ) → s ≡ slotOf z → s ≡ Locked → isFree 
 locked-of s z p q = locked-go (isFree z) z (sym p ∙ q)
 
 -- the gain g and what the arc adds to it, r, summed as they went through memory: the sum is the gain's shift, far from the ends of the range
-module _ (g : ℤ) (w : ℕ) (hg : mag g < 4612811918334230528) (hw : w < 4294967296) (t : Bool) (r : ℤ) (e : r ≡ change t w) where
+module _ (g : ℤ) (w : ℕ) (hg : mag g < mostUpdated) (hw : w < pastWeights) (t : Bool) (r : ℤ) (e : r ≡ change t w) where
   shift-is : (u : Bool) → g +ℤ change u w ≡ shift u g w
   unfolding shift
   shift-is true = refl
   shift-is false = refl
 
-  shift-small : (u : Bool) → mag (g +ℤ change u w) ≤ mag g + 8589934592
+  shift-small : (u : Bool) → mag (g +ℤ change u w) ≤ mag g + mostTwice
   shift-small true = omega (arith, mag-up g (2 * w))
   shift-small false = omega (arith, mag-down g (2 * w))
 
@@ -58,7 +59,7 @@ module _ (g : ℤ) (w : ℕ) (hg : mag g < 4612811918334230528) (hw : w < 429496
   pub sum-fits : SFits w64 (toZ w64 (ofZ w64 g) +ℤ toZ w64 (ofZ w64 r))
   sum-fits = rw summed (sfits-of (omega (arith, shift-small t)))
 
-  pub sum-shifts : (toZ w64 (ofZ w64 (toZ w64 (ofZ w64 g) +ℤ toZ w64 (ofZ w64 r))) ≡ shift t g w) × (mag (toZ w64 (ofZ w64 (toZ w64 (ofZ w64 g) +ℤ toZ w64 (ofZ w64 r)))) ≤ mag g + 8589934592)
+  pub sum-shifts : (toZ w64 (ofZ w64 (toZ w64 (ofZ w64 g) +ℤ toZ w64 (ofZ w64 r))) ≡ shift t g w) × (mag (toZ w64 (ofZ w64 (toZ w64 (ofZ w64 g) +ℤ toZ w64 (ofZ w64 r)))) ≤ mag g + mostTwice)
   sum-shifts = rw (toZ-ofZ sum-fits, summed) (shift-is t, shift-small t)
 
 -- a number that is stored: nothing grows by more than what was added

@@ -3,7 +3,7 @@ use mathlib.Core.Path.{_≡_, refl, sym, ap, _∙_}
 use mathlib.Core.Logic.{_≢_}
 use mathlib.Core.Bool.{Bool, true, false, cond, _||_}
 use mathlib.Core.List.{List, [], _∷_, _++_}
-use Prim.Native.Nat.{ℕ, zero, suc, _+_, _-_, _*_, _≤_, _<_}
+use Prim.Native.Nat.{ℕ, _+_, _-_, _*_, _≤_, _<_}
 use native.Mathlib.Omega.{arith}
 use lib.Dec.{eqb}
 use lib.ListN.{length, getD, set, length-set}
@@ -11,8 +11,9 @@ use lib.Seq.{getD-set-same, getD-set-other}
 use lib.IntN.{ℤ, pos, subℕ, _+ℤ_, _-ℤ_}
 use lib.Signed.{mag}
 use borrow.Author.Tests.{eq-eqb, ne-eqb, eqb-true, eqb-false}
-use Rattle.lists.specs.Sum.{sum, weigh}
+use Rattle.lists.specs.Sum.{weigh}
 use Rattle.topology.specs.Graph.{Graph, first, past, neighbour, weight, arcs, into, gain}
+use Rattle.imbalance.specs.Limit.{mostArcs}
 use Rattle.imbalance.specs.Load.{part}
 use Rattle.lists.specs.Sum.{between}
 use Rattle.fiduccia_mattheyses_pass.specs.Choice.{Setting, other, flip, member, worth}
@@ -23,33 +24,30 @@ use Rattle.fiduccia_mattheyses_pass.specs.inner.Scan.{lock, isFree}
 use Rattle.fiduccia_mattheyses_pass.specs.inner.Standing.{Gains}
 use Rattle.fiduccia_mattheyses_pass.proofs.Moved.{member-more}
 use Rattle.fiduccia_mattheyses_pass.specs.inner.Update.{shift, updated}
+use Rattle.lists.proofs.Totals.{sum-most}
 use Rattle.lists.proofs.Differences.{mag-sub, same, plus, take-away}
+use Rattle.fiduccia_mattheyses_pass.specs.inner.Bounds.{pastWeights, mostInRow, mostGain}
 use Rattle.fiduccia_mattheyses_pass.proofs.Follows.{free-small, updated-at, total, length-updated, moved-on}
-
-sum-small : (n : ℕ) (f : ℕ → ℕ) → ((i : ℕ) → f i ≤ 4294967296) → sum n f ≤ 4294967296 * n
-unfolding sum
-sum-small zero f h = omega arith
-sum-small (suc n) f h = omega (arith, sum-small n f h, h n)
 
 weigh-le : (t : Bool) (x m : ℕ) → x ≤ m → weigh t x ≤ m
 weigh-le true x m h = h
 weigh-le false x m h = omega arith
 
--- what the limits give: rows of at most 65,535 arcs, of weights below 2 ^ 32
+-- what the limits give: short rows of small weights
 pub record Light (g : Graph) : Type 0 where
-  pub light : (e : ℕ) → weight g e ≤ 4294967296
-  pub short : (u : ℕ) → past g u - first g u ≤ 65535
+  pub light : (e : ℕ) → weight g e ≤ pastWeights
+  pub short : (u : ℕ) → past g u - first g u ≤ mostArcs
 
-pub arcs-small : (g : Graph) (u : ℕ) (t : ℕ → Bool) → Light g → arcs g u t ≤ 281474976710656
+pub arcs-small : (g : Graph) (u : ℕ) (t : ℕ → Bool) → Light g → arcs g u t ≤ mostInRow
 unfolding arcs between
 arcs-small g u t l =
-    omega (arith, l .short u, sum-small (past g u - first g u) (λ i. weigh (t (neighbour g (first g u + i))) (weight g (first g u + i))) (λ i. weigh-le (t (neighbour g (first g u + i))) (weight g (first g u + i)) 4294967296 (l .light (first g u + i))))
+    omega (arith, l .short u, sum-most (past g u - first g u) pastWeights (λ i. weigh (t (neighbour g (first g u + i))) (weight g (first g u + i))) (λ i k. weigh-le (t (neighbour g (first g u + i))) (weight g (first g u + i)) pastWeights (l .light (first g u + i))))
 
 module _ (s : Setting) (p : List ℕ) where
   abbrev G : Graph
   G = s .graph
 
-  pub worth-small : (x : ℕ) → Light G → mag (worth s p x) ≤ 1125899906842624
+  pub worth-small : (x : ℕ) → Light G → mag (worth s p x) ≤ mostGain
   unfolding worth gain into
   worth-small x l =
       omega (arith, mag-sub (into G p x (other (part p x))) (into G p x (part p x)), arcs-small G x (λ v. eqb (part p v) (other (part p x))) l, arcs-small G x (λ v. eqb (part p v) (part p x)) l)
@@ -115,7 +113,7 @@ module _ (s : Setting) (p locked : List ℕ) (gs : List ℤ) (v : ℕ) (ok : Sym
   unfolding joins arcs between
   arrived x = refl
 
-  joins-small : (x : ℕ) → joins g v x ≤ 281474976710656
+  joins-small : (x : ℕ) → joins g v x ≤ mostInRow
   unfolding joins
   joins-small x = arcs-small g v (λ y. eqb y x) light
 
@@ -123,7 +121,7 @@ module _ (s : Setting) (p locked : List ℕ) (gs : List ℤ) (v : ℕ) (ok : Sym
     abbrev w : ℤ
     w = getD (set gs v lock) x (pos 0)
 
-    follows : (f : Bool) → isFree w ≡ f → (f ≡ true → mag w ≤ 1125899906842624) → getD gs′ x (pos 0) ≡ moved-on f (eqb (part (flip p v) x) (part p v)) w (joins g v x)
+    follows : (f : Bool) → isFree w ≡ f → (f ≡ true → mag w ≤ mostGain) → getD gs′ x (pos 0) ≡ moved-on f (eqb (part (flip p v) x) (part p v)) w (joins g v x)
     follows f e sm =
         let r = updated-at (g .neighbours) (g .weights) (flip p v) (part p v) (first g v) (set gs v lock) x (rw (length-set gs v lock, h .long) lx) (λ q. sm (sym e ∙ q)) k (omega (arith, arrived x, joins-small x)) in
         rw (e, arrived x) at r

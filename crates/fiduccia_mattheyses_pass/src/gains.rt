@@ -5,9 +5,11 @@ ghost use lib.ListN.{length, getD};
 ghost use lib.Dec.{eqb};
 ghost use lib.IntN.{pos};
 ghost use lib.Signed.{mag};
+ghost use Rattle.imbalance.specs.Limit.{mostArcs};
 ghost use Rattle.imbalance.specs.Load.{part};
 ghost use Rattle.topology.specs.Graph.{inRows};
 ghost use Rattle.topology.specs.Rule.{Rows};
+ghost use Rattle.fiduccia_mattheyses_pass.specs.inner.Bounds.{mostTwice, lockSize, mostUpdated};
 ghost use Rattle.fiduccia_mattheyses_pass.specs.inner.Update.{shift, updated};
 ghost use Rattle.fiduccia_mattheyses_pass.specs.inner.Standing.{freshGains};
 use crate::Slot;
@@ -33,8 +35,8 @@ pub fn fresh_gains(
 
 // A neighbour's gain after the arc's other end left part old: twice the weight is added where the neighbour stayed behind, and that negated where it is joined.
 fn shifted(g: i64, w: u32, p: u32, old: u32) -> i64
-    requires { ⌜ mag g < 4612811918334230528 ⌝ }
-    ensures { λ r. ⌜ (r ≡ shift (eqb p old) g w) × (mag r ≤ mag g + 8589934592) ⌝ }
+    requires { ⌜ mag g < mostUpdated ⌝ }
+    ensures { λ r. ⌜ (r ≡ shift (eqb p old) g w) × (mag r ≤ mag g + mostTwice) ⌝ }
 {
     g + topology::twice(w, p, old)
 }
@@ -49,8 +51,8 @@ pub fn update_neighbours(
     a: usize,
     b: usize,
 )
-    requires { ⌜ (a ≤ b) × (b ≤ length (now neighbours)) × (b ≤ 65535) × (length (now «arc_weights») ≡ length (now neighbours)) × (length (now gains) ≡ length (now labels)) ⌝ }
-    requires { ⌜ ((e : ℕ) → e < length (now neighbours) → getD (now neighbours) e 0 < length (now labels)) × ((x : ℕ) → mag (getD (now gains) x (pos 0)) ≤ 4611686018427387904) ⌝ }
+    requires { ⌜ (a ≤ b) × (b ≤ length (now neighbours)) × (b ≤ mostArcs) × (length (now «arc_weights») ≡ length (now neighbours)) × (length (now gains) ≡ length (now labels)) ⌝ }
+    requires { ⌜ ((e : ℕ) → e < length (now neighbours) → getD (now neighbours) e 0 < length (now labels)) × ((x : ℕ) → mag (getD (now gains) x (pos 0)) ≤ lockSize) ⌝ }
     ensures { λ _. ⌜ now (gains .exit) ≡ updated (now (neighbours .entry)) (now («arc_weights» .entry)) (now (labels .entry)) old a (b - a) (now (gains .entry)) ⌝ }
 {
     for e in a..b {

@@ -4,10 +4,17 @@ mod moves;
 mod scan;
 
 pub use gains::fresh_gains;
+use imbalance::Ceilings;
 use imbalance::Loads;
 pub use moves::make_move;
-pub use moves::moved_loads;
 pub use scan::next_move;
+
+// What bounds the moves of a pass: the ceiling of each part, the bad limit, and the move limit.
+pub struct Limits {
+    pub ceilings: Ceilings,
+    pub bad: u64,
+    pub moves: usize,
+}
 
 // A vertex's place in the list of gains: a locked vertex has no gain.
 pub enum Slot {
@@ -15,10 +22,10 @@ pub enum Slot {
     Free(i64),
 }
 
-// What the scan finds: nobody, or a vertex with its gain and its target's load after the move.
+// What the scan finds: nobody, or a vertex with its gain.
 pub enum Pick {
     Nobody,
-    Vertex(usize, i64, u64),
+    Vertex(usize, i64),
 }
 
 // What a scan holds on its way: one past the vertex, its gain, and how far its target's load after the move is above the lesser of the two loads.

@@ -5,27 +5,13 @@ ghost use lib.ListN.{length, getD};
 ghost use lib.IntN.{pos};
 ghost use lib.Signed.{mag};
 ghost use Rattle.imbalance.specs.Load.{part};
-ghost use Rattle.imbalance.specs.Limit.{mostWeight};
 ghost use Rattle.topology.specs.Graph.{inRows};
 ghost use Rattle.topology.specs.Rule.{Rows};
-ghost use Rattle.fiduccia_mattheyses_pass.specs.Choice.{other, flip};
-ghost use Rattle.fiduccia_mattheyses_pass.specs.inner.Standing.{loadsAfter, gainsAfter, standingWith, standingAfter, Moveable};
+ghost use Rattle.fiduccia_mattheyses_pass.specs.inner.Bounds.{mostGain, mostCut, lockSize};
+ghost use Rattle.fiduccia_mattheyses_pass.specs.Choice.{flip};
+ghost use Rattle.fiduccia_mattheyses_pass.specs.inner.Standing.{gainsAfter, standingWith, standingAfter, Moveable};
 use crate::Standing;
 use imbalance::Loads;
-
-// The loads after a vertex of weight w left part old for the other one: one place down and one up.
-pub fn moved_loads(loads: Loads, old: u32, w: u32) -> Loads
-    requires { ⌜ (old < 2) × (length (loads .at) ≡ 16) × (w ≤ getD (loads .at) old 0) × (getD (loads .at) (other old) 0 ≤ mostWeight) ⌝ }
-    ensures { λ r. ⌜ r .at ≡ loadsAfter (loads .at) old w ⌝ }
-{
-    let from = lists::index(old);
-    let to = 1 - from;
-    let at = loads.at;
-    let mut next = loads;
-    next.at[from] = at[from] - lists::wide(w);
-    next.at[to] = at[to] + lists::wide(w);
-    next
-}
 
 // The label and the gains after v's move.
 fn move_vertex(
@@ -36,7 +22,7 @@ fn move_vertex(
     gains: &mut [i64],
     v: usize,
 )
-    requires { ⌜ Rows (length (now labels)) (inRows (now starts) (now neighbours) (now «arc_weights»)) × (v < length (now labels)) × (length (now gains) ≡ length (now labels)) × (part (now labels) v < 2) × ((x : ℕ) → mag (getD (now gains) x (pos 0)) ≤ 4611686018427387904) ⌝ }
+    requires { ⌜ Rows (length (now labels)) (inRows (now starts) (now neighbours) (now «arc_weights»)) × (v < length (now labels)) × (length (now gains) ≡ length (now labels)) × (part (now labels) v < 2) × ((x : ℕ) → mag (getD (now gains) x (pos 0)) ≤ lockSize) ⌝ }
     ensures { λ _. ⌜ (now (labels .exit) ≡ flip (now (labels .entry)) v) × (now (gains .exit) ≡ gainsAfter (inRows (now (starts .entry)) (now (neighbours .entry)) (now («arc_weights» .entry))) (now (labels .entry)) (now (gains .entry)) v) ⌝ }
 {
     let old = labels[v];
@@ -49,7 +35,7 @@ fn move_vertex(
 
 // The standing after the move numbered made: the least cut and where it was first met follow.
 fn next_standing(st: Standing, loads: Loads, g: i64, bad: u64, made: usize) -> Standing
-    requires { ⌜ (mag g ≤ 1125899906842624) × (mag (st .cut) ≤ 1152921504606846976) × (mag (st .least) ≤ 1152921504606846976) ⌝ }
+    requires { ⌜ (mag g ≤ mostGain) × (mag (st .cut) ≤ mostCut) × (mag (st .least) ≤ mostCut) ⌝ }
     ensures { λ r. ⌜ r ≡ standingWith st (loads .at) g bad made ⌝ }
 {
     let cut = st.cut - g;
@@ -92,8 +78,9 @@ pub fn make_move(
         × (now (gains .exit) ≡ gainsAfter (inRows (now (starts .entry)) (now (neighbours .entry)) (now («arc_weights» .entry))) (now (labels .entry)) (now (gains .entry)) v)
         × (r ≡ standingAfter st (part (now (labels .entry)) v) (getD (now (weights .entry)) v 0) g bad made) ⌝ }
 {
-    let old = st.loads;
-    let loads = moved_loads(old, labels[v], weights[v]);
+    let before = st.loads;
+    let old = labels[v];
+    let loads = imbalance::moved_loads(before, old, 1 - old, weights[v]);
     move_vertex(starts, neighbours, arc_weights, labels, gains, v);
     next_standing(st, loads, g, bad, made)
 }

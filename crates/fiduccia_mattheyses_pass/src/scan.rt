@@ -4,10 +4,12 @@ ghost use mathlib.Core.Bool.{true};
 ghost use Prim.Native.Nat.{_+_, _*_, _<_, _≤_};
 ghost use lib.ListN.{length};
 ghost use lib.Signed.{ltZ};
+ghost use Rattle.imbalance.specs.Limit.{mostVertices};
 ghost use Rattle.fiduccia_mattheyses_pass.specs.inner.Scan.{isFree, slotOf, beats, loadAfter, ceilingAt, pickBelow, nextOf};
 ghost use Rattle.fiduccia_mattheyses_pass.specs.inner.Turn.{lesser, roomOf, roomsOf, liftsOf, Sighted, turned, turns, nobody, Holds, Swept};
 ghost use Rattle.fiduccia_mattheyses_pass.specs.inner.Standing.{Scannable};
 use crate::Held;
+use crate::Limits;
 use crate::Next;
 use crate::Pick;
 use crate::Slot;
@@ -16,13 +18,13 @@ use imbalance::Ceilings;
 use imbalance::Loads;
 
 // What stands in the list of gains for a locked vertex.
-pub const LOCKED: i64 = -4611686018427387904;
+pub const LOCKED: i64 = -(1 << 62);
 
 // The lowest gain that a free vertex can have.
-const LOWEST: i64 = -4611686018427387903;
+const LOWEST: i64 = LOCKED + 1;
 
 // No load comes near it: the load of what is held before there is a vertex.
-const FAR: u64 = 9223372036854775808;
+const FAR: u64 = 1 << 63;
 
 // Free with its gain, or locked.
 pub fn slot_of(g: i64) -> Slot
@@ -261,7 +263,7 @@ pub fn choose(
     };
     let held = sweep(start, gains, labels, weights, &rooms, &lifts);
     if held.load < FAR {
-        return Pick::Vertex(held.past - 1, held.gain, lesser_load(loads) + held.load);
+        return Pick::Vertex(held.past - 1, held.gain);
     }
     Pick::Nobody
 }
@@ -279,20 +281,20 @@ pub fn next_move(
     labels: &[u32],
     weights: &[u32],
     st: Standing,
-    ceilings: Ceilings,
-    bad_limit: u64,
+    limits: Limits,
 ) -> Next
-    requires { ⌜ Scannable (now gains) (now labels) (now weights) (st .loads .at) × (length (ceilings .at) ≡ 16) × (st .bad ≤ 4096) ⌝ }
-    ensures { λ r. ⌜ r ≡ nextOf (pickBelow (now (gains .entry)) (loadAfter (st .loads .at) (now (weights .entry)) (now (labels .entry))) (ceilingAt (ceilings .at) (now (labels .entry))) (length (now (labels .entry)))) (st .bad) «bad_limit» ⌝ }
+    requires { ⌜ Scannable (now gains) (now labels) (now weights) (st .loads .at) × (length (limits .ceilings .at) ≡ 16) × (st .bad ≤ mostVertices) ⌝ }
+    ensures { λ r. ⌜ r ≡ nextOf (pickBelow (now (gains .entry)) (loadAfter (st .loads .at) (now (weights .entry)) (now (labels .entry))) (ceilingAt (limits .ceilings .at) (now (labels .entry))) (length (now (labels .entry)))) (st .bad) (limits .bad) ⌝ }
 {
     let loads = st.loads;
+    let ceilings = limits.ceilings;
     let first = sample_from(st);
-    let Pick::Vertex(v, g, _) = choose(gains, labels, weights, loads, ceilings, first) else {
+    let Pick::Vertex(v, g) = choose(gains, labels, weights, loads, ceilings, first) else {
         return Next::Stop;
     };
     if g <= 0 {
         let bad = st.bad;
-        if bad_limit <= bad {
+        if limits.bad <= bad {
             return Next::Stop;
         }
         return Next::Go(v, g, bad + 1);

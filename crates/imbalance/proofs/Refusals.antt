@@ -18,6 +18,7 @@ use Rattle.imbalance.specs.Limit.{mostVertices, mostWeight, heavy, label
 use Rattle.imbalance.specs.Ceiling.{zero64, most64, legalE, unfitChoice}
 use Rattle.imbalance.specs.Number.{loadsNumber, loadsAnswer}
 use Rattle.imbalance.specs.Rules.{NoneAbove, FitChoice, loadsRules}
+use Rattle.imbalance.specs.declared.Ceiling.{Ceiling}
 use Rattle.imbalance.specs.declared.LoadsAnswer.{LoadsAnswer}
 use Rattle.imbalance.proofs.Limits.{label-most}
 
@@ -30,14 +31,20 @@ unfolding labelAbove
 labelled most labels =
     (label-most most labels, λ k. some-nowhere (length labels) (λ v. ltb most (getD labels v 0)) (λ v l. le-ltb most (getD labels v 0) (k v l)))
 
-pub fit-choice : (choice : ℕ) (e : Float) → (unfitChoice choice e ≡ false) ↔ FitChoice choice e
+pub fit-choice : (asked : Ceiling) → (unfitChoice asked ≡ false) ↔ FitChoice asked
 unfolding unfitChoice legalE
-fit-choice choice e = (there, λ k. rw (le-ltb 2 choice (k .known)) (back k (eqb choice 2) refl))
+fit-choice asked = (there, λ k. rw (le-ltb 2 choice (k .known)) (back k (eqb choice 2) refl))
   where
-    legal : unfitChoice choice e ≡ false → choice ≡ 2 → le zero64 e && le e most64 ≡ true
+    choice : ℕ
+    choice = asked .choice
+
+    e : Float
+    e = asked .imbalance
+
+    legal : unfitChoice asked ≡ false → choice ≡ 2 → le zero64 e && le e most64 ≡ true
     legal h two = not-false (le zero64 e && le e most64) (rw (eq-eqb choice 2 two) at (or-false (ltb 2 choice) (eqb choice 2 && not (legalE e)) h .1))
 
-    there : unfitChoice choice e ≡ false → FitChoice choice e
+    there : unfitChoice asked ≡ false → FitChoice asked
     there h =
         record {
           known = ltb-false 2 choice (or-false (ltb 2 choice) (eqb choice 2 && not (legalE e)) h .0);
@@ -45,7 +52,7 @@ fit-choice choice e = (there, λ k. rw (le-ltb 2 choice (k .known)) (back k (eqb
           most = λ two. and-right (le zero64 e) (le e most64) (legal h two);
         }
 
-    back : FitChoice choice e → (b : Bool) → eqb choice 2 ≡ b → b && not (legalE e) ≡ false
+    back : FitChoice asked → (b : Bool) → eqb choice 2 ≡ b → b && not (legalE e) ≡ false
     back k true q = let two = eqb-true choice 2 q in rw (k .least two, k .most two)
     back k false q = refl
 

@@ -11,6 +11,7 @@ use borrow.Author.Tests.{eqb-true, eqb-false}
 use Rattle.lists.proofs.Tables.{table-ext}
 use Rattle.imbalance.specs.Ceiling.{legalE, unfitChoice, largest, ceilingOf, ceiling, ceilings}
 use Rattle.imbalance.specs.Used.{SameUsed}
+use Rattle.imbalance.specs.declared.Ceiling.{Ceiling}
 
 -- calls with the same number come to the same, where they do so when they are done
 pub same-outcome : {A : Type 0} (j k : ℕ) (x y : A) (refused : ℕ → A) → j ≡ k → (j ≡ 0 → x ≡ y) → cond (eqb j 0) x (refused j) ≡ cond (eqb k 0) y (refused k)
@@ -20,27 +21,27 @@ same-outcome j k x y refused e h = rw (← e) (go (eqb j 0) refl)
     go true q = h (eqb-true j 0 q)
     go false q = refl
 
-module _ (choice whole : ℕ) (e : Float) (choice′ whole′ : ℕ) (e′ : Float) (same : SameUsed choice whole e choice′ whole′ e′) where
+module _ (a b : Ceiling) (same : SameUsed a b) where
   -- number 7's test
-  pub same-fit : unfitChoice choice e ≡ unfitChoice choice′ e′
+  pub same-fit : unfitChoice a ≡ unfitChoice b
   unfolding unfitChoice
-  same-fit = rw (← same .choices) (ap (λ (b : Bool). ltb 2 choice || b) (go (eqb choice 2) refl))
+  same-fit = rw (← same .choices) (ap (λ (t : Bool). ltb 2 (a .choice) || t) (go (eqb (a .choice) 2) refl))
     where
-      go : (b : Bool) → eqb choice 2 ≡ b → b && not (legalE e) ≡ b && not (legalE e′)
-      go true q = ap (λ (x : Float). not (legalE x)) (same .imbalances (eqb-true choice 2 q))
+      go : (t : Bool) → eqb (a .choice) 2 ≡ t → t && not (legalE (a .imbalance)) ≡ t && not (legalE (b .imbalance))
+      go true q = ap (λ (x : Float). not (legalE x)) (same .imbalances (eqb-true (a .choice) 2 q))
       go false q = refl
 
   -- the ceilings, by a choice that is not above 2
-  pub same-ceilings : (loads : List ℕ) (total parts : ℕ) → choice ≤ 2 → ceilings loads total parts choice whole e ≡ ceilings loads total parts choice′ whole′ e′
+  pub same-ceilings : (loads : List ℕ) (total parts : ℕ) → a .choice ≤ 2 → ceilings loads total parts a ≡ ceilings loads total parts b
   unfolding ceilings ceiling
-  same-ceilings loads total parts known = rw (← same .choices) (table-ext 16 _ _ (λ t l. go (eqb choice 0) refl (eqb choice 1) refl))
+  same-ceilings loads total parts known = rw (← same .choices) (table-ext 16 _ _ (λ t l. go (eqb (a .choice) 0) refl (eqb (a .choice) 1) refl))
     where
       go :
-          (a : Bool) → eqb choice 0 ≡ a → (b : Bool) → eqb choice 1 ≡ b
-          → cond a (largest 16 (λ t. getD loads t 0)) (cond b whole (ceilingOf total parts e)) ≡ cond a (largest 16 (λ t. getD loads t 0)) (cond b whole′ (ceilingOf total parts e′))
-      go true p b q = refl
-      go false p true q = same .wholes (eqb-true choice 1 q)
+          (s : Bool) → eqb (a .choice) 0 ≡ s → (t : Bool) → eqb (a .choice) 1 ≡ t
+          → cond s (largest 16 (λ i. getD loads i 0)) (cond t (a .whole) (ceilingOf total parts (a .imbalance))) ≡ cond s (largest 16 (λ i. getD loads i 0)) (cond t (b .whole) (ceilingOf total parts (b .imbalance)))
+      go true p t q = refl
+      go false p true q = same .wholes (eqb-true (a .choice) 1 q)
       go false p false q =
-          let x = eqb-false choice 0 p in
-          let y = eqb-false choice 1 q in
+          let x = eqb-false (a .choice) 0 p in
+          let y = eqb-false (a .choice) 1 q in
           ap (λ (z : Float). ceilingOf total parts z) (same .imbalances (omega (arith, x, y)))

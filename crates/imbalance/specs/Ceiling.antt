@@ -7,6 +7,7 @@ use lib.ListN.{getD}
 use lib.Dec.{ltb, eqb}
 use lib.Ieee.{Float, nan, inf, fin, binary64, up, down, ofInt, div, mul, add, le}
 use Rattle.lists.specs.Fill.{table}
+use Rattle.imbalance.specs.declared.Ceiling.{Ceiling}
 
 -- 0.0 and 64.0
 abbrev pub zero64 : Float
@@ -43,14 +44,16 @@ largest zero f = 0
 largest (suc n) f = cond (ltb (largest n f) (f n)) (f n) (largest n f)
 
 -- number 7's test of the choice: above 2, or 2 with e NaN, below 0 or above 64. "What the choice does not use is not looked at."
-unfoldable pub unfitChoice : ℕ → Float → Bool
-unfitChoice choice e = ltb 2 choice || (eqb choice 2 && not (legalE e))
+unfoldable pub unfitChoice : Ceiling → Bool
+unfitChoice asked = ltb 2 (asked .choice) || (eqb (asked .choice) 2 && not (legalE (asked .imbalance)))
 
 -- "0 carried (the largest starting load), 1 a whole u32 (added), 2 imbalance e"
-unfoldable pub ceiling : List ℕ → ℕ → ℕ → ℕ → ℕ → Float → ℕ
-ceiling loads total parts choice whole e =
-    cond (eqb choice 0) (largest 16 (λ t. getD loads t 0)) (cond (eqb choice 1) whole (ceilingOf total parts e))
+unfoldable pub ceiling : List ℕ → ℕ → ℕ → Ceiling → ℕ
+ceiling loads total parts asked =
+    cond (eqb (asked .choice) 0) (largest 16 (λ t. getD loads t 0))
+    (cond (eqb (asked .choice) 1) (asked .whole)
+    (ceilingOf total parts (asked .imbalance)))
 
 -- the ceilings by part: today's choices give one number sixteen times
-unfoldable pub ceilings : List ℕ → ℕ → ℕ → ℕ → ℕ → Float → List ℕ
-ceilings loads total parts choice whole e = table 16 (λ t. ceiling loads total parts choice whole e)
+unfoldable pub ceilings : List ℕ → ℕ → ℕ → Ceiling → List ℕ
+ceilings loads total parts asked = table 16 (λ t. ceiling loads total parts asked)

@@ -4,21 +4,22 @@ use mathlib.Core.Bool.{true}
 use mathlib.Core.List.{List, [], _∷_}
 use Prim.Native.Nat.{ℕ, _≤_, _<_}
 use lib.ListN.{length, getD}
-use lib.Ieee.{Float, le}
+use lib.Ieee.{le}
 use Rattle.lists.specs.Sum.{total}
 use Rattle.lists.specs.Smallest.{NoRule}
 use Rattle.imbalance.specs.Limit.{mostVertices, mostWeight}
 use Rattle.imbalance.specs.Ceiling.{zero64, most64}
+use Rattle.imbalance.specs.declared.Ceiling.{Ceiling}
 
 -- 6: no label is above `most`
 abbrev pub NoneAbove : ℕ → List ℕ → Type 0
 NoneAbove most labels = (v : ℕ) → v < length labels → getD labels v 0 ≤ most
 
 -- 7, of the ceiling: not "choice 2 with e NaN, below 0 or above 64, or choice above 2". "Legal e: 0.0 to 64.0, both ends and -0.0 in."
-pub record FitChoice (choice : ℕ) (e : Float) : Type 0 where
-  pub known : choice ≤ 2
-  pub least : choice ≡ 2 → le zero64 e ≡ true
-  pub most : choice ≡ 2 → le e most64 ≡ true
+pub record FitChoice (asked : Ceiling) : Type 0 where
+  pub known : asked .choice ≤ 2
+  pub least : asked .choice ≡ 2 → le zero64 (asked .imbalance) ≡ true
+  pub most : asked .choice ≡ 2 → le (asked .imbalance) most64 ≡ true
 
 -- the rules of the stand-alone loads, which "refuse by 1 to 5, as far as their inputs show these, then 6 for a label above 15"
 abbrev pub loadsRules : List ℕ → List ℕ → List (Type 0)

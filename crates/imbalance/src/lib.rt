@@ -4,12 +4,13 @@ ghost use mathlib.Core.Bool.{false};
 ghost use Prim.Native.Nat.{_<_, _≤_};
 ghost use lib.Dec.{T};
 ghost use lib.Ieee.{binary64, ofBits};
-ghost use lib.ListN.{getD};
+ghost use lib.ListN.{length, getD};
 ghost use Rattle.lists.specs.Sum.{total};
 ghost use Rattle.imbalance.specs.Limit.{mostWeight, heavy, labelAbove};
 ghost use Rattle.imbalance.specs.Load.{loadsOf, Loadable};
 ghost use Rattle.imbalance.specs.Ceiling.{legalE, ceilingOf, largest, unfitChoice, ceiling, ceilings};
 ghost use Rattle.imbalance.specs.Number.{loadsNumber, loadsAnswer};
+ghost use Rattle.imbalance.specs.inner.Moved.{loadsMoved};
 
 // "n at most 4,096"
 pub const MOST_VERTICES: usize = 4096;
@@ -34,6 +35,14 @@ pub struct Loads {
 pub struct LoadsAnswer {
     pub number: u32,
     pub loads: Loads,
+}
+
+// What a caller asks of the ceiling: its choice, the whole number and the imbalance e. What the choice does not use is not looked at.
+#[repr(C)]
+pub struct Ceiling {
+    pub choice: u32,
+    pub whole: u32,
+    pub imbalance: f64,
 }
 
 // The ceiling of each of the sixteen parts.
@@ -100,6 +109,20 @@ pub fn parts_load(weights: &[u32], labels: &[u32]) -> Loads
     Loads { at }
 }
 
+// The loads after a vertex of weight w left one part for another: one place down and one up.
+pub fn moved_loads(loads: Loads, old: u32, new: u32, w: u32) -> Loads
+    requires { ⌜ (old < 16) × (new < 16) × (length (loads .at) ≡ 16) × (w ≤ getD (loads .at) old 0) × (getD (loads .at) new 0 ≤ mostWeight) ⌝ }
+    ensures { λ r. ⌜ r .at ≡ loadsMoved (loads .at) old new w ⌝ }
+{
+    let from = lists::index(old);
+    let to = lists::index(new);
+    let at = loads.at;
+    let mut next = loads;
+    next.at[from] = at[from] - lists::wide(w);
+    next.at[to] = at[to] + lists::wide(w);
+    next
+}
+
 // The number of a call of the stand-alone loads.
 fn loads_number(weights: &[u32], labels: &[u32]) -> u32
     ensures { λ r. ⌜ r ≡ loadsNumber (now (weights .entry)) (now (labels .entry)) ⌝ }
@@ -156,16 +179,16 @@ pub fn legal_e(e: f64) -> bool
 }
 
 // Number 7's test of the choice. What the choice does not use is not looked at: e may be a NaN with choice 0 or 1.
-pub fn unfit_choice(choice: u32, e: f64) -> bool
-    ensures { λ r. ⌜ r ≡ unfitChoice choice e ⌝ }
+pub fn unfit_choice(asked: Ceiling) -> bool
+    ensures { λ r. ⌜ r ≡ unfitChoice asked ⌝ }
 {
-    if 2 < choice {
+    if 2 < asked.choice {
         return true;
     }
-    if choice != 2 {
+    if asked.choice != 2 {
         return false;
     }
-    if legal_e(e) {
+    if legal_e(asked.imbalance) {
         return false;
     }
     true
@@ -198,31 +221,24 @@ fn largest_load(loads: Loads) -> u64
 }
 
 // The ceiling of the choice: the largest starting load, a whole number, or from the imbalance.
-fn ceiling_of(loads: Loads, total: u64, parts: u32, choice: u32, whole: u32, e: f64) -> u64
-    requires { ⌜ (total ≤ mostWeight) × (0 < parts) × (parts ≤ 16) × (unfitChoice choice e ≡ false) ⌝ }
-    ensures { λ r. ⌜ r ≡ ceiling (loads .at) total parts choice whole e ⌝ }
+fn ceiling_of(loads: Loads, total: u64, parts: u32, asked: Ceiling) -> u64
+    requires { ⌜ (total ≤ mostWeight) × (0 < parts) × (parts ≤ 16) × (unfitChoice asked ≡ false) ⌝ }
+    ensures { λ r. ⌜ r ≡ ceiling (loads .at) total parts asked ⌝ }
 {
-    if choice == 0 {
+    if asked.choice == 0 {
         return largest_load(loads);
     }
-    if choice == 1 {
-        return lists::wide(whole);
+    if asked.choice == 1 {
+        return lists::wide(asked.whole);
     }
-    ceiling_by(total, parts, e)
+    ceiling_by(total, parts, asked.imbalance)
 }
 
 // The ceilings by part.
-pub fn ceilings_of(
-    loads: Loads,
-    total: u64,
-    parts: u32,
-    choice: u32,
-    whole: u32,
-    e: f64,
-) -> Ceilings
-    requires { ⌜ (total ≤ mostWeight) × (0 < parts) × (parts ≤ 16) × (unfitChoice choice e ≡ false) ⌝ }
-    ensures { λ r. ⌜ r .at ≡ ceilings (loads .at) total parts choice whole e ⌝ }
+pub fn ceilings_of(loads: Loads, total: u64, parts: u32, asked: Ceiling) -> Ceilings
+    requires { ⌜ (total ≤ mostWeight) × (0 < parts) × (parts ≤ 16) × (unfitChoice asked ≡ false) ⌝ }
+    ensures { λ r. ⌜ r .at ≡ ceilings (loads .at) total parts asked ⌝ }
 {
-    let c = ceiling_of(loads, total, parts, choice, whole, e);
+    let c = ceiling_of(loads, total, parts, asked);
     Ceilings { at: [c; 16] }
 }

@@ -1,6 +1,6 @@
 -- Laws of `all` and `some`, below a bound and over a range. Assumes nothing.
 use mathlib.Core.Path.{_≡_, refl, sym, _∙_}
-use mathlib.Core.Bool.{Bool, true, false, _&&_, _||_}
+use mathlib.Core.Bool.{Bool, true, false, not, _&&_, _||_}
 use Prim.Native.Nat.{ℕ, zero, suc, _+_, _-_, _≤_, _<_}
 use native.Mathlib.Omega.{arith}
 use native.Mathlib.Numerals.{add-one}
@@ -157,3 +157,13 @@ all-every (suc n) f h = rw (all-every n f (λ i l. h i (omega arith))) (h n (ome
 pub from-every : (a b : ℕ) (f : ℕ → Bool) → ((i : ℕ) → a ≤ i → i < b → f i ≡ true) → allFrom a b f ≡ true
 unfolding allFrom
 from-every a b f h = all-every (b - a) (λ i. f (a + i)) (λ i l. h (a + i) (omega arith) (omega arith))
+
+-- a test holds somewhere where its contrary does not hold everywhere
+pub some-contrary : (n : ℕ) (f g : ℕ → Bool) → ((i : ℕ) → i < n → f i ≡ not (g i)) → some n f ≡ not (all n g)
+unfolding all some
+some-contrary zero f g h = refl
+some-contrary (suc n) f g h = rw (some-contrary n f g (λ i l. h i (omega arith)), h n (omega arith)) (either (all n g) (g n))
+  where
+    either : (s t : Bool) → not s || not t ≡ not (s && t)
+    either true t = refl
+    either false t = refl

@@ -1,5 +1,5 @@
 -- Lists made place by place from a function: laws of `table`, and of `written`, which leaves a table and what stood past its end. Assumes nothing.
-use mathlib.Core.Path.{_≡_, refl, sym, _∙_}
+use mathlib.Core.Path.{_≡_, refl, sym, ap, _∙_}
 use mathlib.Core.Bool.{Bool, true, false}
 use mathlib.Core.List.{List, [], _∷_, _++_}
 use Prim.Native.Nat.{ℕ, zero, suc, _≤_, _<_}
@@ -8,7 +8,7 @@ use lib.ListN.{length, getD, set, drop, length-append, length-set, List·getD-ap
 use lib.Seq.{append-snoc, drop-cons, set-at, getD-at, getD-set-same, getD-set-other, ext-getD}
 use lib.Dec.{eqb}
 use borrow.Author.Tests.{eqb-true, eqb-false}
-use Rattle.lists.specs.Fill.{table, written}
+use Rattle.lists.specs.Fill.{table, written, over}
 use Rattle.lists.proofs.Fills.{length-written, written-below}
 
 pub length-table : {A : Type 0} (n : ℕ) (f : ℕ → A) → length (table n f) ≡ n
@@ -56,6 +56,9 @@ written-table f zero xs h = refl
 written-table f (suc n) xs h =
     rw (written-table f n xs (omega arith), drop-cons xs n (f n))
     (set-at (table n f) (getD xs n (f n)) (drop (suc n) xs) (f n) n (length-table n f) ∙ sym (append-snoc (table n f) (f n) (drop (suc n) xs)))
+
+pub written-over : {A : Type 0} (f : ℕ → A) (n : ℕ) (xs : List A) → n ≤ length xs → written f n xs ≡ over (table n f) xs
+written-over f n xs h = written-table f n xs h ∙ ap (λ (m : ℕ). table n f ++ drop m xs) (sym (length-table n f))
 
 -- a list is the table of its places
 pub table-of : {A : Type 0} (n : ℕ) (d : A) (xs : List A) → length xs ≡ n → xs ≡ table n (λ i. getD xs i d)

@@ -1,7 +1,7 @@
 -- Lists made place by place.
 use mathlib.Core.List.{List, [], _∷_, _++_}
 use Prim.Native.Nat.{ℕ, zero, suc}
-use lib.ListN.{set}
+use lib.ListN.{length, set, drop}
 
 -- place i holds f i for each i below n, and the others are unchanged
 unfoldable pub written : {A : Type 0} → (ℕ → A) → ℕ → List A → List A
@@ -16,3 +16,7 @@ filled x n xs = written (λ i. x) n xs
 unfoldable pub table : {A : Type 0} → ℕ → (ℕ → A) → List A
 table zero f = []
 table (suc n) f = table n f ++ (f n ∷ [])
+
+-- xs, and past its end what stood in ys
+abbrev pub over : {A : Type 0} → List A → List A → List A
+over xs ys = xs ++ drop (length xs) ys

@@ -1,6 +1,6 @@
-// What every crate shares: numbers read out of a lent list and widened, and lent lists cleared. Document 01, "What must change shape": u32 in, wider inside; lent lists.
+// What every crate shares: numbers widened out of a lent list and narrowed into one, and lent lists cleared. Document 01, "What must change shape": u32 in, wider inside; lent lists.
 ghost use mathlib.Core.Path.{_≡_};
-ghost use Prim.Native.Nat.{_≤_};
+ghost use Prim.Native.Nat.{_≤_, _<_};
 ghost use lib.IntN.{pos};
 ghost use lib.ListN.{length};
 ghost use Rattle.lists.specs.Fill.{filled};
@@ -17,6 +17,14 @@ pub fn index(x: u32) -> usize
     ensures { λ r. ⌜ r ≡ x ⌝ }
 {
     x as usize
+}
+
+// A count or a place as a lent list holds it.
+pub fn narrow(x: usize) -> u32
+    requires { ⌜ x < 4294967296 ⌝ }
+    ensures { λ r. ⌜ r ≡ x ⌝ }
+{
+    x as u32
 }
 
 // Zeros in the first n places; the others are kept.

@@ -1,9 +1,12 @@
 -- The laws of the reader and the writer.
 pub mod ReadLaws
 pub mod ReadEntry
-pub mod WriteLaws
+pub mod Puts
+pub mod Blocks
+pub mod WriteTurns
+pub mod WriteTests
 pub mod WriteEntry
-pub mod Givens
+pub mod LegalPlans
 pub mod Trips
 pub mod Unique
 pub mod Unused

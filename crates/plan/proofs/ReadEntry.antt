@@ -3,8 +3,9 @@ use mathlib.Core.Path.{_≡_, refl, sym, ap, _∙_}
 use mathlib.Core.List.{List}
 use Prim.Native.Nat.{ℕ}
 use borrow.Author.Tests.{eq-eqb, ne-eqb}
+use Rattle.lists.specs.Fill.{over}
 use Rattle.plan_blocks.specs.declared.header.Header.{Header}
-use Rattle.plan_blocks.specs.Word.{word, over}
+use Rattle.plan_blocks.specs.Word.{word}
 use Rattle.plan_blocks.specs.Decode.{headerAt, planOf}
 use Rattle.plan.specs.declared.ReadAnswer.{ReadAnswer}
 use Rattle.plan.specs.Read.{Targets, readNumber, startsOf, headerAnswer, headerOf, refusalOf, handed, readAnswer, readLeft, Read}

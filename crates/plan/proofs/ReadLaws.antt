@@ -1,24 +1,24 @@
 -- What the reader's loops do, a turn at a time, and how they end. Assumes nothing.
 use mathlib.Core.Path.{_≡_, refl, sym, ap, ap₂, _∙_}
 use mathlib.Core.Bool.{Bool, true, false, not, cond, _&&_, _||_}
-use mathlib.Core.List.{List, _++_}
+use mathlib.Core.List.{List}
 use Prim.Native.Nat.{ℕ, zero, suc, _+_, _*_, _/_, _%_, _≤_, _<_}
 use native.Mathlib.Omega.{arith}
-use lib.ListN.{length, getD, set, drop, length-set}
+use lib.ListN.{length, getD, set, length-set}
 use lib.Dec.{ltb, eqb}
 use borrow.Author.Tests.{eq-eqb, ne-eqb, lt-ltb, le-ltb, eqb-true, eqb-false, not-false, ltb-false}
 use Rattle.lists.specs.Sum.{sum}
 use Rattle.lists.specs.All.{all, allFrom}
-use Rattle.lists.specs.Fill.{written, table}
+use Rattle.lists.specs.Fill.{written, table, over}
 use Rattle.lists.specs.Number.{orElse}
 use Rattle.lists.proofs.Bools.{and-false, or-true, or-none, or-false}
 use Rattle.lists.proofs.Sums.{sum-none, sum-more, sum-step}
 use Rattle.lists.proofs.Totals.{sum-ext, sum-grows}
 use Rattle.lists.proofs.Alls.{all-more, all-fails, from-fails, from-more}
-use Rattle.lists.proofs.Tables.{length-table, table-at, table-ext, written-table}
+use Rattle.lists.proofs.Tables.{table-at, table-ext, written-over}
 use Rattle.lists.proofs.Fills.{written-none, written-more}
 use Rattle.plan_blocks.specs.declared.header.Header.{Header}
-use Rattle.plan_blocks.specs.Word.{wrap, word, over}
+use Rattle.plan_blocks.specs.Word.{wrap, word}
 use Rattle.plan_blocks.specs.Block.{opening, checks, laidOut, blocksFor, blocksOf, kindAt, countAt}
 use Rattle.plan_blocks.specs.Decode.{inBlock, blocksIn, vertexAt, arcAt, labelAt, degreeAt, headerAt, badLength, badCheck, badHeader, badNumbers, laterLaid, badLater, labelled, badRecords, planOf, fileNumber}
 use Rattle.plan_blocks.proofs.Accepts.{in-range, not-given, counted, accepts}
@@ -294,10 +294,6 @@ module _ (s labels₀ weights₀ starts₀ : List ℕ) (n : ℕ) (labels weights
         longStarts = length-set starts v row ∙ h .longStarts;
       }
 
--- a list written from the front: a table, and what stood past its end
-handed : (f : ℕ → ℕ) (n : ℕ) (xs ks : List ℕ) → n ≤ length xs → ks ≡ written f n xs → ks ≡ over (table n f) xs
-handed f n xs ks l e = e ∙ written-table f n xs l ∙ ap (λ (m : ℕ). table n f ++ drop m xs) (sym (length-table n f))
-
 -- the starts of the degrees in the file
 starts-are : (s : List ℕ) → table (word s 1 + 1) (λ v. sum v (degreeAt s)) ≡ startsOf (word s 1) (planOf s .degrees)
 unfolding startsOf planOf
@@ -310,9 +306,9 @@ module _ (s labels₀ weights₀ starts₀ : List ℕ) (n : ℕ) (labels weights
   vertices-done =
       let u : v ≡ word s 1 = e ∙ h .all in
       let k : set starts n row ≡ written (λ u. sum u (degreeAt s)) (v + 1) starts₀ = written-more (λ u. sum u (degreeAt s)) v starts₀ starts _ (ap₂ (set starts) (sym e) (h .rows)) (h .started) in (
-        handed (labelAt s) (word s 1) labels₀ labels (let q = h .all in let r = h .roomLabels in omega arith) (rw u at (h .labelled)),
-        handed (λ u. word s (vertexAt u)) (word s 1) weights₀ weights (let q = h .all in let r = h .roomWeights in omega arith) (rw u at (h .weighed)),
-        handed (λ u. sum u (degreeAt s)) (word s 1 + 1) starts₀ (set starts n row) (let q = h .all in let r = h .roomStarts in omega arith) (rw u at k) ∙ ap (λ (xs : List ℕ). over xs starts₀) (starts-are s),
+        (rw u at (h .labelled)) ∙ written-over (labelAt s) (word s 1) labels₀ (let q = h .all in let r = h .roomLabels in omega arith),
+        (rw u at (h .weighed)) ∙ written-over (λ u. word s (vertexAt u)) (word s 1) weights₀ (let q = h .all in let r = h .roomWeights in omega arith),
+        (rw u at k) ∙ written-over (λ u. sum u (degreeAt s)) (word s 1 + 1) starts₀ (let q = h .all in let r = h .roomStarts in omega arith) ∙ ap (λ (xs : List ℕ). over xs starts₀) (starts-are s),
       )
 
 -- the arcs' records, arc by arc
@@ -364,6 +360,6 @@ module _ (s neighbours₀ weights₀ : List ℕ) (a first : ℕ) (neighbours wei
   unfolding planOf
   arcs-done q =
       let u : e ≡ word s 2 = q ∙ h .all in (
-        handed (λ u. word s (arcAt (word s 1) u)) (word s 2) neighbours₀ neighbours (let q = h .all in let r = h .roomNeighbours in omega arith) (rw u at (h .joined)),
-        handed (λ u. word s (arcAt (word s 1) u + 1)) (word s 2) weights₀ weights (let q = h .all in let r = h .roomWeights in omega arith) (rw u at (h .weighed)),
+        (rw u at (h .joined)) ∙ written-over (λ u. word s (arcAt (word s 1) u)) (word s 2) neighbours₀ (let q = h .all in let r = h .roomNeighbours in omega arith),
+        (rw u at (h .weighed)) ∙ written-over (λ u. word s (arcAt (word s 1) u + 1)) (word s 2) weights₀ (let q = h .all in let r = h .roomWeights in omega arith),
       )

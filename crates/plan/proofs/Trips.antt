@@ -11,11 +11,12 @@ use lib.Ieee.{binary64, ofBits, toBits}
 use lib.Ieee.Bits.{ofBits-toBits}
 use borrow.Author.Tests.{eqb-true, ne-eqb, ltb-true, ltb-false}
 use Rattle.lists.specs.Sum.{sum}
-use Rattle.lists.specs.Fill.{table}
+use Rattle.lists.specs.Fill.{table, over}
 use Rattle.lists.proofs.Totals.{sum-ext}
 use Rattle.lists.proofs.Tables.{length-table, table-at}
 use Rattle.imbalance.specs.Ceiling.{zero64}
-use Rattle.plan_blocks.specs.Word.{wrap, word, over}
+use Rattle.topology.proofs.Starts.{start-first, start-rises}
+use Rattle.plan_blocks.specs.Word.{wrap, word}
 use Rattle.plan_blocks.specs.Plan.{Plan, Legal, valueOf}
 use Rattle.plan_blocks.specs.Encode.{encode}
 use Rattle.plan_blocks.specs.Decode.{vertexAt, arcAt, planOf, fileNumber}
@@ -31,8 +32,8 @@ use Rattle.plan.specs.Read.{Targets, short, numberFor, readNumber, start
 use Rattle.plan.specs.Write.{Given, planWith, planFrom, vertices, arcs, sizeOf, writeNumber, writeAnswer, writeLeft, Written}
 use Rattle.plan.proofs.ReadLaws.{room as file-room}
 use Rattle.plan.proofs.ReadEntry.{same-targets}
-use Rattle.plan.proofs.WriteEntry.{Fits, fits}
-use Rattle.plan.proofs.Givens.{Typed, givenOf, legal-given, plan-given, typed-given, fits-given, fits-number, telescope}
+use Rattle.plan.proofs.WriteEntry.{rowsIn, Fits, fits}
+use Rattle.plan.proofs.LegalPlans.{Typed, givenOf, legal-given, plan-given, typed-given, fits-given, fits-number, telescope, ceilingIn}
 
 -- what the promises say where the number is 0
 module _ (s : List ℕ) (t u : Targets) (r : ReadAnswer) (h : Read s t r u) where
@@ -117,9 +118,7 @@ givenBy r u =
       neighbours = take (r .a) (u .neighbours);
       arcWeights = take (r .a) (u .arcWeights);
       k = r .k;
-      choice = r .choice;
-      whole = r .whole;
-      imbalance = r .imbalance;
+      ceiling = record { choice = r .choice; whole = r .whole; imbalance = r .imbalance };
     }
 
 given-handed : (p : Plan) → Legal p → (t : Targets) → givenBy (headerOf p) (handed p t) ≡ givenOf p
@@ -132,9 +131,7 @@ given-handed p l t =
       neighbours = take-at (p .neighbours) (drop (length (p .neighbours)) (t .neighbours)) (p .a) (l .joined) i;
       arcWeights = take-at (p .arcWeights) (drop (length (p .arcWeights)) (t .arcWeights)) (p .a) (l .paired) i;
       k = p .k;
-      choice = p .choice;
-      whole = cond (eqb (p .choice) 1) (p .value) 0;
-      imbalance = cond (eqb (p .choice) 2) (ofBits binary64 (p .value)) zero64;
+      ceiling = ceilingIn p;
     }
   where
     starts : List ℕ
@@ -163,9 +160,9 @@ headerGiven g =
       n = vertices g;
       a = arcs g;
       k = g .k;
-      choice = g .choice;
-      whole = cond (eqb (g .choice) 1) (g .whole) 0;
-      imbalance = cond (eqb (g .choice) 2) (g .imbalance) zero64;
+      choice = g .ceiling .choice;
+      whole = cond (eqb (g .ceiling .choice) 1) (g .ceiling .whole) 0;
+      imbalance = cond (eqb (g .ceiling .choice) 2) (g .ceiling .imbalance) zero64;
     }
 
 abbrev pub listsGiven : Given → Targets → Targets
@@ -187,23 +184,23 @@ module _ (g : Given) (room : ℕ) (typed : Typed g) (fit : Fits g room) where
         n = vertices g;
         a = arcs g;
         k = g .k;
-        choice = g .choice;
-        whole = whole-is (eqb (g .choice) 1) i;
-        imbalance = imbalance-is (g .choice) i;
+        choice = g .ceiling .choice;
+        whole = whole-is (eqb (g .ceiling .choice) 1) i;
+        imbalance = imbalance-is (g .ceiling .choice) i;
       }
     where
-      whole-is : (t : Bool) → cond t (cond t (g .whole) (cond (eqb (g .choice) 2) (toBits binary64 (g .imbalance)) 0)) 0 ≡ cond t (g .whole) 0
+      whole-is : (t : Bool) → cond t (cond t (g .ceiling .whole) (cond (eqb (g .ceiling .choice) 2) (toBits binary64 (g .ceiling .imbalance)) 0)) 0 ≡ cond t (g .ceiling .whole) 0
       whole-is true = refl
       whole-is false = refl
 
       two : (m : ℕ) → eqb m 2 ≡ true → eqb m 1 ≡ false
       two m e = let q = eqb-true m 2 e in ne-eqb m 1 (λ z. omega arith)
 
-      imbalance-is : (m : ℕ) → cond (eqb m 2) (ofBits binary64 (cond (eqb m 1) (g .whole) (cond (eqb m 2) (toBits binary64 (g .imbalance)) 0))) zero64 ≡ cond (eqb m 2) (g .imbalance) zero64
+      imbalance-is : (m : ℕ) → cond (eqb m 2) (ofBits binary64 (cond (eqb m 1) (g .ceiling .whole) (cond (eqb m 2) (toBits binary64 (g .ceiling .imbalance)) 0))) zero64 ≡ cond (eqb m 2) (g .ceiling .imbalance) zero64
       imbalance-is m = go (eqb m 2) refl
         where
-          go : (t : Bool) → eqb m 2 ≡ t → cond t (ofBits binary64 (cond (eqb m 1) (g .whole) (cond t (toBits binary64 (g .imbalance)) 0))) zero64 ≡ cond t (g .imbalance) zero64
-          go true e = rw (two m e) (ofBits-toBits binary64 (g .imbalance) (typed .imbalance))
+          go : (t : Bool) → eqb m 2 ≡ t → cond t (ofBits binary64 (cond (eqb m 1) (g .ceiling .whole) (cond t (toBits binary64 (g .ceiling .imbalance)) 0))) zero64 ≡ cond t (g .ceiling .imbalance) zero64
+          go true e = rw (two m e) (ofBits-toBits binary64 (g .ceiling .imbalance) (typed .imbalance))
           go false e = refl
 
   starts-given : startsOf (vertices g) (planFrom g .degrees) ≡ g .starts
@@ -219,8 +216,8 @@ module _ (g : Given) (room : ℕ) (typed : Typed g) (fit : Fits g room) where
 
       at : (v : ℕ) → v < vertices g + 1 → getD (table (vertices g + 1) sums) v 0 ≡ getD (g .starts) v 0
       at v l =
-          let e = telescope (g .starts) (vertices g) v (fit .rises) (omega arith) in
-          let z = fit .first in
+          let e = telescope (g .starts) (vertices g) v (start-rises (vertices g) (rowsIn g) (fit .ordered)) (omega arith) in
+          let z = start-first (vertices g) (rowsIn g) (fit .ordered) in
           table-at (vertices g + 1) v 0 sums l
           ∙ sum-ext v (λ u. getD (table (vertices g) rows) u 0) rows (λ u m. table-at (vertices g) u 0 rows (omega arith))
           ∙ (let k : sum v rows ≡ getD (g .starts) v 0 = omega arith in k)

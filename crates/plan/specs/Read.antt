@@ -7,11 +7,10 @@ use lib.ListN.{length, getD}
 use lib.Dec.{ltb, eqb}
 use lib.Ieee.{binary64, ofBits}
 use Rattle.lists.specs.Sum.{sum}
-use Rattle.lists.specs.Fill.{table}
+use Rattle.lists.specs.Fill.{table, over}
 use Rattle.lists.specs.Number.{orElse}
 use Rattle.imbalance.specs.Ceiling.{zero64}
 use Rattle.plan.specs.declared.ReadAnswer.{ReadAnswer}
-use Rattle.plan_blocks.specs.Word.{over}
 use Rattle.plan_blocks.specs.declared.header.Header.{Header}
 use Rattle.plan_blocks.specs.Plan.{Plan, headerIn}
 use Rattle.plan_blocks.specs.Decode.{planOf, fileNumber}

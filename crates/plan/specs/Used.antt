@@ -1,11 +1,10 @@
 -- What of the writer's ceiling is used (document 01, "Ceiling" and "Plan blocks").
-use Prim.Native.Nat.{ℕ}
-use lib.Ieee.{Float}
+use Rattle.imbalance.specs.declared.Ceiling.{Ceiling}
 use Rattle.plan.specs.Write.{Given}
 
--- the same lists and parts with another choice, whole number and imbalance
-abbrev pub withCeiling : Given → ℕ → ℕ → Float → Given
-withCeiling g choice whole e =
+-- the same lists and parts with something else asked of the ceiling
+abbrev pub withCeiling : Given → Ceiling → Given
+withCeiling g asked =
     record {
       labels = g .labels;
       weights = g .weights;
@@ -13,7 +12,5 @@ withCeiling g choice whole e =
       neighbours = g .neighbours;
       arcWeights = g .arcWeights;
       k = g .k;
-      choice = choice;
-      whole = whole;
-      imbalance = e;
+      ceiling = asked;
     }

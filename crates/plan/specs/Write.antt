@@ -4,13 +4,14 @@ use mathlib.Core.Bool.{Bool, not, cond, _||_}
 use mathlib.Core.List.{List}
 use Prim.Native.Nat.{ℕ, _+_, _-_, _*_}
 use lib.ListN.{length, getD}
-use lib.Dec.{leb, ltb, eqb}
-use lib.Ieee.{Float}
+use lib.Dec.{ltb, eqb}
 use Rattle.lists.specs.All.{all}
-use Rattle.lists.specs.Fill.{table}
+use Rattle.lists.specs.Fill.{table, over}
 use Rattle.imbalance.specs.Ceiling.{unfitChoice}
+use Rattle.imbalance.specs.declared.Ceiling.{Ceiling}
+use Rattle.topology.specs.Graph.{inRows}
+use Rattle.topology.specs.Rule.{startsOk}
 use Rattle.plan.specs.declared.WriteAnswer.{WriteAnswer}
-use Rattle.plan_blocks.specs.Word.{over}
 use Rattle.plan_blocks.specs.Block.{blocksOf}
 use Rattle.plan_blocks.specs.Plan.{Plan, outOfRange, valueOf}
 use Rattle.plan_blocks.specs.Encode.{encode}
@@ -23,9 +24,7 @@ pub record Given : Type 0 where
   pub neighbours : List ℕ
   pub arcWeights : List ℕ
   pub k : ℕ
-  pub choice : ℕ
-  pub whole : ℕ
-  pub imbalance : Float
+  pub ceiling : Ceiling
 
 -- n is the count of labels, a the count of neighbours
 abbrev pub vertices : Given → ℕ
@@ -53,11 +52,11 @@ planWith labels weights starts neighbours arcWeights k choice value =
 -- the plan that is given
 abbrev pub planFrom : Given → Plan
 planFrom g =
-    planWith (g .labels) (g .weights) (g .starts) (g .neighbours) (g .arcWeights) (g .k) (g .choice) (valueOf (g .choice) (g .whole) (g .imbalance))
+    planWith (g .labels) (g .weights) (g .starts) (g .neighbours) (g .arcWeights) (g .k) (g .ceiling .choice) (valueOf (g .ceiling))
 
 -- 12: "a header number out of range", "value fitting its choice"
 unfoldable pub unfit : Given → Bool
-unfit g = outOfRange (vertices g) (arcs g) (g .k) || unfitChoice (g .choice) (g .imbalance)
+unfit g = outOfRange (vertices g) (arcs g) (g .k) || unfitChoice (g .ceiling)
 
 -- 1: "weights not n, starts not n+1, or neighbours and arc weights differ in count"
 unfoldable pub miscounted : Given → Bool
@@ -66,14 +65,9 @@ miscounted g =
     || (not (eqb (length (g .starts)) (vertices g + 1))
     || not (eqb (length (g .neighbours)) (length (g .arcWeights))))
 
--- no start is above the next
-unfoldable pub rising : ℕ → List ℕ → Bool
-rising n starts = all n (λ v. leb (getD starts v 0) (getD starts (v + 1) 0))
-
 -- 3, starts only: not "Starts begin at 0, never fall and end at a."
-unfoldable pub badStarts : ℕ → ℕ → List ℕ → Bool
-badStarts n a starts =
-    not (eqb (getD starts 0 0) 0) || (not (eqb (getD starts n 0) a) || not (rising n starts))
+unfoldable pub badStarts : Given → Bool
+badStarts g = not (startsOk (vertices g) (inRows (g .starts) (g .neighbours) (g .arcWeights)))
 
 -- 14: "a label is not below k"; the degrees of starts that are in order sum to a
 unfoldable pub badLabels : ℕ → List ℕ → Bool
@@ -88,7 +82,7 @@ unfoldable pub writeNumber : Given → ℕ → ℕ
 writeNumber g room =
     cond (unfit g) 12
     (cond (miscounted g) 1
-    (cond (badStarts (vertices g) (arcs g) (g .starts)) 3
+    (cond (badStarts g) 3
     (cond (badLabels (g .k) (g .labels)) 14
     (cond (ltb room (sizeOf (vertices g) (arcs g))) 15 0))))
 

@@ -1,9 +1,11 @@
 // The plan file: its reader and its writer. Document 01, "Plan blocks".
+use imbalance::Ceiling;
+use plan_blocks::header;
 ghost use Rattle.plan.specs.Read.{Read};
 ghost use Rattle.plan.specs.Write.{Written};
 
 mod reader; // reader.rt: the numbers that refuse a file, and the records
-mod writer; // writer.rt: the numbers that refuse a plan, and the words
+mod writer; // writer.rt: the numbers that refuse a plan, and the blocks
 
 // What the reader answers: document 01's number, and where that is 0 the header. A value that the choice does not use is 0.
 #[repr(C)]
@@ -43,7 +45,7 @@ pub fn read_plan(
     if framed != 0 {
         return reader::refusal(framed);
     }
-    let header = plan_blocks::header::header_of(bytes);
+    let header = header::header_of(bytes);
     let number = reader::plan_number(
         bytes,
         header,
@@ -69,13 +71,11 @@ pub fn write_plan(
     neighbours: &[u32],
     arc_weights: &[u32],
     k: u32,
-    choice: u32,
-    whole: u32,
-    imbalance: f64,
+    asked: Ceiling,
     target: &mut [u8],
 ) -> WriteAnswer
     ensures { λ r. ⌜ Written
-        (record { labels = now (labels .entry); weights = now (weights .entry); starts = now (starts .entry); neighbours = now (neighbours .entry); arcWeights = now («arc_weights» .entry); k = k; choice = choice; whole = whole; imbalance = imbalance })
+        (record { labels = now (labels .entry); weights = now (weights .entry); starts = now (starts .entry); neighbours = now (neighbours .entry); arcWeights = now («arc_weights» .entry); k = k; ceiling = asked })
         (now (target .entry))
         r
         (now (target .exit)) ⌝ }
@@ -87,24 +87,17 @@ pub fn write_plan(
         neighbours,
         arc_weights,
         k,
-        choice,
-        imbalance,
+        asked,
         target.len(),
     );
     if number != 0 {
         return WriteAnswer { number, length: 0 };
     }
-    let value = plan_blocks::ceiling::value_of(choice, whole, imbalance);
-    let length = writer::write_words(
-        labels,
-        weights,
-        starts,
-        neighbours,
-        arc_weights,
-        k,
-        choice,
-        value,
-        target,
-    );
+    let header = header::header_with(labels.len(), neighbours.len(), k, asked);
+    writer::lay_out(header.n, header.a, target);
+    writer::write_header(header, target);
+    writer::write_vertices(labels, weights, starts, target);
+    writer::write_arcs(neighbours, arc_weights, header.n, target);
+    let length = writer::seal(header.n, header.a, target);
     WriteAnswer { number: 0, length }
 }

@@ -9,7 +9,7 @@ ghost use mathlib.Core.Path.{_≡_};
 ghost use mathlib.Core.Bool.{true, false};
 ghost use Prim.Native.Nat.{_+_, _*_, _/_, _≤_, _<_};
 ghost use lib.ListN.{length};
-ghost use Rattle.plan_blocks.specs.Word.{over};
+ghost use Rattle.lists.specs.Fill.{over};
 ghost use Rattle.plan_blocks.specs.Block.{laidOut, blocksOf};
 ghost use Rattle.plan_blocks.specs.Decode.{inBlock, blocksIn, headerAt, badLength, badCheck, badNumbers, laterLaid, badLater, badRecords, planOf, fileNumber};
 ghost use Rattle.plan.specs.Read.{short, startsOf, headerAnswer, refusalOf};
@@ -211,8 +211,8 @@ pub(crate) fn read_header(header: Header) -> ReadAnswer
     requires { ⌜ badNumbers header ≡ false ⌝ }
     ensures { λ r. ⌜ r ≡ headerAnswer header ⌝ }
 {
-    let n = words::narrow(header.n);
-    let a = words::narrow(header.a);
+    let n = lists::narrow(header.n);
+    let a = lists::narrow(header.a);
     let whole = ceiling::whole_of(header.choice, header.value);
     let imbalance = ceiling::imbalance_of(header.choice, header.value);
     ReadAnswer {

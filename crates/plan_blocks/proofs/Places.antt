@@ -8,8 +8,8 @@ use mathlib.Core.Logic.{_⊎_, inl, inr}
 use lib.Dec.{leb, ltb, eqb}
 use borrow.Author.Tests.{le-leb, lt-leb, ne-eqb, ltb-true, ltb-false, leb-true, leb-false}
 use Rattle.plan_blocks.specs.Block.{checkWord, blocksFor, blocksOf, heldBy, kindAt, countAt}
-use Rattle.plan_blocks.specs.Plan.{Plan}
-use Rattle.plan_blocks.specs.Encode.{vertexWord, arcWord, recordWord, bodyWord, fileWord}
+use Rattle.plan_blocks.specs.Plan.{Plan, headerIn}
+use Rattle.plan_blocks.specs.Encode.{headerWord, vertexWord, arcWord, recordWord, bodyWord, fileWord}
 use Rattle.plan_blocks.specs.Decode.{vertexAt, arcAt}
 
 -- the records that a block of a later kind holds: at most 63, and record j of block i is one of them where it is one of all
@@ -119,6 +119,17 @@ module _ (p : Plan) (i r : ℕ) where
   arc-record =
       let q : 1 + blocksFor (p .n) + i - 1 - blocksFor (p .n) ≡ i = omega arith in
       simp (ne-eqb (1 + blocksFor (p .n) + i) 0 (λ e. omega arith), lt-leb (1 + blocksFor (p .n) + i) (blocksFor (p .n)) (omega arith), q)
+
+-- the six words of the header's records, in the file
+pub header-words : (must second : ℕ) (p : Plan) (r : ℕ) → r < 6 → fileWord must second p (1 + r) ≡ headerWord (headerIn p) r
+unfolding countAt recordWord
+header-words must second p r l =
+    let z : 1 + r ≡ 128 * 0 + (1 + r) = omega arith in
+    let q : 1 + r - 1 ≡ r = omega arith in
+    ap (fileWord must second p) z
+    ∙ file-body must second p 0 (1 + r) (omega arith)
+    ∙ body-record must second p 0 (1 + r) (omega arith) (omega arith)
+    ∙ ap (headerWord (headerIn p)) q
 
 -- the two words of a vertex's record and of an arc's, in the file
 module _ (must second : ℕ) (p : Plan) (t : ℕ) (l : t < 2) where

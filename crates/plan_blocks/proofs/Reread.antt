@@ -23,7 +23,7 @@ use Rattle.plan_blocks.specs.Plan.{Plan, headerIn, Legal, unfitValue}
 use Rattle.plan_blocks.specs.Encode.{headerWord, vertexWord, arcWord, recordWord, bodyWord, fileWord, encode}
 use Rattle.plan_blocks.specs.Decode.{inBlock, blocksIn, vertexAt, arcAt, labelAt, degreeAt, laterLaid, labelled, planOf, fileNumber}
 use Rattle.plan_blocks.proofs.WordLaws.{word-bytes, length-bytes}
-use Rattle.plan_blocks.proofs.Places.{held-in, count-most, kind-most, file-body, file-check, body-record, body-rest, vertex-block, arc-block, vertex-record, arc-record, vertex-words, arc-words, by-kind}
+use Rattle.plan_blocks.proofs.Places.{held-in, count-most, kind-most, file-body, file-check, body-rest, vertex-block, arc-block, vertex-record, arc-record, header-words, vertex-words, arc-words, by-kind}
 use Rattle.plan_blocks.proofs.Accepts.{Accepted, InRange, in-range, accepted-number}
 
 -- the choices are 0, 1 and 2
@@ -139,12 +139,9 @@ module _ (p : Plan) (g : Legal p) where
   body-is : (b j : ℕ) → b < blocksOf (p .n) (p .a) → j < 127 → inBlock (encode p) b j ≡ bodyWord 0 p b j
   body-is b j l m = word-is (128 * b + j) (omega arith) ∙ file-body 0 0 p b j m
 
-  header-is : (r : ℕ) → r < 6 → word (encode p) (r + 1) ≡ headerWord (headerIn p) r
-  unfolding countAt recordWord blocksOf
-  header-is r l =
-      let q : r + 1 - 1 ≡ r = omega arith in
-      let z : 128 * 0 + (r + 1) ≡ r + 1 = omega arith in
-      ap (word (encode p)) (sym z) ∙ body-is 0 (r + 1) (omega arith) (omega arith) ∙ body-record 0 0 p 0 (r + 1) (omega arith) (omega arith) ∙ ap (headerWord (headerIn p)) q
+  header-is : (r : ℕ) → r < 6 → word (encode p) (1 + r) ≡ headerWord (headerIn p) r
+  unfolding blocksOf
+  header-is r l = word-is (1 + r) (omega arith) ∙ header-words 0 0 p r l
 
   -- the two words of a record
   vertex-is : (v t : ℕ) → v < p .n → t < 2 → word (encode p) (vertexAt v + t) ≡ vertexWord p (2 * v + t)

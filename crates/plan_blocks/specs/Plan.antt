@@ -5,8 +5,9 @@ use mathlib.Core.List.{List}
 use Prim.Native.Nat.{ℕ, _*_, _<_}
 use lib.ListN.{length, getD}
 use lib.Dec.{leb, ltb, eqb}
-use lib.Ieee.{Float, binary64, ofBits, toBits}
+use lib.Ieee.{binary64, ofBits, toBits}
 use Rattle.lists.specs.Sum.{sum}
+use Rattle.imbalance.specs.declared.Ceiling.{Ceiling}
 use Rattle.imbalance.specs.Ceiling.{legalE}
 use Rattle.imbalance.specs.Limit.{mostVertices, mostArcs}
 use Rattle.plan_blocks.specs.declared.header.Header.{Header}
@@ -64,5 +65,5 @@ pub record Legal (p : Plan) : Type 0 where
   pub arcWeightsFit : (e : ℕ) → e < p .a → getD (p .arcWeights) e 0 < wrap
 
 -- "0, a whole u32, or the bits of e"; what the choice does not use is no part of a plan
-unfoldable pub valueOf : ℕ → ℕ → Float → ℕ
-valueOf choice whole e = cond (eqb choice 1) whole (cond (eqb choice 2) (toBits binary64 e) 0)
+unfoldable pub valueOf : Ceiling → ℕ
+valueOf asked = cond (eqb (asked .choice) 1) (asked .whole) (cond (eqb (asked .choice) 2) (toBits binary64 (asked .imbalance)) 0)

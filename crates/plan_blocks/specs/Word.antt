@@ -1,7 +1,7 @@
 -- Bytes and words (document 01, "Plan blocks": "512 bytes, little-endian").
-use mathlib.Core.List.{List, _++_}
+use mathlib.Core.List.{List}
 use Prim.Native.Nat.{ℕ, _+_, _*_, _/_, _%_, _^_}
-use lib.ListN.{length, getD, set, drop}
+use lib.ListN.{getD, set}
 use Rattle.lists.specs.Fill.{table}
 
 -- how many words there are: sums of words wrap here
@@ -25,7 +25,3 @@ putWord s w x =
 -- the file whose words are f 0, f 1, .. f (m - 1)
 unfoldable pub bytes : ℕ → (ℕ → ℕ) → List ℕ
 bytes m f = table (4 * m) (λ i. byteOf (f (i / 4)) (i % 4))
-
--- xs, and after it what stood in ys past the end of xs: "Targets keep what stood past the plan's end."
-abbrev pub over : List ℕ → List ℕ → List ℕ
-over xs ys = xs ++ drop (length xs) ys

@@ -1,4 +1,5 @@
 // The ceiling's value as 8 bytes: 0, a whole u32, or the bits of e.
+use imbalance::Ceiling;
 ghost use mathlib.Core.Path.{_≡_};
 ghost use mathlib.Core.Bool.{false, cond};
 ghost use Prim.Native.Nat.{_+_, _*_, _/_, _%_};
@@ -73,15 +74,15 @@ pub fn imbalance_of(choice: u32, value: u64) -> f64
 }
 
 // The value that the writer puts down.
-pub fn value_of(choice: u32, whole: u32, e: f64) -> u64
-    requires { ⌜ unfitChoice choice e ≡ false ⌝ }
-    ensures { λ r. ⌜ r ≡ valueOf choice whole e ⌝ }
+pub fn value_of(asked: Ceiling) -> u64
+    requires { ⌜ unfitChoice asked ≡ false ⌝ }
+    ensures { λ r. ⌜ r ≡ valueOf asked ⌝ }
 {
-    if choice == 1 {
-        return lists::wide(whole);
+    if asked.choice == 1 {
+        return lists::wide(asked.whole);
     }
-    if choice == 2 {
-        return bits_of(e);
+    if asked.choice == 2 {
+        return bits_of(asked.imbalance);
     }
     0
 }

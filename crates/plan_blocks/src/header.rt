@@ -1,10 +1,14 @@
-// The header of a plan: decoded from a file's first block, and its numbers judged.
+// The header of a plan: decoded from a file's first block or made of what is given, and its numbers judged.
 use crate::ceiling;
 use crate::layout;
 use crate::words;
+use imbalance::Ceiling;
 ghost use mathlib.Core.Path.{_≡_};
+ghost use mathlib.Core.Bool.{false};
 ghost use Prim.Native.Nat.{_≤_};
 ghost use lib.ListN.{length};
+ghost use Rattle.imbalance.specs.Ceiling.{unfitChoice};
+ghost use Rattle.plan_blocks.specs.Plan.{valueOf};
 ghost use Rattle.plan_blocks.specs.Decode.{headerAt, badNumbers};
 
 // n vertices, a arcs, k parts, the ceiling's choice, and its value as a number of 8 bytes.
@@ -31,6 +35,21 @@ pub fn header_of(bytes: &[u8]) -> Header
         a,
         k,
         choice,
+        value,
+    }
+}
+
+// The header of a plan that is given with what is asked of the ceiling.
+pub fn header_with(n: usize, a: usize, k: u32, asked: Ceiling) -> Header
+    requires { ⌜ unfitChoice asked ≡ false ⌝ }
+    ensures { λ r. ⌜ r ≡ record { n = n; a = a; k = k; choice = asked .choice; value = valueOf asked } ⌝ }
+{
+    let value = ceiling::value_of(asked);
+    Header {
+        n,
+        a,
+        k,
+        choice: asked.choice,
         value,
     }
 }

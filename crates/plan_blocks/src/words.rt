@@ -1,6 +1,6 @@
 // Words of a file, little-endian: read, stored and summed.
 ghost use mathlib.Core.Path.{_≡_};
-ghost use Prim.Native.Nat.{_+_, _*_, _/_, _%_, _≤_, _<_};
+ghost use Prim.Native.Nat.{_+_, _*_, _/_, _%_, _≤_};
 ghost use lib.ListN.{length};
 ghost use Rattle.lists.specs.Sum.{sum};
 ghost use Rattle.plan_blocks.specs.Word.{wrap, word, putWord};
@@ -19,14 +19,6 @@ pub fn word_at(s: &[u8], w: usize) -> u32
 {
     let at = 4 * w;
     joined(s[at], s[at + 1], s[at + 2], s[at + 3])
-}
-
-// A count as a word.
-pub fn narrow(x: usize) -> u32
-    requires { ⌜ x < wrap ⌝ }
-    ensures { λ r. ⌜ r ≡ x ⌝ }
-{
-    x as u32
 }
 
 // The lowest byte of a number.

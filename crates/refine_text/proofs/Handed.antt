@@ -8,11 +8,11 @@ use lib.ListN.{length, getD, take, drop, length-append, replicate, length-take, 
 use lib.Seq.{take-at}
 use lib.Dec.{ltb, eqb}
 use borrow.Author.Tests.{eq-eqb, ne-eqb, eqb-true, le-ltb, ltb-true}
-use Rattle.lists.specs.Fill.{table}
+use Rattle.lists.specs.Fill.{table, over}
 use Rattle.lists.proofs.Tables.{length-table, table-at}
 use Rattle.lists.proofs.Alls.{all-at, some-nowhere}
 use Rattle.imbalance.specs.Limit.{labelAbove}
-use Rattle.plan_blocks.specs.Word.{word, over}
+use Rattle.plan_blocks.specs.Word.{word}
 use Rattle.plan_blocks.specs.Plan.{Plan}
 use Rattle.plan_blocks.specs.Decode.{labelAt, labelled, planOf, fileNumber}
 use Rattle.plan_blocks.proofs.Accepts.{accepts, in-range}

@@ -6,7 +6,7 @@ use Prim.Native.Nat.{ℕ}
 use lib.ListN.{length, take, replicate}
 use lib.Dec.{ltb, eqb}
 use lib.IntN.{pos}
-use Rattle.plan_blocks.specs.Word.{over}
+use Rattle.lists.specs.Fill.{over}
 use Rattle.plan_blocks.specs.Plan.{Plan}
 use Rattle.plan_blocks.specs.Decode.{planOf, fileNumber}
 use Rattle.plan.specs.declared.ReadAnswer.{ReadAnswer}
@@ -90,7 +90,7 @@ manyPlan h starts neighbours arcs weights =
       neighbours = neighbours;
       arcs = arcs;
       weights = weights;
-      settings = record { choice = h .choice; whole = h .whole; imbalance = h .imbalance };
+      settings = record { ceiling = record { choice = h .choice; whole = h .whole; imbalance = h .imbalance } };
     }
 
 -- the text of a header and its lists

@@ -1,6 +1,7 @@
 // All of the refine program but reading and writing: one function from the input's bytes to the output's. Document 01, the end of "The eight-block grid".
 mod runs; // runs.rt: a run of FM and a run of arc-swap, as lines
 
+use imbalance::Ceiling;
 use plan::ReadAnswer;
 use plan_blocks::words;
 use refine_words::lines;
@@ -57,11 +58,12 @@ fn refine_lists(
         };
         return runs::refine_two(starts, neighbours, arc_weights, weights, labels, s, out);
     }
-    let s = arc_swap::Settings {
+    let ceiling = Ceiling {
         choice,
         whole,
         imbalance,
     };
+    let s = arc_swap::Settings { ceiling };
     runs::refine_many(starts, neighbours, arc_weights, weights, labels, s, out)
 }
 

@@ -2,6 +2,7 @@
 use crate::text;
 use crate::text::Place;
 use arc_swap::RunRecord;
+use imbalance::Ceiling;
 use imbalance::Loads;
 
 // A number of the line that fits 32 bits, and the place past it.
@@ -27,11 +28,9 @@ fn read_setting(buffer: &mut [u8; 65536], place: Place) -> Setting {
     }
 }
 
-// How a ceiling is set: the choice, the whole number, and the imbalance by its bits; and the place past them.
-struct Ceiling {
-    choice: u32,
-    whole: u32,
-    imbalance: f64,
+// What is asked of the ceiling: the choice, the whole number, and the imbalance by its bits; and the place past them.
+struct Asked {
+    ceiling: Ceiling,
     place: Place,
 }
 
@@ -44,15 +43,18 @@ fn imbalance_of(bits: u64) -> f64 {
     f64::from_bits(bits)
 }
 
-fn read_ceiling(buffer: &mut [u8; 65536], place: Place) -> Ceiling {
+fn read_ceiling(buffer: &mut [u8; 65536], place: Place) -> Asked {
     let choice = read_setting(buffer, place);
     let whole = read_setting(buffer, choice.place);
     let bits = text::read_number(buffer, whole.place);
     let after = bits.place;
-    Ceiling {
+    let ceiling = Ceiling {
         choice: choice.value,
         whole: whole.value,
         imbalance: imbalance_of(bits.value),
+    };
+    Asked {
+        ceiling,
         place: after,
     }
 }
@@ -135,7 +137,8 @@ fn fiduccia_mattheyses(
     let passes = read_setting(buffer, place);
     let moves = read_setting(buffer, passes.place);
     let bad = read_setting(buffer, moves.place);
-    let ceiling = read_ceiling(buffer, bad.place);
+    let asked = read_ceiling(buffer, bad.place);
+    let ceiling = asked.ceiling;
     let settings = fiduccia_mattheyses::Settings {
         passes: passes.value,
         moves: moves.value,
@@ -160,7 +163,7 @@ fn fiduccia_mattheyses(
     );
     let told = expect_report(
         buffer,
-        ceiling.place,
+        asked.place,
         r.number,
         r.end,
         r.passes,
@@ -233,14 +236,11 @@ fn arc_swap(
     weights: &[u32],
     labels: &mut [u32],
 ) -> Place {
-    let ceiling = read_ceiling(buffer, place);
-    let room = text::read_count(buffer, ceiling.place, 65535);
+    let asked = read_ceiling(buffer, place);
+    let room = text::read_count(buffer, asked.place, 65535);
     let length = room.value;
-    let settings = arc_swap::Settings {
-        choice: ceiling.choice,
-        whole: ceiling.whole,
-        imbalance: ceiling.imbalance,
-    };
+    let ceiling = asked.ceiling;
+    let settings = arc_swap::Settings { ceiling };
     let mut stack = [7u32; 65535];
     let answer = arc_swap::arc_swap_counted(
         starts,

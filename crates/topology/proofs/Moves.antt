@@ -1,6 +1,6 @@
 -- The laws of a move: a vertex's gain is the exact fall of the cut (document 01, "Gain of a vertex to a target part"). Assumes nothing.
-use mathlib.Core.Path.{_≡_, sym, _∙_}
-use mathlib.Core.Bool.{Bool, not, _&&_}
+use mathlib.Core.Path.{_≡_, refl, sym, ap, ap₂, _∙_}
+use mathlib.Core.Bool.{Bool, true, false, not, cond, _&&_}
 use mathlib.Core.List.{List}
 use Prim.Native.Nat.{ℕ, _+_, _-_, _≤_, _<_}
 use native.Mathlib.Omega.{arith}
@@ -8,11 +8,15 @@ use lib.Dec.{ltb, eqb}
 use lib.IntN.{subℕ}
 use lib.ListN.{length, getD, set, length-set}
 use lib.Seq.{getD-set-same, getD-set-other}
+use borrow.Author.Tests.{eq-eqb, ne-eqb, eqb-true, eqb-false}
+use Rattle.lists.specs.Fill.{table}
 use Rattle.lists.specs.Sum.{sum, between, weigh}
 use Rattle.lists.proofs.Bools.{weigh-weigh}
 use Rattle.lists.proofs.Totals.{sum-ext, sum-swap, sum-weigh, sum-only, sum-change}
 use Rattle.lists.proofs.Differences as D
+use Rattle.lists.proofs.Tables.{table-at, table-set}
 use Rattle.imbalance.specs.Load.{part, load}
+use Rattle.imbalance.specs.inner.Moved.{loadsMoved}
 use Rattle.topology.specs.Graph.{Graph, first, past, neighbour, weight, arcs, into, gain, joins}
 use Rattle.topology.specs.Rule.{Symmetric}
 use Rattle.topology.specs.Cut.{rowCut, cut}
@@ -87,6 +91,59 @@ load-move ws p v t c lv =
     let here : part (set p v t) v ≡ t = getD-set-same p v t 0 lv in
     let m = sum-change n v (λ y. weigh (eqb (part (set p v t) y) c) (getD ws y 0)) (λ y. weigh (eqb (part p y) c) (getD ws y 0)) lv (λ y ne. rw (getD-set-other p v y t 0 (λ e. ne (sym e)))) in
     rw (length-set p v t) (rw here at m)
+
+-- a vertex's weight stands in its part's load
+pub load-holds : (ws p : List ℕ) (v : ℕ) → v < length p → getD ws v 0 ≤ load ws p (part p v)
+load-holds ws p v lv =
+    let m = rw (eq-eqb (part p v) (part p v) refl, ne-eqb (part p v + 1) (part p v) (λ r. omega arith)) at (load-move ws p v (part p v + 1) (part p v) lv) in
+    omega arith
+
+-- v goes to another part t: the loads of the sixteen parts
+pub loads-move :
+    (ws p : List ℕ) (v t : ℕ)
+    → v < length p
+    → part p v < 16
+    → t < 16
+    → (part p v ≡ t → ⊥)
+    → loadsMoved (table 16 (load ws p)) (part p v) t (getD ws v 0) ≡ table 16 (load ws (set p v t))
+loads-move ws p v t here lo lt apart =
+    ap₂ (λ (l : List ℕ) (x : ℕ). set l t x) down (ap (λ (x : ℕ). x + w) (table-at 16 t 0 F lt)) ∙ table-set 16 t (F t + w) M H lt up rest
+  where
+    old : ℕ
+    old = part p v
+
+    w : ℕ
+    w = getD ws v 0
+
+    F : ℕ → ℕ
+    F = load ws p
+
+    H : ℕ → ℕ
+    H = load ws (set p v t)
+
+    M : ℕ → ℕ
+    M x = cond (eqb x old) (F old - w) (F x)
+
+    down : set (table 16 F) old (getD (table 16 F) old 0 - w) ≡ table 16 M
+    down =
+        table-set 16 old (getD (table 16 F) old 0 - w) F M lo (rw (table-at 16 old 0 F lo, eq-eqb old old refl))
+        (λ j ne. rw (ne-eqb j old ne))
+
+    up : F t + w ≡ H t
+    up = let m = rw (ne-eqb old t apart, eq-eqb t t refl) at (load-move ws p v t t here) in omega arith
+
+    rest : (j : ℕ) → (j ≡ t → ⊥) → M j ≡ H j
+    rest j ne = go (eqb j old) refl
+      where
+        go : (b : Bool) → eqb j old ≡ b → cond b (F old - w) (F j) ≡ H j
+        go true e =
+            let q = eqb-true j old e in
+            let m = rw (eq-eqb old old refl, ne-eqb t old (λ r. apart (sym r))) at (load-move ws p v t old here) in
+            rw q (omega arith)
+        go false e =
+            let q = eqb-false j old e in
+            let m = rw (ne-eqb old j (λ r. q (sym r)), ne-eqb t j (λ r. ne (sym r))) at (load-move ws p v t j here) in
+            omega arith
 
 -- v goes to part t: the gain of another vertex x to part c rises by what joins x and v where t is c and where v was in x's part, and falls by it where v was in c and where t is x's part
 pub gain-move :

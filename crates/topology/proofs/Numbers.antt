@@ -1,6 +1,6 @@
 -- What number 0 tells of a graph: no number from 1 to 5 applies, so its rows are in order, it is symmetric without loops, and its weights are within their limits. Assumes nothing.
 use mathlib.Core.Path.{_≡_, refl, sym, ap, _∙_}
-use mathlib.Core.Bool.{Bool, true, false, not, cond, _&&_, _||_}
+use mathlib.Core.Bool.{Bool, true, false, not, cond, _||_}
 use mathlib.Core.List.{List}
 use Prim.Native.Nat.{ℕ, zero, suc, _+_, _≤_, _<_}
 use native.Mathlib.Omega.{arith}
@@ -10,16 +10,16 @@ use lib.Dec.{ltb, eqb}
 use borrow.Author.Tests.{eq-eqb, ne-eqb, eqb-true, ltb-true, ltb-false, not-false}
 use Rattle.lists.specs.All.{all}
 use Rattle.lists.specs.Number.{orElse}
-use Rattle.lists.proofs.Bools.{and-left, and-right, or-false}
+use Rattle.lists.proofs.Bools.{and-left, or-false}
 use Rattle.lists.proofs.Numbers.{or-else-zero, not-given}
 use Rattle.imbalance.specs.Limit.{mostVertices, mostArcs, heavy, labelAbove}
 use Rattle.imbalance.specs.Load.{Loadable}
 use Rattle.imbalance.proofs.Limits.{light-total}
 use Rattle.topology.specs.Graph.{Graph, first, past}
-use Rattle.topology.specs.Rule.{misfit, oversize, fallsNot, startsOk, rowsOk, rowOk, answered, rowsNumber, graphNumber, Rows, Symmetric, Sound}
+use Rattle.topology.specs.Rule.{misfit, oversize, startsOk, rowsOk, rowOk, answered, rowsNumber, graphNumber, Rows, Symmetric, Sound}
 use Rattle.topology.specs.Number.{edgeCutNumber, lambdaCutNumber, answerOf}
 use Rattle.topology.specs.inner.Row.{RowsAlone}
-use Rattle.topology.proofs.Starts.{start-rises, start-inside}
+use Rattle.topology.proofs.Starts.{start-first, start-last, start-rises, start-inside}
 use Rattle.topology.proofs.RowWalks.{each-row}
 use Rattle.topology.proofs.Rules.{arc-below, symmetric}
 
@@ -34,13 +34,12 @@ in-row (suc n) e g z l = go (ltb e (first g n)) refl (in-row n e g z)
 
 module _ (n : ℕ) (g : Graph) where
   pub rows-hold : misfit n g ≡ false → oversize n (length (g .neighbours)) ≡ false → rowsOk n g ≡ true → Rows n g
-  unfolding misfit oversize rowsOk startsOk
+  unfolding misfit oversize rowsOk
   rows-hold m o r =
       let fit = or-false (not (eqb (length (g .starts)) (n + 1))) (not (eqb (length (g .neighbours)) (length (g .weights)))) m in
       let size = or-false (ltb mostVertices n) (ltb mostArcs (length (g .neighbours))) o in
       let s = and-left (startsOk n g) (all n (rowOk n g)) r in
-      let zero-first = and-left (eqb (first g 0) 0) (eqb (first g n) (length (g .neighbours))) (and-left (eqb (first g 0) 0 && eqb (first g n) (length (g .neighbours))) (all n (fallsNot g)) s) in
-      let last = eqb-true (first g n) (length (g .neighbours)) (and-right (eqb (first g 0) 0) (eqb (first g n) (length (g .neighbours))) (and-left (eqb (first g 0) 0 && eqb (first g n) (length (g .neighbours))) (all n (fallsNot g)) s)) in
+      let last = start-last n g s in
       record {
         few = ltb-false mostVertices n (size .0);
         counted = eqb-true (length (g .starts)) (n + 1) (not-false (eqb (length (g .starts)) (n + 1)) (fit .0));
@@ -48,7 +47,7 @@ module _ (n : ℕ) (g : Graph) where
         small = ltb-false mostArcs (length (g .neighbours)) (size .1);
         rise = start-rises n g s;
         inside = start-inside n g s;
-        below = λ e l. (let u = in-row n e g (eqb-true (first g 0) 0 zero-first) (omega arith) in arc-below n g r (u .0) e (u .1) (u .2) (u .3));
+        below = λ e l. (let u = in-row n e g (start-first n g s) (omega arith) in arc-below n g r (u .0) e (u .1) (u .2) (u .3));
       }
 
   pub rows-number-zero : rowsNumber n g ≡ 0 → Rows n g × Symmetric n g

@@ -1,30 +1,30 @@
 -- The tests of numbers 1 to 5 fail exactly where the graph's rules are kept, and the numbers of a graph and of the stand-alone cuts are the smallest that apply. Assumes nothing.
 use mathlib.Core.Path.{_≡_, refl, sym, _∙_}
-use mathlib.Core.Bool.{Bool, true, false, not, cond, _&&_, _||_}
+use mathlib.Core.Bool.{Bool, true, false, not, cond, _||_}
 use mathlib.Core.List.{List, [], _∷_}
 use mathlib.Core.Logic.{_↔_}
 use Prim.Native.Nat.{ℕ, _+_, _-_, _≤_, _<_}
 use native.Mathlib.Omega.{arith}
 use lib.ListN.{length}
 use lib.Dec.{ltb, eqb}
-use borrow.Author.Tests.{eq-eqb, ne-eqb, eqb-true, eqb-false, lt-ltb, le-leb}
+use borrow.Author.Tests.{eq-eqb, ne-eqb, eqb-true, eqb-false, lt-ltb}
 use Rattle.lists.specs.Sum.{total}
 use Rattle.lists.specs.All.{all}
 use Rattle.lists.specs.Number.{orElse}
 use Rattle.lists.specs.Smallest.{NoRule, Smallest}
-use Rattle.lists.proofs.Bools.{and-left, and-right}
+use Rattle.lists.proofs.Bools.{and-left}
 use Rattle.lists.proofs.Alls.{all-every, from-every}
 use Rattle.lists.proofs.Smallests.{at-most, equal, either-fails, contrary, First, passed, tested, thence, with-more, smallest}
 use Rattle.imbalance.specs.Limit.{mostVertices, mostArcs, mostWeight, heavy, labelAbove}
 use Rattle.imbalance.specs.Rules.{NoneAbove}
 use Rattle.imbalance.proofs.Refusals.{light, labelled}
 use Rattle.topology.specs.Graph.{Graph, first, past, neighbour}
-use Rattle.topology.specs.Rule.{misfit, oversize, fallsNot, startsOk, arcOk, rowOk, rowsOk, answered, rowsNumber, graphNumber}
+use Rattle.topology.specs.Rule.{misfit, oversize, startsOk, arcOk, rowOk, rowsOk, answered, rowsNumber, graphNumber}
 use Rattle.topology.specs.Rules.{Lengths, Limits, RowRules, Opposites, rowsRules, graphRules, edgeCutRules, lambdaCutRules}
 use Rattle.topology.specs.Cut.{cut, lambda}
 use Rattle.topology.specs.Number.{edgeCutNumber, lambdaCutNumber, answerOf, edgeCutAnswer, lambdaCutAnswer}
 use Rattle.topology.specs.declared.CutAnswer.{CutAnswer}
-use Rattle.topology.proofs.Starts.{start-rises}
+use Rattle.topology.proofs.Starts.{start-first, start-last, start-rises, starts-hold}
 use Rattle.topology.proofs.Rises.{chain, step-rises}
 use Rattle.topology.proofs.Rules.{arc-below, arc-other}
 use Rattle.topology.proofs.EqualOpposites.{opposites}
@@ -57,23 +57,16 @@ module _ (n : ℕ) (g : Graph) where
     arc-kept = rw (lt-ltb (neighbour g e) n (k .below u e l (a, b)), ne-eqb (neighbour g e) u (k .other u e l (a, b))) (above-last (eqb e (first g u)) refl)
 
   pub row-rules : (rowsOk n g ≡ true) ↔ RowRules n g
-  unfolding rowsOk startsOk
+  unfolding rowsOk
   row-rules = (there, back)
     where
-      begins : Bool
-      begins = eqb (first g 0) 0
-
-      ends : Bool
-      ends = eqb (first g n) (length (g .neighbours))
-
       there : rowsOk n g ≡ true → RowRules n g
       there r =
           let s = and-left (startsOk n g) (all n (rowOk n g)) r in
-          let t = and-left (begins && ends) (all n (fallsNot g)) s in
           record {
-            begin = eqb-true (first g 0) 0 (and-left begins ends t);
+            begin = start-first n g s;
             climb = start-rises n g s;
-            end = eqb-true (first g n) (length (g .neighbours)) (and-right begins ends t);
+            end = start-last n g s;
             rise = λ u d e l a b k. chain (first g u) (past g u) (neighbour g) (step-rises n g r u l) d e (a .0) k (b .1);
             below = λ u e l a. arc-below n g r u e l (a .0) (a .1);
             other = λ u e l a. eqb-false (neighbour g e) u (arc-other n g r u e l (a .0) (a .1));
@@ -81,9 +74,9 @@ module _ (n : ℕ) (g : Graph) where
 
       back : RowRules n g → rowsOk n g ≡ true
       back k =
-          let f = all-every n (fallsNot g) (λ u l. le-leb (first g u) (past g u) (k .climb u l)) in
+          let s = starts-hold n g (k .begin) (k .end) (k .climb) in
           let a = all-every n (rowOk n g) (λ u l. from-every (first g u) (past g u) (arcOk n g u (first g u)) (λ e p q. arc-kept k u e l p q)) in
-          rw (eq-eqb (first g 0) 0 (k .begin), eq-eqb (first g n) (length (g .neighbours)) (k .end), f, a)
+          rw (s, a)
 
   -- the numbers from 2 on
   abbrev fromTwo : ℕ

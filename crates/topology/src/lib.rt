@@ -9,6 +9,7 @@ pub use cut::cut_of;
 pub use gain::gain_of;
 pub use gain::twice;
 pub use lambda::lambda_of;
+pub use rows::starts_ok;
 ghost use mathlib.Core.Path.{_≡_};
 ghost use Rattle.topology.specs.Graph.{inRows};
 ghost use Rattle.topology.specs.Rule.{rowsNumber, graphNumber};

@@ -32,7 +32,7 @@ pub fn oversized(n: usize, a: usize) -> bool
 }
 
 // Starts begin at 0, never fall and end at a.
-fn starts_ok(starts: &[u32], neighbours: &[u32], n: usize) -> bool
+pub fn starts_ok(starts: &[u32], neighbours: &[u32], n: usize) -> bool
     requires { ⌜ length (now starts) ≡ n + 1 ⌝ }
     ensures { λ r. ⌜ r ≡ startsOk n (inRows (now (starts .entry)) (now (neighbours .entry)) []) ⌝ }
 {

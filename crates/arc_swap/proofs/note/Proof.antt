@@ -44,10 +44,10 @@ use Rattle.arc_swap.specs.inner.Steps.{most}
 use Rattle.arc_swap.specs.declared.RunRecord.{RunRecord}
 use Rattle.arc_swap.proofs.RunRecord as T
 use Rattle.arc_swap.proofs.RunRecord.Laws as T′
-use Rattle.arc_swap.proofs.next_run as next
-use Rattle.arc_swap.proofs.next_run.Symbol as next-def
-use Rattle.arc_swap.proofs.next_run.Symbol.{name as #arc-swap·next-run}
-use Rattle.arc_swap.proofs.next_run.Met as next-thm
+use Rattle.arc_swap.proofs.steps.next_run as next
+use Rattle.arc_swap.proofs.steps.next_run.Symbol as next-def
+use Rattle.arc_swap.proofs.steps.next_run.Symbol.{name as #arc-swap·next-run}
+use Rattle.arc_swap.proofs.steps.next_run.Met as next-thm
 use Rattle.arc_swap.proofs.note.Key.{name as #arc-swap·note}
 use Rattle.arc_swap.proofs.note as f
 use Rattle.arc_swap.proofs.note.Statement as stated
@@ -142,4 +142,4 @@ note-spec 𝓤 H 𝓜 𝓖 𝓡 =
     entered 𝓤 H (tripleOf 𝓤 H (𝓖 .A) f.signature (f.spec 𝓤 H (𝓖 .A) (𝓜 .mem) (𝓡 .run)))
     (tables 𝓤 H 𝓜 𝓡 code.env .C) (tables 𝓤 H 𝓜 𝓡 code.env .Λ) #arc-swap·note code.function (code.unfolded 𝓤 H 𝓜 𝓡)
     (note-meets 𝓤 H (𝓖 .A) (givenOf 𝓤 H 𝓜 𝓖) (𝓜 .mem) (𝓡 .run) (tablesOf 𝓤 H 𝓜 (tables 𝓤 H 𝓜 𝓡 code.env))
-    (cited 𝓤 H (Next 𝓤 H (𝓖 .A) (𝓜 .mem) (𝓡 .run)) 𝓜 𝓡 code.env #arc-swap·next-run next-def.routine code.calls-arc-swap·next-run (next-thm.met 𝓤 H 𝓜 𝓖 𝓡)))
+    (cited 𝓤 H (Next 𝓤 H (𝓖 .A) (𝓜 .mem) (𝓡 .run)) 𝓜 𝓡 code.env #arc-swap·next-run next-def.routine code.calls-arc-swap·steps·next-run (next-thm.met 𝓤 H 𝓜 𝓖 𝓡)))

@@ -6,7 +6,8 @@ use native.Mathlib.Omega.{arith}
 use lib.ListN.{length}
 use borrow.Author.Tests.{not-true, not-false}
 use Rattle.arc_swap.specs.inner.Steps.{settingBy}
-use Rattle.arc_swap.proofs.Taken.{drain-asked, turned}
+use Rattle.topology.proofs.RowWalks.{each-row}
+use Rattle.arc_swap.proofs.Taken.{first-weighed, drain-asked, turned}
 use Rattle.arc_swap.proofs.Sweeping.{Sweeping, sweeping, turn-asked, next-turn, stopped, swept}
 use borrow.Author.Needs.{needs}
 use Rattle.arc_swap.proofs.sweep_all.Statement.{statement}
@@ -31,7 +32,7 @@ push-first-requires c κs =
     let given : tie.Start Inv-loop μ-loop = search needs in
     let i = entered .loop .inv in
     let a = turn-asked _ _ _ _ _ (given .pre) _ _ _ _ _ i (c .before .before .loop-test .taken) in
-    (a .0 .asked .fixed .rows, a .1)
+    (each-row (a .0 .asked .fixed .rows), a .1, a .0 .asked .fixed .rows .few)
 
 drain-stack-requires : tie.Need-drain-stack-requires Inv-loop μ-loop
 drain-stack-requires c κs =
@@ -40,8 +41,8 @@ drain-stack-requires c κs =
     let given : tie.Start Inv-loop μ-loop = search needs in
     let i = in-turn .before .loop .inv in
     let a = turn-asked _ _ _ _ _ (given .pre) _ _ _ _ _ i (in-turn .loop-test .taken) in
-    rw (after-push-first .push-first .kept .1 .1 .1 .1 .0 ∙ i .ready .room)
-    (drain-asked _ refl _ _ _ _ (a .0) _ (a .1) _ _ (after-push-first .push-first .ensures))
+    rw (after-push-first .push-first .kept .1 .1 .1 .0 ∙ i .ready .room)
+    (drain-asked _ refl _ _ _ _ (a .0) _ (a .1) _ _ (first-weighed _ _ _ _ _ _ _ _ _ (after-push-first .push-first .ensures)))
 
 same-length : tie.Need-same-length Inv-loop μ-loop
 same-length c =
@@ -54,7 +55,7 @@ same-length-2 c =
     let after-drain-stack : tie.After-drain-stack Inv-loop μ-loop = search needs in
     let after-push-first : tie.After-push-first Inv-loop μ-loop = search needs in
     let entered : tie.At-loop Inv-loop μ-loop = search needs in
-    after-drain-stack .drain-stack .kept .1 .1 .1 .1 .1 .0 ∙ after-push-first .push-first .kept .1 .1 .1 .1 .0 ∙ entered .loop .inv .ready .room
+    after-drain-stack .drain-stack .kept .1 .1 .1 .1 .1 .0 ∙ after-push-first .push-first .kept .1 .1 .1 .0 ∙ entered .loop .inv .ready .room
 
 -- the stations that lie far back, each from a nearer one
 abbrev start-of : tie.In-loop Inv-loop μ-loop → tie.Start Inv-loop μ-loop
@@ -69,8 +70,8 @@ returns c =
     let i = in-turn .before .loop .inv in
     let a = turn-asked _ _ _ _ _ (given .pre) _ _ _ _ _ i (in-turn .loop-test .taken) in
     stopped _ _ _ _ _ (given .pre) _ _ _ _ _ i (in-turn .loop-test .taken) _ _ _ _
-    (turned _ refl _ _ _ _ (a .0) _ (a .1) _ _ (after-push-first .push-first .ensures) _ _ _ _
-    (rw (after-push-first .push-first .kept .1 .1 .1 .1 .0 ∙ i .ready .room) at (after-drain-stack .drain-stack .ensures)))
+    (turned _ refl _ _ _ _ (a .0) _ (a .1) _ _ (first-weighed _ _ _ _ _ _ _ _ _ (after-push-first .push-first .ensures)) _ _ _ _
+    (rw (after-push-first .push-first .kept .1 .1 .1 .0 ∙ i .ready .room) at (after-drain-stack .drain-stack .ensures)))
     (not-true _ (c .if1 .taken))
 
 add-v : tie.Need-add-v Inv-loop μ-loop
@@ -99,8 +100,8 @@ loop-again c =
     let i = in-turn .before .loop .inv in
     let a = turn-asked _ _ _ _ _ (given .pre) _ _ _ _ _ i (in-turn .loop-test .taken) in
     next-turn _ _ _ _ _ (given .pre) _ _ _ _ _ i (in-turn .loop-test .taken) _ _ _ _
-    (turned _ refl _ _ _ _ (a .0) _ (a .1) _ _ (after-push-first .push-first .ensures) _ _ _ _
-    (rw (after-push-first .push-first .kept .1 .1 .1 .1 .0 ∙ i .ready .room) at (after-drain-stack .drain-stack .ensures)))
+    (turned _ refl _ _ _ _ (a .0) _ (a .1) _ _ (first-weighed _ _ _ _ _ _ _ _ _ (after-push-first .push-first .ensures)) _ _ _ _
+    (rw (after-push-first .push-first .kept .1 .1 .1 .0 ∙ i .ready .room) at (after-drain-stack .drain-stack .ensures)))
     (not-false _ (c .if1 .left))
 
 same-length-3 : tie.Need-same-length-3 Inv-loop μ-loop

@@ -127,12 +127,12 @@ pub record PassesDone (s : Setting) (labels labels′ stack′ : List ℕ) (coun
 pub record InOrder (p : Plan) (labels : List ℕ) : Type 0 where
   pub sound : Sound (length labels) (p .weights) (graphOf p)
   pub named : labelAbove 15 labels ≡ false
-  pub fit : unfitChoice (p .settings .choice) (p .settings .imbalance) ≡ false
+  pub fit : unfitChoice (p .settings .ceiling) ≡ false
 
 -- What a run begins with: the number of parts, the ceilings, and an empty stack beside the cut and the loads of the labels.
 pub record Begins (p : Plan) (labels : List ℕ) (b : Begun) : Type 0 where
   pub parts : b .parts ≡ partsOf labels
-  pub capped : b .ceilings .at ≡ ceilings (table 16 (load (p .weights) labels)) (total (p .weights)) (partsOf labels) (p .settings .choice) (p .settings .whole) (p .settings .imbalance)
+  pub capped : b .ceilings .at ≡ ceilings (table 16 (load (p .weights) labels)) (total (p .weights)) (partsOf labels) (p .settings .ceiling)
   pub stands : b .st ≡ record { fits = true; top = 0; cut = cut (graphOf p) labels; loads = loadsOf (p .weights) labels }
 
 -- What the run of a call answers and leaves.

@@ -10,10 +10,10 @@ use Rattle.fiduccia_mattheyses.proofs.make_passes.Statement.{statement}
 use Rattle.fiduccia_mattheyses.proofs.make_passes.Proof.Tie as tie
 
 abbrev Inv-loop : tie.InvT-loop
-Inv-loop starts neighbours arc-weights weights labels₀ gains₀ moves₀ rows-made₀ rows-rewound₀ first-cut ceilings bad-limit move-limit limit loads₀ cut₀ passes₀ labels gains moves rows-made rows-rewound loads cut passes = Running (settingBy starts neighbours arc-weights weights (ceilings .at) bad-limit move-limit) limit labels₀ moves₀ rows-made₀ rows-rewound₀ labels gains moves rows-made rows-rewound loads cut passes
+Inv-loop starts neighbours arc-weights weights labels₀ gains₀ moves₀ rows-made₀ rows-rewound₀ first-cut limits pass-limit loads₀ cut₀ passes₀ labels gains moves rows-made rows-rewound loads cut passes = Running (settingBy starts neighbours arc-weights weights limits) pass-limit labels₀ moves₀ rows-made₀ rows-rewound₀ labels gains moves rows-made rows-rewound loads cut passes
 
 abbrev μ-loop : tie.MeasureT-loop
-μ-loop starts neighbours arc-weights weights labels₀ gains₀ moves₀ rows-made₀ rows-rewound₀ first-cut ceilings bad-limit move-limit limit loads₀ cut₀ passes₀ labels gains moves rows-made rows-rewound loads cut passes = limit - passes
+μ-loop starts neighbours arc-weights weights labels₀ gains₀ moves₀ rows-made₀ rows-rewound₀ first-cut limits pass-limit loads₀ cut₀ passes₀ labels gains moves rows-made rows-rewound loads cut passes = pass-limit - passes
 
 -- ---- the stations of a turn: where the loop is entered, and what the function was given
 abbrev entered : tie.After-pass Inv-loop μ-loop → tie.In-loop Inv-loop μ-loop

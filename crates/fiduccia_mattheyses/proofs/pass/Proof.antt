@@ -5,13 +5,6 @@ use Rattle.fiduccia_mattheyses.proofs.Passing.{cut-room, walk-asked, re
 use borrow.Author.Needs.{needs}
 use Rattle.fiduccia_mattheyses.proofs.pass.Statement.{statement}
 use Rattle.fiduccia_mattheyses.proofs.pass.Proof.Tie as tie
-use Rattle.fiduccia_mattheyses.proofs.walk.pass.Reads as reads
-use Rattle.fiduccia_mattheyses.proofs.walk.pass.Lts as lts
-use Rattle.fiduccia_mattheyses.proofs.first_standing.Reads as first-standing-reads
-use Rattle.fiduccia_mattheyses.proofs.pass_answer.Reads as pass-answer-reads
-use Rattle.fiduccia_mattheyses.proofs.walk.rewind.Reads as rewind-reads
-use Rattle.fiduccia_mattheyses.proofs.walk.walk_moves.Reads as walk-moves-reads
-use Rattle.fiduccia_mattheyses_pass.proofs.fresh_gains.Reads as fresh-gains-reads
 
 fresh-gains-requires : tie.Need-fresh-gains-requires
 fresh-gains-requires c κs =

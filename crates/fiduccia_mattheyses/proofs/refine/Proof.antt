@@ -1,6 +1,6 @@
 -- `fiduccia_mattheyses::refine` meets its contract: each call's answer is handed on by a law of `Entering`. Assumes nothing.
 mod Tie
-use mathlib.Core.Path.{sym, _∙_}
+use mathlib.Core.Path.{sym}
 use native.Mathlib.Omega.{arith}
 use lib.ListN.{length}
 use borrow.Author.Needs.{needs}
@@ -21,6 +21,12 @@ measured limits = search needs
 abbrev capped : tie.After-cut-of → tie.After-ceilings-of
 capped cut = search needs
 
+abbrev asked : tie.After-ceilings-of → tie.After-asked-ceiling
+asked ceilings = search needs
+
+abbrev weighed : tie.After-asked-ceiling → tie.After-total-weight
+weighed ceiling = search needs
+
 abbrev loaded : tie.After-ceilings-of → tie.After-parts-load
 loaded ceilings = search needs
 
@@ -35,10 +41,15 @@ parts-load-requires c κs =
 total-weight-requires : tie.Need-total-weight-requires
 total-weight-requires c κs = given c .pre .sound .light
 
+asked-ceiling-requires : tie.Need-asked-ceiling-requires
+asked-ceiling-requires c κs = search needs
+
 ceilings-of-requires : tie.Need-ceilings-of-requires
 ceilings-of-requires c κs =
-    let first = given (c .before) in
-    (rw (c .total-weight .ensures) (first .pre .sound .light), search needs, search needs, first .pre .fit)
+    let weights : tie.After-total-weight = search needs in
+    let loads : tie.After-parts-load = search needs in
+    let first = given loads in
+    (rw (weights .total-weight .ensures) (first .pre .sound .light), search needs, search needs, rw (c .asked-ceiling .ensures) (first .pre .fit))
 
 cut-of-requires : tie.Need-cut-of-requires
 cut-of-requires c κs = given (loaded (c .before)) .pre .sound .rows
@@ -64,7 +75,7 @@ make-passes-requires c κs =
     let ceilings = capped cut in
     let loads = loaded ceilings in
     let first = given loads in
-    passes-asked _ _ (first .pre) _ _ _ _ _ _ (loads .parts-load .ensures) (ceilings .before .total-weight .ensures) (ceilings .ceilings-of .ensures) (cut .cut-of .ensures) (limits .before .wide .ensures) (limits .index .ensures) _ (take-long _ (first .args .gains .now) (first .pre .in-gains))
+    passes-asked _ _ (first .pre) _ _ _ _ _ _ _ (loads .parts-load .ensures) (weighed (asked ceilings) .total-weight .ensures) (asked ceilings .asked-ceiling .ensures) (ceilings .ceilings-of .ensures) (cut .cut-of .ensures) (limits .before .wide .ensures) (limits .index .ensures) _ (take-long _ (first .args .gains .now) (first .pre .in-gains))
 
 clear-requires : tie.Need-clear-requires
 clear-requires c κs =
@@ -108,7 +119,7 @@ returns c =
     let front = passed .make-passes .last .1 .1 .1 .1 .1 .0 in
     let same = passed .make-passes .kept .1 .1 .1 .1 .1 .0 in
     let room = first .pre .in-gains in
-    ran _ _ (first .pre) _ _ _ _ _ _ (loads .parts-load .ensures) (ceilings .before .total-weight .ensures) (ceilings .ceilings-of .ensures) (cut .cut-of .ensures) (limits .before .wide .ensures) (limits .index .ensures) _ _ _ _ _ (passed .make-passes .ensures) _ _ (joined-long n gains front same room) (joined-past n gains front same room) (finished .finish .ensures .0) _ (cleared .clear .ensures) _ (finished .finish .ensures .1)
+    ran _ _ (first .pre) _ _ _ _ _ _ _ (loads .parts-load .ensures) (weighed (asked ceilings) .total-weight .ensures) (asked ceilings .asked-ceiling .ensures) (ceilings .ceilings-of .ensures) (cut .cut-of .ensures) (limits .before .wide .ensures) (limits .index .ensures) _ _ _ _ _ (passed .make-passes .ensures) _ _ (joined-long n gains front same room) (joined-past n gains front same room) (finished .finish .ensures .0) _ (cleared .clear .ensures) _ (finished .finish .ensures .1)
 
 pub refine-spec : {M : Type 1} → statement M
 refine-spec =
@@ -116,6 +127,7 @@ refine-spec =
     (tie.spec
     parts-load-requires
     total-weight-requires
+    asked-ceiling-requires
     ceilings-of-requires
     cut-of-requires
     wide-requires

@@ -9,18 +9,12 @@ use Rattle.fiduccia_mattheyses.specs.inner.Steps.{settingBy}
 use Rattle.fiduccia_mattheyses.proofs.Walking.{Walking, answer, walking-start, scanned, walking-stop, walking-full, move-room, move-asked, walking-move, moves-long}
 use Rattle.fiduccia_mattheyses.proofs.walk_moves.Statement.{statement}
 use Rattle.fiduccia_mattheyses.proofs.walk_moves.Proof.Tie as tie
-use Rattle.fiduccia_mattheyses.proofs.walk.walk_moves.Reads as reads
-use Rattle.fiduccia_mattheyses.proofs.walk.walk_moves.Lts as lts
-use Rattle.fiduccia_mattheyses.proofs.narrow.Reads as narrow-reads
-use Rattle.fiduccia_mattheyses.proofs.walk.put_move.Reads as put-move-reads
-use Rattle.fiduccia_mattheyses_pass.proofs.make_move.Reads as make-move-reads
-use Rattle.fiduccia_mattheyses_pass.proofs.next_move.Reads as next-move-reads
 
 abbrev Inv-loop : tie.InvT-loop
-Inv-loop starts neighbours arc-weights weights labels₀ gains₀ moves₀ ceilings bad-limit limit st₀ made₀ labels gains moves st made = Walking (settingBy starts neighbours arc-weights weights (ceilings .at) bad-limit limit) limit labels₀ moves₀ labels gains moves st made
+Inv-loop starts neighbours arc-weights weights labels₀ gains₀ moves₀ limits st₀ made₀ labels gains moves st made = Walking (settingBy starts neighbours arc-weights weights limits) (limits .moves) labels₀ moves₀ labels gains moves st made
 
 abbrev μ-loop : tie.MeasureT-loop
-μ-loop starts neighbours arc-weights weights labels₀ gains₀ moves₀ ceilings bad-limit limit st₀ made₀ labels gains moves st made = limit - made
+μ-loop starts neighbours arc-weights weights labels₀ gains₀ moves₀ limits st₀ made₀ labels gains moves st made = limits .moves - made
 
 loop-holds : tie.Need-loop-holds Inv-loop μ-loop
 loop-holds c =
@@ -70,8 +64,9 @@ narrow-requires c κs =
     let after-next-move : tie.After-next-move Inv-loop μ-loop = search needs in
     let entered : tie.At-loop Inv-loop μ-loop = search needs in
     let given : tie.Start Inv-loop μ-loop = search needs in
-    move-room _ _ _ _ (given .pre .fixed) (given .pre .room) _ _ _ _ _ (entered .loop .inv) _ _ _ _ (after-next-move .next-move .ensures)
-    (c .before .before .next .given .1) .1
+    let v = move-room _ _ _ _ (given .pre .fixed) (given .pre .room) _ _ _ _ _ (entered .loop .inv) _ _ _ _ (after-next-move .next-move .ensures)
+    (c .before .before .next .given .1) .1 in
+    omega arith
 
 mul-put-move : tie.Need-mul-put-move Inv-loop μ-loop
 unfolding answer
@@ -123,7 +118,7 @@ loop-less : tie.Need-loop-less Inv-loop μ-loop
 loop-less c = search needs
 
 -- the stations that lie far back, each from a nearer one
-abbrev start-of : tie.In-loop Inv-loop μ-loop → tie.Start Inv-loop μ-loop
+abbrev start-of : tie.At-loop Inv-loop μ-loop → tie.Start Inv-loop μ-loop
 start-of c = search needs
 
 loop-again : tie.Need-loop-again Inv-loop μ-loop
@@ -135,31 +130,37 @@ loop-again c =
     let after-known-told : tie.After-known-told Inv-loop μ-loop = search needs in
     let after-next : tie.After-next Inv-loop μ-loop = search needs in
     let after-next-move : tie.After-next-move Inv-loop μ-loop = search needs in
-    let in-turn : tie.In-loop Inv-loop μ-loop = search needs in
-    let given = start-of in-turn in
+    let in-turn : tie.Then1 Inv-loop μ-loop = search needs in
+    let entered : tie.At-loop Inv-loop μ-loop = search needs in
+    let given = start-of entered in
     let h = back (after-next .next .given .0 .1 .0) (after-known-told .known-told .given .1 .0 .1) in
     let m = after-make-move .make-move .ensures in
-    walking-move _ _ _ _ (given .pre .fixed) (given .pre .room) _ _ _ _ _ (in-turn .before .loop .inv) _ _ _ _
-    (after-next-move .next-move .ensures) (after-next .next .given .1) (in-turn .loop-test .taken) _ _ _ _ _ refl
+    walking-move _ _ _ _ (given .pre .fixed) (given .pre .room) _ _ _ _ _ (entered .loop .inv) _ _ _ _
+    (after-next-move .next-move .ensures) (after-next .next .given .1) (in-turn .if1 .taken) _ _ _ _ _ refl
     (rw (after-narrow .narrow .ensures) at (after-put-move .put-move .ensures)) (m .0) (m .1) (rw h at (m .2))
 
 same-length-4 : tie.Need-same-length-4 Inv-loop μ-loop
-same-length-4 c = c .before .loop .inv .stands .long
+same-length-4 c =
+    let entered : tie.At-loop Inv-loop μ-loop = search needs in
+    entered .loop .inv .stands .long
 
 same-length-5 : tie.Need-same-length-5 Inv-loop μ-loop
 same-length-5 c =
+    let entered : tie.At-loop Inv-loop μ-loop = search needs in
     let given : tie.Start Inv-loop μ-loop = search needs in
-    c .before .loop .inv .stands .gained .long ∙ c .before .loop .inv .stands .long ∙ sym (given .pre .stands .gained .long)
+    entered .loop .inv .stands .gained .long ∙ entered .loop .inv .stands .long ∙ sym (given .pre .stands .gained .long)
 
 same-length-6 : tie.Need-same-length-6 Inv-loop μ-loop
 same-length-6 c =
+    let entered : tie.At-loop Inv-loop μ-loop = search needs in
     let given : tie.Start Inv-loop μ-loop = search needs in
-    moves-long _ _ _ _ (given .pre .fixed) (given .pre .room) _ _ _ _ _ (c .before .loop .inv)
+    moves-long _ _ _ _ (given .pre .fixed) (given .pre .room) _ _ _ _ _ (entered .loop .inv)
 
 returns-2 : tie.Need-returns-2 Inv-loop μ-loop
 returns-2 c =
+    let entered : tie.At-loop Inv-loop μ-loop = search needs in
     let given : tie.Start Inv-loop μ-loop = search needs in
-    walking-full _ _ _ _ (given .pre .fixed) (given .pre .room) _ _ _ _ _ (c .before .loop .inv) (c .loop-test .left)
+    walking-full _ _ _ _ (given .pre .fixed) (given .pre .room) _ _ _ _ _ (entered .loop .inv) (c .if1 .left)
 
 pub walk-moves-spec : {M : Type 1} → statement M
 walk-moves-spec =

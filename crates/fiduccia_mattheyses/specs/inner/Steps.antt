@@ -7,16 +7,18 @@ use lib.ListN.{length, getD, set, drop}
 use lib.Dec.{leb}
 use lib.IntN.{ℤ, pos}
 use Rattle.lists.specs.Sum.{total}
-use Rattle.lists.specs.Fill.{table}
+use Rattle.lists.specs.Fill.{table, over}
 use Rattle.imbalance.specs.Limit.{mostVertices, mostWeight, labelAbove}
 use Rattle.imbalance.specs.Ceiling.{unfitChoice}
 use Rattle.topology.specs.Rule.{Sound}
 use Rattle.imbalance.specs.Load.{part, load}
+use Rattle.imbalance.specs.inner.Moved.{loadsMoved}
 use Rattle.topology.specs.Graph.{inRows}
 use Rattle.topology.specs.Cut.{cut}
 use Rattle.fiduccia_mattheyses_pass.specs.Choice.{Setting, other, flip}
 use Rattle.fiduccia_mattheyses_pass.specs.Pass.{State, Pass, start, flips, pass}
-use Rattle.fiduccia_mattheyses_pass.specs.inner.Standing.{Fixed, Stands, Apart, loadsAfter}
+use Rattle.fiduccia_mattheyses_pass.specs.inner.Standing.{Fixed, Stands, Apart}
+use Rattle.fiduccia_mattheyses_pass.specs.declared.Limits.{Limits}
 use Rattle.fiduccia_mattheyses_pass.specs.declared.Standing.{Standing}
 use Rattle.imbalance.specs.declared.Loads.{Loads}
 use Rattle.fiduccia_mattheyses.specs.declared.Move.{Move}
@@ -25,13 +27,13 @@ use Rattle.fiduccia_mattheyses.specs.declared.Ended.{Ended}
 use Rattle.fiduccia_mattheyses.specs.declared.Course.{Course}
 use Rattle.fiduccia_mattheyses.specs.declared.Course.the-variants.{Ends, GoesOn}
 use Rattle.fiduccia_mattheyses.specs.Run.{run}
-use Rattle.fiduccia_mattheyses.specs.Entry.{Plan, Lent, graphOf, none, over, reportOf, leftBy}
+use Rattle.fiduccia_mattheyses.specs.Entry.{Plan, Lent, graphOf, askedCeiling, none, reportOf, leftBy}
 use Rattle.fiduccia_mattheyses.specs.declared.Report.{Report}
 
 -- the setting that a function's parameters stand for
-abbrev pub settingBy : List ℕ → List ℕ → List ℕ → List ℕ → List ℕ → ℕ → ℕ → Setting
-settingBy starts neighbours arcs weights ceilings badLimit moveLimit =
-    record { graph = inRows starts neighbours arcs; weights = weights; ceilings = ceilings; movable = λ v. true; badLimit = badLimit; moveLimit = moveLimit }
+abbrev pub settingBy : List ℕ → List ℕ → List ℕ → List ℕ → Limits → Setting
+settingBy starts neighbours arcs weights limits =
+    record { graph = inRows starts neighbours arcs; weights = weights; ceilings = limits .ceilings .at; movable = λ v. true; badLimit = limits .bad; moveLimit = limits .moves }
 
 -- where a pass starts, with these loads and this cut
 abbrev pub firstStanding : Loads → ℕ → Standing
@@ -65,19 +67,20 @@ unfoldable pub undone : List Move → ℕ → ℕ → List ℕ → List ℕ
 undone moves from zero p = p
 undone moves from (suc k) p = set (undone moves from k p) (getD moves (from + k) none .vertex) (getD moves (from + k) none .part)
 
--- What taking a move back asks: a vertex with a label of the two and a weight, and loads of sixteen parts from which the weight can go.
+-- What taking a move back asks: a vertex with a weight, in the other part of the two than before the move, and loads of sixteen parts from which the weight can go.
 pub record UndoAsked (weights labels loads : List ℕ) (m : Move) : Type 0 where
   pub in-labels : m .vertex < length labels
   pub in-weights : m .vertex < length weights
   pub two : part labels (m .vertex) < 2
+  pub before : m .part ≡ other (part labels (m .vertex))
   pub sixteen : length loads ≡ 16
   pub held : getD weights (m .vertex) 0 ≤ getD loads (part labels (m .vertex)) 0
-  pub within : getD loads (other (part labels (m .vertex))) 0 ≤ mostWeight
+  pub within : getD loads (m .part) 0 ≤ mostWeight
 
--- What it answers: the label before the move, and the loads after the vertex left the part that it was in.
+-- What it answers: the label before the move, and the loads after the vertex went back to that part.
 pub record UndoDone (weights labels loads : List ℕ) (m : Move) (labels′ loads′ : List ℕ) : Type 0 where
   pub labelled : labels′ ≡ set labels (m .vertex) (m .part)
-  pub loaded : loads′ ≡ loadsAfter loads (part labels (m .vertex)) (getD weights (m .vertex) 0)
+  pub loaded : loads′ ≡ loadsMoved loads (part labels (m .vertex)) (m .part) (getD weights (m .vertex) 0)
 
 -- What the rewind asks: labels that come of moves vs from labels p, no vertex twice, all recorded, and the loads of these labels.
 pub record RewindAsked (weights labels : List ℕ) (moves : List Move) (loads : List ℕ) (kept made : ℕ) : Type 0 where
@@ -164,7 +167,7 @@ pub record Ready (p : Plan) (l : Lent) : Type 0 where
   pub sound : Sound (length (l .labels)) (p .weights) (graphOf p)
   pub labelled : labelAbove 1 (l .labels) ≡ false
   pub few-passes : p .settings .passes ≤ 1024
-  pub fit : unfitChoice (p .settings .choice) (p .settings .imbalance) ≡ false
+  pub fit : unfitChoice (askedCeiling (p .settings)) ≡ false
   pub in-gains : length (l .labels) ≤ length (l .gains)
   pub in-moves : length (l .labels) ≤ length (l .moves)
   pub in-made : p .settings .passes ≤ length (l .made)

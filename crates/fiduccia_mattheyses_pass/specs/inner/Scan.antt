@@ -1,8 +1,8 @@
--- What the scan over the list of gains answers: the next vertex to move, with its gain and its target's load after the move.
+-- What the scan over the list of gains answers: the next vertex to move, with its gain.
 use mathlib.Core.Bool.{Bool, cond, _&&_, _||_}
 use mathlib.Core.List.{List}
 use mathlib.Core.Option.{Option, none, some}
-use Prim.Native.Nat.{ℕ, _+_}
+use Prim.Native.Nat.{ℕ, _+_, _-_}
 use lib.ListN.{getD}
 use lib.Dec.{ltb, leb}
 use lib.IntN.{ℤ, pos, negsuc}
@@ -10,6 +10,7 @@ use lib.Signed.{ltZ, leZ}
 use Rattle.lists.specs.Best.{best}
 use Rattle.imbalance.specs.Load.{part}
 use Rattle.fiduccia_mattheyses_pass.specs.Choice.{other}
+use Rattle.fiduccia_mattheyses_pass.specs.inner.Bounds.{lockSize}
 use Rattle.fiduccia_mattheyses_pass.specs.declared.Slot.{Slot}
 use Rattle.fiduccia_mattheyses_pass.specs.declared.Slot.the-variants.{Locked, Free}
 use Rattle.fiduccia_mattheyses_pass.specs.declared.Pick.{Pick}
@@ -17,9 +18,9 @@ use Rattle.fiduccia_mattheyses_pass.specs.declared.Pick.the-variants.{No
 use Rattle.fiduccia_mattheyses_pass.specs.declared.Next.{Next}
 use Rattle.fiduccia_mattheyses_pass.specs.declared.Next.the-variants.{Stop, Go}
 
--- the list's mark of a locked vertex, a value that no gain can have
+-- the list's mark of a locked vertex, a value that no gain can have: `lockSize` with a minus
 abbrev pub lock : ℤ
-lock = negsuc 4611686018427387903
+lock = negsuc (lockSize - 1)
 
 abbrev pub isFree : ℤ → Bool
 isFree g = ltZ lock g
@@ -32,10 +33,10 @@ slotOf g = cond (isFree g) (Free g) Locked
 abbrev pub beats : ℤ → ℕ → ℤ → ℕ → Bool
 beats g l h m = ltZ h g || (leZ h g && ltb l m)
 
--- the answer where v is chosen, with its gain and load
-abbrev pub picked : (ℕ → ℤ) → (ℕ → ℕ) → Option ℕ → Pick
-picked gain load none = Nobody
-picked gain load (some v) = Vertex v (gain v) (load v)
+-- the answer where v is chosen, with its gain
+abbrev pub picked : (ℕ → ℤ) → Option ℕ → Pick
+picked gain none = Nobody
+picked gain (some v) = Vertex v (gain v)
 
 -- the target load of v's move, and its ceiling
 abbrev pub loadAfter : List ℕ → List ℕ → List ℕ → ℕ → ℕ
@@ -53,9 +54,9 @@ module _ (gains : List ℤ) (load ceiling : ℕ → ℕ) where
 
   -- the pick among the vertices below n
   abbrev pub pickBelow : ℕ → Pick
-  pickBelow n = picked (λ v. getD gains v (pos 0)) load (best may over n)
+  pickBelow n = picked (λ v. getD gains v (pos 0)) (best may over n)
 
 -- a move of gain 0 or less counts as bad, and ends the pass where the counter has reached the limit; a positive one clears the counter
 abbrev pub nextOf : Pick → ℕ → ℕ → Next
 nextOf Nobody bad limit = Stop
-nextOf (Vertex v g l) bad limit = cond (leZ g (pos 0)) (cond (leb limit bad) Stop (Go v g (bad + 1))) (Go v g 0)
+nextOf (Vertex v g) bad limit = cond (leZ g (pos 0)) (cond (leb limit bad) Stop (Go v g (bad + 1))) (Go v g 0)

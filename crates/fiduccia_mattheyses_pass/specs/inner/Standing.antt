@@ -2,7 +2,7 @@
 use mathlib.Core.Path.{_≡_}
 use mathlib.Core.Bool.{true, cond}
 use mathlib.Core.List.{List}
-use Prim.Native.Nat.{ℕ, _+_, _-_, _≤_, _<_}
+use Prim.Native.Nat.{ℕ, _-_, _≤_, _<_}
 use lib.ListN.{length, getD, set}
 use lib.IntN.{ℤ, pos, _-ℤ_}
 use lib.Signed.{mag, ltZ}
@@ -10,18 +10,16 @@ use Rattle.lists.specs.Sum.{sum, total, weigh}
 use Rattle.lists.specs.Fill.{written, table}
 use Rattle.imbalance.specs.Load.{part, load}
 use Rattle.imbalance.specs.Limit.{mostWeight}
+use Rattle.imbalance.specs.inner.Moved.{loadsMoved}
 use Rattle.topology.specs.Graph.{Graph, first, past, gain}
 use Rattle.topology.specs.Rule.{Rows, Symmetric}
 use Rattle.topology.specs.Cut.{cut}
+use Rattle.fiduccia_mattheyses_pass.specs.inner.Bounds.{mostGain, mostCut, lockSize}
 use Rattle.fiduccia_mattheyses_pass.specs.Choice.{Setting, other, flip, member, worth}
 use Rattle.fiduccia_mattheyses_pass.specs.Pass.{State}
 use Rattle.fiduccia_mattheyses_pass.specs.inner.Scan.{lock}
 use Rattle.fiduccia_mattheyses_pass.specs.inner.Update.{updated}
 use Rattle.fiduccia_mattheyses_pass.specs.declared.Standing.{Standing}
-
--- "one place changed down and one up per move"
-abbrev pub loadsAfter : List ℕ → ℕ → ℕ → List ℕ
-loadsAfter loads old w = set (set loads old (getD loads old 0 - w)) (other old) (getD loads (other old) 0 + w)
 
 -- the gains after v's move: v is locked, and its free neighbours follow
 abbrev pub gainsAfter : Graph → List ℕ → List ℤ → ℕ → List ℤ
@@ -39,9 +37,9 @@ standingWith st loads g bad made =
       bad = bad;
     }
 
--- the same, of a vertex of weight w out of part old
+-- the same, of a vertex of weight w that left part old for the other one
 abbrev pub standingAfter : Standing → ℕ → ℕ → ℤ → ℕ → ℕ → Standing
-standingAfter st old w g bad made = standingWith st (loadsAfter (st .loads .at) old w) g bad made
+standingAfter st old w g bad made = standingWith st (loadsMoved (st .loads .at) old (other old) w) g bad made
 
 -- the fresh gains: each vertex's to the other part
 abbrev pub freshGains : Graph → List ℕ → List ℤ → List ℤ
@@ -61,10 +59,10 @@ pub record Moveable (g : Graph) (gains : List ℤ) (labels weights : List ℕ) (
   pub scanned : Scannable gains labels weights (st .loads .at)
   pub here : v < length labels
   pub held : getD weights v 0 ≤ getD (st .loads .at) (part labels v) 0
-  pub smallGains : (x : ℕ) → mag (getD gains x (pos 0)) ≤ 4611686018427387904
-  pub smallGain : mag gain ≤ 1125899906842624
-  pub smallCut : mag (st .cut) ≤ 1152921504606846976
-  pub smallLeast : mag (st .least) ≤ 1152921504606846976
+  pub smallGains : (x : ℕ) → mag (getD gains x (pos 0)) ≤ lockSize
+  pub smallGain : mag gain ≤ mostGain
+  pub smallCut : mag (st .cut) ≤ mostCut
+  pub smallLeast : mag (st .least) ≤ mostCut
 
 -- the list of gains says what each free vertex's move is worth, and which vertices are locked
 abbrev pub entry : Setting → List ℕ → List ℕ → ℕ → ℤ
@@ -97,7 +95,7 @@ pub record Stands (s : Setting) (n : ℕ) (st : State) (labels : List ℕ) (gain
   pub loaded : c .loads .at ≡ table 16 (load (s .weights) labels)
   pub cut-is : c .cut ≡ pos (cut (s .graph) labels)
   pub least-is : c .least ≡ pos (st .least)
-  pub least-low : st .least ≤ 1152921504606846976
+  pub least-low : st .least ≤ mostCut
   pub kept-is : c .kept ≡ st .kept
   pub bad-is : c .bad ≡ st .bad
   pub calm : st .bad ≤ length (st .moved)

@@ -8,12 +8,9 @@ use lib.Dec.{ltb}
 use lib.IntN.{ℤ, pos, negsuc}
 use Rattle.imbalance.specs.Load.{part}
 use Rattle.imbalance.specs.Limit.{mostWeight}
+use Rattle.fiduccia_mattheyses_pass.specs.inner.Bounds.{lockSize, far}
 use Rattle.fiduccia_mattheyses_pass.specs.inner.Scan.{isFree, beats}
 use Rattle.fiduccia_mattheyses_pass.specs.declared.Held.{Held}
-
--- above every load
-abbrev pub far : ℕ
-far = 9223372036854775808
 
 -- the lesser of the two loads
 abbrev pub lesser : List ℕ → ℕ
@@ -30,9 +27,13 @@ roomsOf loads ceilings = roomOf (getD loads 1 0) (getD ceilings 1 0) ∷ roomOf 
 abbrev pub liftsOf : List ℕ → List ℕ
 liftsOf loads = (getD loads 1 0 - lesser loads) ∷ (getD loads 0 0 - lesser loads) ∷ []
 
+-- the lowest gain that a free vertex can have: one above the lock
+abbrev pub lowest : ℤ
+lowest = negsuc (lockSize - 2)
+
 -- held before there is a vertex: every free vertex goes before it
 abbrev pub nobody : Held
-nobody = record { past = 0; gain = negsuc 4611686018427387902; load = far }
+nobody = record { past = 0; gain = lowest; load = far }
 
 -- What a turn asks: as many gains and weights as labels, labels 0 or 1, a room and a lift for each, and lifts within the limit.
 pub record Sighted (gains : List ℤ) (labels weights rooms lifts : List ℕ) : Type 0 where

@@ -18,16 +18,24 @@ wide-requires c κs = search needs
 
 returns-2 : tie.Need-returns-2
 unfolding ceiling
-returns-2 c = simp (ne-eqb _ _ (c .before .before .if1 .left), eq-eqb _ _ (c .before .if2 .taken)) (c .wide .ensures)
+returns-2 c =
+    let not-carried : tie.Else1 = search needs in
+    let whole : tie.Then2 = search needs in
+    simp (ne-eqb _ _ (not-carried .if1 .left), eq-eqb _ _ (whole .if2 .taken)) (c .wide .ensures)
 
 ceiling-by-requires : tie.Need-ceiling-by-requires
 ceiling-by-requires c κs =
-    let p = c .before .before .pre in
-    (p .0, p .1, p .2, fit-legal _ _ (p .3) (c .before .if1 .left) (c .if2 .left))
+    let given : tie.Start = search needs in
+    let not-carried : tie.Else1 = search needs in
+    let p = given .pre in
+    (p .0, p .1, p .2, fit-legal _ (p .3) (not-carried .if1 .left) (c .if2 .left))
 
 returns-3 : tie.Need-returns-3
 unfolding ceiling
-returns-3 c = simp (ne-eqb _ _ (c .before .before .if1 .left), ne-eqb _ _ (c .before .if2 .left)) (c .ceiling-by .ensures)
+returns-3 c =
+    let not-carried : tie.Else1 = search needs in
+    let not-whole : tie.Else2 = search needs in
+    simp (ne-eqb _ _ (not-carried .if1 .left), ne-eqb _ _ (not-whole .if2 .left)) (c .ceiling-by .ensures)
 
 pub ceiling-of-spec : {M : Type 1} → statement M
 ceiling-of-spec =

@@ -33,7 +33,10 @@ header-of-requires : tie.Need-header-of-requires
 header-of-requires c κs = long-enough _ (whole-blocks _ _ (c .before .frame-number .ensures) (c .if1 .left))
 
 plan-number-requires : tie.Need-plan-number-requires
-plan-number-requires c κs = whole-blocks _ _ (c .before .before .frame-number .ensures) (c .before .if1 .left)
+plan-number-requires c κs =
+    let header : tie.After-header-of = search needs in
+    let frame = framed header in
+    whole-blocks _ _ (frame .before .frame-number .ensures) (frame .if1 .left)
 
 refusal-requires-2 : tie.Need-refusal-requires-2
 refusal-requires-2 c κs = search needs

@@ -1,35 +1,112 @@
--- `plan::write_plan` meets its contract: a refusal writes nothing, and the words of the plan's file are written. Assumes nothing.
-use Rattle.plan.proofs.WriteEntry.{fits, writable, whole-unseen, write-refused, write-done}
-use mathlib.Core.Path.{refl, sym, _∙_}
+-- `plan::write_plan` meets its contract: a refusal writes nothing, and the writer's steps make the file of the plan. Assumes nothing.
+use Rattle.plan.proofs.Blocks.{length-laid, steps-write}
+use Rattle.plan.proofs.Puts.{length-puts}
+use Rattle.plan.proofs.WriteEntry.{fits, blocks-asked, vertices-asked, arcs-asked, write-refused, write-done}
+use Rattle.plan.specs.Write.{sizeOf}
+use Rattle.plan_blocks.specs.declared.header.Header.{Header}
+use lib.ListN.{length}
+use mathlib.Core.Path.{refl, sym, ap, ap₂, _∙_}
 use borrow.Author.Needs.{needs}
 use Rattle.plan.proofs.write_plan.Statement.{statement}
 use Rattle.plan.proofs.write_plan.Tie as tie
+
+-- ---- the stations, from the later step to the earlier
+abbrev joined-before : tie.After-seal → tie.After-write-arcs
+joined-before whole = search needs
+
+abbrev labelled-before : tie.After-write-arcs → tie.After-write-vertices
+labelled-before joined = search needs
+
+abbrev headed-before : tie.After-write-vertices → tie.After-write-header
+headed-before labelled = search needs
+
+abbrev laid-before : tie.After-write-header → tie.After-lay-out
+laid-before headed = search needs
+
+abbrev header-before : tie.After-lay-out → tie.After-header-with
+header-before laid = search needs
+
+abbrev taken-before : tie.After-header-with → tie.Else1
+taken-before header = search needs
+
+abbrev numbered-before : tie.Else1 → tie.After-write-number
+numbered-before taken = search needs
 
 write-number-requires : tie.Need-write-number-requires
 write-number-requires c κs = search needs
 
 returns : tie.Need-returns
-returns c = write-refused _ _ _ _ (c .before .write-number .ensures ∙ whole-unseen _ _ _ _ _ _ _ _ 0 _ _) (c .if1 .taken) refl
+returns c = write-refused _ _ _ _ (c .before .write-number .ensures) (c .if1 .taken) refl
 
-value-of-requires : tie.Need-value-of-requires
-value-of-requires c κs = fits _ _ (sym (c .before .write-number .ensures) ∙ c .if1 .left) .fit
+header-with-requires : tie.Need-header-with-requires
+header-with-requires c κs =
+    let numbered : tie.After-write-number = search needs in
+    let taken : tie.Else1 = search needs in
+    fits _ _ (sym (numbered .write-number .ensures) ∙ taken .if1 .left) .fit
 
-write-words-requires : tie.Need-write-words-requires
-write-words-requires c κs =
-    let after-write-number : tie.After-write-number = search needs in
-    let f = fits _ _ (sym (after-write-number .write-number .ensures) ∙ c .before .before .if1 .left) in
-    (writable _ _ f, f .roomy)
+lay-out-requires : tie.Need-lay-out-requires
+lay-out-requires c κs =
+    let header : tie.After-header-with = search needs in
+    let taken = taken-before header in
+    let numbered = numbered-before taken in
+    blocks-asked _ _ (fits _ _ (sym (numbered .write-number .ensures) ∙ taken .if1 .left)) _ _ (header .header-with .ensures) _ refl
+
+write-header-requires : tie.Need-write-header-requires
+write-header-requires c κs =
+    let laid : tie.After-lay-out = search needs in
+    let header = header-before laid in
+    let taken = taken-before header in
+    let numbered = numbered-before taken in
+    blocks-asked _ _ (fits _ _ (sym (numbered .write-number .ensures) ∙ taken .if1 .left)) _ _ (header .header-with .ensures) _ (ap length (laid .lay-out .ensures) ∙ length-laid _ _ _)
+
+write-vertices-requires : tie.Need-write-vertices-requires
+write-vertices-requires c κs =
+    let headed : tie.After-write-header = search needs in
+    let laid = laid-before headed in
+    let header = header-before laid in
+    let taken = taken-before header in
+    let numbered = numbered-before taken in
+    vertices-asked _ _ (fits _ _ (sym (numbered .write-number .ensures) ∙ taken .if1 .left)) _ _ (header .header-with .ensures) _ (ap length (headed .write-header .ensures) ∙ length-puts _ _ _ _ ∙ ap length (laid .lay-out .ensures) ∙ length-laid _ _ _)
+
+write-arcs-requires : tie.Need-write-arcs-requires
+write-arcs-requires c κs =
+    let labelled : tie.After-write-vertices = search needs in
+    let headed = headed-before labelled in
+    let laid = laid-before headed in
+    let header = header-before laid in
+    let taken = taken-before header in
+    let numbered = numbered-before taken in
+    arcs-asked _ _ (fits _ _ (sym (numbered .write-number .ensures) ∙ taken .if1 .left)) _ _ (header .header-with .ensures) _ (ap length (labelled .write-vertices .ensures) ∙ length-puts _ _ _ _ ∙ ap length (headed .write-header .ensures) ∙ length-puts _ _ _ _ ∙ ap length (laid .lay-out .ensures) ∙ length-laid _ _ _)
+
+seal-requires : tie.Need-seal-requires
+seal-requires c κs =
+    let joined : tie.After-write-arcs = search needs in
+    let labelled = labelled-before joined in
+    let headed = headed-before labelled in
+    let laid = laid-before headed in
+    let header = header-before laid in
+    let taken = taken-before header in
+    let numbered = numbered-before taken in
+    blocks-asked _ _ (fits _ _ (sym (numbered .write-number .ensures) ∙ taken .if1 .left)) _ _ (header .header-with .ensures) _ (ap length (joined .write-arcs .ensures) ∙ length-puts _ _ _ _ ∙ ap length (labelled .write-vertices .ensures) ∙ length-puts _ _ _ _ ∙ ap length (headed .write-header .ensures) ∙ length-puts _ _ _ _ ∙ ap length (laid .lay-out .ensures) ∙ length-laid _ _ _)
 
 same-length : tie.Need-same-length
-same-length c = c .before .before .write-words .kept .1 .1 .1 .1 .1 .1 .1 .1 .0
+same-length c = search needs
 
 returns-2 : tie.Need-returns-2
 returns-2 c =
-    let after-write-number : tie.After-write-number = search needs in
-    let past-if1 : tie.Else1 = search needs in
-    let after-value-of : tie.After-value-of = search needs in
-    let w = c .before .before .write-words .ensures in
-    write-done _ _ _ _ (after-write-number .write-number .ensures ∙ whole-unseen _ _ _ _ _ _ _ _ 0 _ _) _ _ (past-if1 .if1 .left) (after-value-of .value-of .ensures) (w .0) (w .1)
+    let whole : tie.After-seal = search needs in
+    let joined = joined-before whole in
+    let labelled = labelled-before joined in
+    let headed = headed-before labelled in
+    let laid = laid-before headed in
+    let header = header-before laid in
+    let taken = taken-before header in
+    let numbered = numbered-before taken in
+    let f = fits _ _ (sym (numbered .write-number .ensures) ∙ taken .if1 .left) in
+    let e = header .header-with .ensures in
+    let w = whole .seal .ensures in
+    write-done _ _ _ _ (numbered .write-number .ensures) _ _ (taken .if1 .left) refl (w .0 ∙ ap₂ sizeOf (ap (λ (h : Header). h .n) e) (ap (λ (h : Header). h .a) e))
+    (steps-write _ _ _ _ _ _ _ _ _ _ _ _ _ _ _ e (f .roomy) (laid .lay-out .ensures) (headed .write-header .ensures) (labelled .write-vertices .ensures) (joined .write-arcs .ensures) (w .1))
 
 pub write-plan-spec : {M : Type 1} → statement M
 write-plan-spec =
@@ -37,7 +114,11 @@ write-plan-spec =
     (tie.spec
     write-number-requires
     returns
-    value-of-requires
-    write-words-requires
+    header-with-requires
+    lay-out-requires
+    write-header-requires
+    write-vertices-requires
+    write-arcs-requires
+    seal-requires
     same-length
     returns-2)

@@ -1,13 +1,13 @@
 -- Made by tools/walkgen.py: do not edit.
-use Rattle.arc_swap.proofs.end_of.Met
-use Rattle.arc_swap.proofs.end_of.Reads
-use Rattle.arc_swap.proofs.end_of.Symbol
 use Rattle.arc_swap.proofs.run_passes.Code
 use Rattle.arc_swap.proofs.run_passes.Key
 use Rattle.arc_swap.proofs.walk.run_passes.Kinds as Kinds
 use Rattle.arc_swap.proofs.walk.run_passes.Lts as Lts
-use Rattle.arc_swap.proofs.walk.run_passes.Reads as Reads'
+use Rattle.arc_swap.proofs.walk.run_passes.Reads as Reads
 use Rattle.arc_swap.proofs.run_passes.Statement
+use Rattle.arc_swap.proofs.steps.end_of.Met
+use Rattle.arc_swap.proofs.steps.end_of.Reads as Reads'
+use Rattle.arc_swap.proofs.steps.end_of.Symbol
 use Rattle.arc_swap.proofs.sweep_all.Met as Met'
 use Rattle.arc_swap.proofs.walk.sweep_all.Reads as Reads''
 use Rattle.arc_swap.proofs.sweep_all.Symbol as Symbol'
@@ -22,93 +22,93 @@ abbrev pub MeasureT-loop : Type 0
 MeasureT-loop = Lts.MeasureT-loop
 
 abbrev pub Start : (Inv : InvT-loop) → (μ : MeasureT-loop) → Type 0
-Start = λ Inv μ. Lts.Start (Reads''.Asked, Reads''.Learnt, Reads.Asked, Reads.Learnt) Reads'.Pre Reads'.Post Inv μ
+Start = λ Inv μ. Lts.Start (Reads''.Asked, Reads''.Learnt, Reads'.Asked, Reads'.Learnt) Reads.Pre Reads.Post Inv μ
 
 abbrev pub After-shared-slice-known : (Inv : InvT-loop) → (μ : MeasureT-loop) → Type 0
-After-shared-slice-known = λ Inv μ. Lts.After-shared-slice-known (Reads''.Asked, Reads''.Learnt, Reads.Asked, Reads.Learnt) Reads'.Pre Reads'.Post Inv μ
+After-shared-slice-known = λ Inv μ. Lts.After-shared-slice-known (Reads''.Asked, Reads''.Learnt, Reads'.Asked, Reads'.Learnt) Reads.Pre Reads.Post Inv μ
 
 abbrev pub After-shared-slice-known2 : (Inv : InvT-loop) → (μ : MeasureT-loop) → Type 0
-After-shared-slice-known2 = λ Inv μ. Lts.After-shared-slice-known2 (Reads''.Asked, Reads''.Learnt, Reads.Asked, Reads.Learnt) Reads'.Pre Reads'.Post Inv μ
+After-shared-slice-known2 = λ Inv μ. Lts.After-shared-slice-known2 (Reads''.Asked, Reads''.Learnt, Reads'.Asked, Reads'.Learnt) Reads.Pre Reads.Post Inv μ
 
 abbrev pub After-shared-slice-known3 : (Inv : InvT-loop) → (μ : MeasureT-loop) → Type 0
-After-shared-slice-known3 = λ Inv μ. Lts.After-shared-slice-known3 (Reads''.Asked, Reads''.Learnt, Reads.Asked, Reads.Learnt) Reads'.Pre Reads'.Post Inv μ
+After-shared-slice-known3 = λ Inv μ. Lts.After-shared-slice-known3 (Reads''.Asked, Reads''.Learnt, Reads'.Asked, Reads'.Learnt) Reads.Pre Reads.Post Inv μ
 
 abbrev pub After-shared-slice-known4 : (Inv : InvT-loop) → (μ : MeasureT-loop) → Type 0
-After-shared-slice-known4 = λ Inv μ. Lts.After-shared-slice-known4 (Reads''.Asked, Reads''.Learnt, Reads.Asked, Reads.Learnt) Reads'.Pre Reads'.Post Inv μ
+After-shared-slice-known4 = λ Inv μ. Lts.After-shared-slice-known4 (Reads''.Asked, Reads''.Learnt, Reads'.Asked, Reads'.Learnt) Reads.Pre Reads.Post Inv μ
 
 abbrev pub After-slice-known : (Inv : InvT-loop) → (μ : MeasureT-loop) → Type 0
-After-slice-known = λ Inv μ. Lts.After-slice-known (Reads''.Asked, Reads''.Learnt, Reads.Asked, Reads.Learnt) Reads'.Pre Reads'.Post Inv μ
+After-slice-known = λ Inv μ. Lts.After-slice-known (Reads''.Asked, Reads''.Learnt, Reads'.Asked, Reads'.Learnt) Reads.Pre Reads.Post Inv μ
 
 abbrev pub After-slice-known2 : (Inv : InvT-loop) → (μ : MeasureT-loop) → Type 0
-After-slice-known2 = λ Inv μ. Lts.After-slice-known2 (Reads''.Asked, Reads''.Learnt, Reads.Asked, Reads.Learnt) Reads'.Pre Reads'.Post Inv μ
+After-slice-known2 = λ Inv μ. Lts.After-slice-known2 (Reads''.Asked, Reads''.Learnt, Reads'.Asked, Reads'.Learnt) Reads.Pre Reads.Post Inv μ
 
 abbrev pub At-loop : (Inv : InvT-loop) → (μ : MeasureT-loop) → Type 0
-At-loop = λ Inv μ. Lts.At-loop (Reads''.Asked, Reads''.Learnt, Reads.Asked, Reads.Learnt) Reads'.Pre Reads'.Post Inv μ
+At-loop = λ Inv μ. Lts.At-loop (Reads''.Asked, Reads''.Learnt, Reads'.Asked, Reads'.Learnt) Reads.Pre Reads.Post Inv μ
 
 abbrev pub After-sweep-all-arg : (Inv : InvT-loop) → (μ : MeasureT-loop) → Type 0
-After-sweep-all-arg = λ Inv μ. Lts.After-sweep-all-arg (Reads''.Asked, Reads''.Learnt, Reads.Asked, Reads.Learnt) Reads'.Pre Reads'.Post Inv μ
+After-sweep-all-arg = λ Inv μ. Lts.After-sweep-all-arg (Reads''.Asked, Reads''.Learnt, Reads'.Asked, Reads'.Learnt) Reads.Pre Reads.Post Inv μ
 
 abbrev pub After-sweep-all-arg2 : (Inv : InvT-loop) → (μ : MeasureT-loop) → Type 0
-After-sweep-all-arg2 = λ Inv μ. Lts.After-sweep-all-arg2 (Reads''.Asked, Reads''.Learnt, Reads.Asked, Reads.Learnt) Reads'.Pre Reads'.Post Inv μ
+After-sweep-all-arg2 = λ Inv μ. Lts.After-sweep-all-arg2 (Reads''.Asked, Reads''.Learnt, Reads'.Asked, Reads'.Learnt) Reads.Pre Reads.Post Inv μ
 
 abbrev pub After-sweep-all-arg3 : (Inv : InvT-loop) → (μ : MeasureT-loop) → Type 0
-After-sweep-all-arg3 = λ Inv μ. Lts.After-sweep-all-arg3 (Reads''.Asked, Reads''.Learnt, Reads.Asked, Reads.Learnt) Reads'.Pre Reads'.Post Inv μ
+After-sweep-all-arg3 = λ Inv μ. Lts.After-sweep-all-arg3 (Reads''.Asked, Reads''.Learnt, Reads'.Asked, Reads'.Learnt) Reads.Pre Reads.Post Inv μ
 
 abbrev pub After-sweep-all : (Inv : InvT-loop) → (μ : MeasureT-loop) → Type 0
-After-sweep-all = λ Inv μ. Lts.After-sweep-all (Reads''.Asked, Reads''.Learnt, Reads.Asked, Reads.Learnt) Reads'.Pre Reads'.Post Inv μ
+After-sweep-all = λ Inv μ. Lts.After-sweep-all (Reads''.Asked, Reads''.Learnt, Reads'.Asked, Reads'.Learnt) Reads.Pre Reads.Post Inv μ
 
 abbrev pub After-labels : (Inv : InvT-loop) → (μ : MeasureT-loop) → Type 0
-After-labels = λ Inv μ. Lts.After-labels (Reads''.Asked, Reads''.Learnt, Reads.Asked, Reads.Learnt) Reads'.Pre Reads'.Post Inv μ
+After-labels = λ Inv μ. Lts.After-labels (Reads''.Asked, Reads''.Learnt, Reads'.Asked, Reads'.Learnt) Reads.Pre Reads.Post Inv μ
 
 abbrev pub After-slice-known3 : (Inv : InvT-loop) → (μ : MeasureT-loop) → Type 0
-After-slice-known3 = λ Inv μ. Lts.After-slice-known3 (Reads''.Asked, Reads''.Learnt, Reads.Asked, Reads.Learnt) Reads'.Pre Reads'.Post Inv μ
+After-slice-known3 = λ Inv μ. Lts.After-slice-known3 (Reads''.Asked, Reads''.Learnt, Reads'.Asked, Reads'.Learnt) Reads.Pre Reads.Post Inv μ
 
 abbrev pub After-stack : (Inv : InvT-loop) → (μ : MeasureT-loop) → Type 0
-After-stack = λ Inv μ. Lts.After-stack (Reads''.Asked, Reads''.Learnt, Reads.Asked, Reads.Learnt) Reads'.Pre Reads'.Post Inv μ
+After-stack = λ Inv μ. Lts.After-stack (Reads''.Asked, Reads''.Learnt, Reads'.Asked, Reads'.Learnt) Reads.Pre Reads.Post Inv μ
 
 abbrev pub After-slice-known4 : (Inv : InvT-loop) → (μ : MeasureT-loop) → Type 0
-After-slice-known4 = λ Inv μ. Lts.After-slice-known4 (Reads''.Asked, Reads''.Learnt, Reads.Asked, Reads.Learnt) Reads'.Pre Reads'.Post Inv μ
+After-slice-known4 = λ Inv μ. Lts.After-slice-known4 (Reads''.Asked, Reads''.Learnt, Reads'.Asked, Reads'.Learnt) Reads.Pre Reads.Post Inv μ
 
 abbrev pub After-end-of : (Inv : InvT-loop) → (μ : MeasureT-loop) → Type 0
-After-end-of = λ Inv μ. Lts.After-end-of (Reads''.Asked, Reads''.Learnt, Reads.Asked, Reads.Learnt) Reads'.Pre Reads'.Post Inv μ
+After-end-of = λ Inv μ. Lts.After-end-of (Reads''.Asked, Reads''.Learnt, Reads'.Asked, Reads'.Learnt) Reads.Pre Reads.Post Inv μ
 
 abbrev pub Then1 : (Inv : InvT-loop) → (μ : MeasureT-loop) → Type 0
-Then1 = λ Inv μ. Lts.Then1 (Reads''.Asked, Reads''.Learnt, Reads.Asked, Reads.Learnt) Reads'.Pre Reads'.Post Inv μ
+Then1 = λ Inv μ. Lts.Then1 (Reads''.Asked, Reads''.Learnt, Reads'.Asked, Reads'.Learnt) Reads.Pre Reads.Post Inv μ
 
 abbrev pub Else1 : (Inv : InvT-loop) → (μ : MeasureT-loop) → Type 0
-Else1 = λ Inv μ. Lts.Else1 (Reads''.Asked, Reads''.Learnt, Reads.Asked, Reads.Learnt) Reads'.Pre Reads'.Post Inv μ
+Else1 = λ Inv μ. Lts.Else1 (Reads''.Asked, Reads''.Learnt, Reads'.Asked, Reads'.Learnt) Reads.Pre Reads.Post Inv μ
 
 abbrev pub Need-loop-holds : (Inv : InvT-loop) → (μ : MeasureT-loop) → Type 0
-Need-loop-holds = λ Inv μ. Lts.Need-loop-holds (Reads''.Asked, Reads''.Learnt, Reads.Asked, Reads.Learnt) Reads'.Pre Reads'.Post Inv μ
+Need-loop-holds = λ Inv μ. Lts.Need-loop-holds (Reads''.Asked, Reads''.Learnt, Reads'.Asked, Reads'.Learnt) Reads.Pre Reads.Post Inv μ
 
 abbrev pub Need-sweep-all-requires : (Inv : InvT-loop) → (μ : MeasureT-loop) → Type 0
-Need-sweep-all-requires = λ Inv μ. Lts.Need-sweep-all-requires (Reads''.Asked, Reads''.Learnt, Reads.Asked, Reads.Learnt) Reads'.Pre Reads'.Post Inv μ
+Need-sweep-all-requires = λ Inv μ. Lts.Need-sweep-all-requires (Reads''.Asked, Reads''.Learnt, Reads'.Asked, Reads'.Learnt) Reads.Pre Reads.Post Inv μ
 
 abbrev pub Need-add-passes : (Inv : InvT-loop) → (μ : MeasureT-loop) → Type 0
-Need-add-passes = λ Inv μ. Lts.Need-add-passes (Reads''.Asked, Reads''.Learnt, Reads.Asked, Reads.Learnt) Reads'.Pre Reads'.Post Inv μ
+Need-add-passes = λ Inv μ. Lts.Need-add-passes (Reads''.Asked, Reads''.Learnt, Reads'.Asked, Reads'.Learnt) Reads.Pre Reads.Post Inv μ
 
 abbrev pub Need-end-of-requires : (Inv : InvT-loop) → (μ : MeasureT-loop) → Type 0
-Need-end-of-requires = λ Inv μ. Lts.Need-end-of-requires (Reads''.Asked, Reads''.Learnt, Reads.Asked, Reads.Learnt) Reads'.Pre Reads'.Post Inv μ
+Need-end-of-requires = λ Inv μ. Lts.Need-end-of-requires (Reads''.Asked, Reads''.Learnt, Reads'.Asked, Reads'.Learnt) Reads.Pre Reads.Post Inv μ
 
 abbrev pub Need-same-length : (Inv : InvT-loop) → (μ : MeasureT-loop) → Type 0
-Need-same-length = λ Inv μ. Lts.Need-same-length (Reads''.Asked, Reads''.Learnt, Reads.Asked, Reads.Learnt) Reads'.Pre Reads'.Post Inv μ
+Need-same-length = λ Inv μ. Lts.Need-same-length (Reads''.Asked, Reads''.Learnt, Reads'.Asked, Reads'.Learnt) Reads.Pre Reads.Post Inv μ
 
 abbrev pub Need-same-length-2 : (Inv : InvT-loop) → (μ : MeasureT-loop) → Type 0
-Need-same-length-2 = λ Inv μ. Lts.Need-same-length-2 (Reads''.Asked, Reads''.Learnt, Reads.Asked, Reads.Learnt) Reads'.Pre Reads'.Post Inv μ
+Need-same-length-2 = λ Inv μ. Lts.Need-same-length-2 (Reads''.Asked, Reads''.Learnt, Reads'.Asked, Reads'.Learnt) Reads.Pre Reads.Post Inv μ
 
 abbrev pub Need-returns : (Inv : InvT-loop) → (μ : MeasureT-loop) → Type 0
-Need-returns = λ Inv μ. Lts.Need-returns (Reads''.Asked, Reads''.Learnt, Reads.Asked, Reads.Learnt) Reads'.Pre Reads'.Post Inv μ
+Need-returns = λ Inv μ. Lts.Need-returns (Reads''.Asked, Reads''.Learnt, Reads'.Asked, Reads'.Learnt) Reads.Pre Reads.Post Inv μ
 
 abbrev pub Need-loop-less : (Inv : InvT-loop) → (μ : MeasureT-loop) → Type 0
-Need-loop-less = λ Inv μ. Lts.Need-loop-less (Reads''.Asked, Reads''.Learnt, Reads.Asked, Reads.Learnt) Reads'.Pre Reads'.Post Inv μ
+Need-loop-less = λ Inv μ. Lts.Need-loop-less (Reads''.Asked, Reads''.Learnt, Reads'.Asked, Reads'.Learnt) Reads.Pre Reads.Post Inv μ
 
 abbrev pub Need-loop-again : (Inv : InvT-loop) → (μ : MeasureT-loop) → Type 0
-Need-loop-again = λ Inv μ. Lts.Need-loop-again (Reads''.Asked, Reads''.Learnt, Reads.Asked, Reads.Learnt) Reads'.Pre Reads'.Post Inv μ
+Need-loop-again = λ Inv μ. Lts.Need-loop-again (Reads''.Asked, Reads''.Learnt, Reads'.Asked, Reads'.Learnt) Reads.Pre Reads.Post Inv μ
 
 module _ {M : Type 1} where
-  pub spec : (Inv : InvT-loop) → (μ : MeasureT-loop) → (answer : Need-loop-holds Inv μ) → (answer : Need-sweep-all-requires Inv μ) → (answer : Need-add-passes Inv μ) → (answer : Need-end-of-requires Inv μ) → (answer : Need-same-length Inv μ) → (answer : Need-same-length-2 Inv μ) → (answer : Need-returns Inv μ) → (answer : Need-loop-less Inv μ) → (answer : Need-loop-again Inv μ) → Lts.Closed (Reads''.Asked, Reads''.Learnt, Reads.Asked, Reads.Learnt) Reads'.Pre Reads'.Post M
-  spec = λ Inv μ answer answer' answer'' answer'3 answer'4 answer'5 answer'6 answer'7 answer'8. Lts.spec (Reads''.Asked, Reads''.Learnt, Reads.Asked, Reads.Learnt) Reads'.Pre Reads'.Post Inv μ answer answer' answer'' answer'3 answer'4 answer'5 answer'6 answer'7 answer'8
+  pub spec : (Inv : InvT-loop) → (μ : MeasureT-loop) → (answer : Need-loop-holds Inv μ) → (answer : Need-sweep-all-requires Inv μ) → (answer : Need-add-passes Inv μ) → (answer : Need-end-of-requires Inv μ) → (answer : Need-same-length Inv μ) → (answer : Need-same-length-2 Inv μ) → (answer : Need-returns Inv μ) → (answer : Need-loop-less Inv μ) → (answer : Need-loop-again Inv μ) → Lts.Closed (Reads''.Asked, Reads''.Learnt, Reads'.Asked, Reads'.Learnt) Reads.Pre Reads.Post M
+  spec = λ Inv μ answer answer' answer'' answer'3 answer'4 answer'5 answer'6 answer'7 answer'8. Lts.spec (Reads''.Asked, Reads''.Learnt, Reads'.Asked, Reads'.Learnt) Reads.Pre Reads.Post Inv μ answer answer' answer'' answer'3 answer'4 answer'5 answer'6 answer'7 answer'8
 
-  pub close : Lts.Closed (Reads''.Asked, Reads''.Learnt, Reads.Asked, Reads.Learnt) Reads'.Pre Reads'.Post M → Statement.statement M
+  pub close : Lts.Closed (Reads''.Asked, Reads''.Learnt, Reads'.Asked, Reads'.Learnt) Reads.Pre Reads.Post M → Statement.statement M
   unfolding Code.routine Running.tablesOf
-  close = λ closed 𝓤 H 𝓜 𝓖 𝓡. Written.close 7 Kinds.ps Kinds.r Reads'.Ghost Reads'.requires Reads'.ensures Reads'.pre-read Reads'.Pinned Reads'.Owned Reads'.post-read record { M = M; 𝓤 = 𝓤; H = H; 𝓜 = 𝓜; 𝓖 = 𝓖; 𝓡 = 𝓡 } Code.env Key.name Code.function (Code.unfolded 𝓤 H 𝓜 𝓡) (λ κs a g. tt) (λ κs. Reads'.owns κs record { M = M; 𝓤 = 𝓤; H = H; 𝓜 = 𝓜; 𝓖 = 𝓖; 𝓡 = 𝓡 }) (Reads'.passes record { M = M; 𝓤 = 𝓤; H = H; 𝓜 = 𝓜; 𝓖 = 𝓖; 𝓡 = 𝓡 }) λ g. closed 𝓤 H (𝓖 .A) (Running.givenOf 𝓤 H 𝓜 𝓖) (Run.Over 𝓤 H 𝓜 𝓖 𝓡 Code.env) (Reads''.known record { M = M; 𝓤 = 𝓤; H = H; 𝓜 = 𝓜; 𝓖 = 𝓖; 𝓡 = 𝓡 } Code.env Symbol'.name Symbol'.routine Code.calls-arc-swap·sweep-all (Met'.met 𝓤 H 𝓜 𝓖 𝓡)) (Reads.known record { M = M; 𝓤 = 𝓤; H = H; 𝓜 = 𝓜; 𝓖 = 𝓖; 𝓡 = 𝓡 } Code.env Symbol.name Symbol.routine Code.calls-arc-swap·end-of (Met.met 𝓤 H 𝓜 𝓖 𝓡))
+  close = λ closed 𝓤 H 𝓜 𝓖 𝓡. Written.close 7 Kinds.ps Kinds.r Reads.Ghost Reads.requires Reads.ensures Reads.pre-read Reads.Pinned Reads.Owned Reads.post-read record { M = M; 𝓤 = 𝓤; H = H; 𝓜 = 𝓜; 𝓖 = 𝓖; 𝓡 = 𝓡 } Code.env Key.name Code.function (Code.unfolded 𝓤 H 𝓜 𝓡) (λ κs a g. tt) (λ κs. Reads.owns κs record { M = M; 𝓤 = 𝓤; H = H; 𝓜 = 𝓜; 𝓖 = 𝓖; 𝓡 = 𝓡 }) (Reads.passes record { M = M; 𝓤 = 𝓤; H = H; 𝓜 = 𝓜; 𝓖 = 𝓖; 𝓡 = 𝓡 }) λ g. closed 𝓤 H (𝓖 .A) (Running.givenOf 𝓤 H 𝓜 𝓖) (Run.Over 𝓤 H 𝓜 𝓖 𝓡 Code.env) (Reads''.known record { M = M; 𝓤 = 𝓤; H = H; 𝓜 = 𝓜; 𝓖 = 𝓖; 𝓡 = 𝓡 } Code.env Symbol'.name Symbol'.routine Code.calls-arc-swap·sweep-all (Met'.met 𝓤 H 𝓜 𝓖 𝓡)) (Reads'.known record { M = M; 𝓤 = 𝓤; H = H; 𝓜 = 𝓜; 𝓖 = 𝓖; 𝓡 = 𝓡 } Code.env Symbol.name Symbol.routine Code.calls-arc-swap·steps·end-of (Met.met 𝓤 H 𝓜 𝓖 𝓡))

@@ -1,13 +1,13 @@
 -- Made by tools/walkgen.py: do not edit.
-use Rattle.arc_swap.proofs.begin_run.Met
-use Rattle.arc_swap.proofs.begin_run.Reads
-use Rattle.arc_swap.proofs.begin_run.Symbol
+use Rattle.arc_swap.proofs.answers.run_report.Met
+use Rattle.arc_swap.proofs.answers.run_report.Reads
+use Rattle.arc_swap.proofs.answers.run_report.Symbol
 use Rattle.arc_swap.proofs.run_passes.Met as Met'
 use Rattle.arc_swap.proofs.walk.run_passes.Reads as Reads'
 use Rattle.arc_swap.proofs.run_passes.Symbol as Symbol'
-use Rattle.arc_swap.proofs.run_report.Met as Met''
-use Rattle.arc_swap.proofs.run_report.Reads as Reads''
-use Rattle.arc_swap.proofs.run_report.Symbol as Symbol''
+use Rattle.arc_swap.proofs.steps.begin_run.Met as Met''
+use Rattle.arc_swap.proofs.steps.begin_run.Reads as Reads''
+use Rattle.arc_swap.proofs.steps.begin_run.Symbol as Symbol''
 use Rattle.arc_swap.proofs.swap_all.Code
 use Rattle.arc_swap.proofs.swap_all.Key
 use Rattle.arc_swap.proofs.walk.swap_all.Kinds as Kinds
@@ -25,108 +25,108 @@ use borrow.Fn.Written
 use contract.Running
 
 abbrev pub Start : Type 0
-Start = Lts.Start (Reads.Asked, Reads.Learnt, Reads'4.Asked, Reads'4.Learnt, Reads'.Asked, Reads'.Learnt, Reads'5.Asked, Reads'5.Learnt, Reads''.Asked, Reads''.Learnt) Reads'3.Pre Reads'3.Post
+Start = Lts.Start (Reads''.Asked, Reads''.Learnt, Reads'4.Asked, Reads'4.Learnt, Reads'.Asked, Reads'.Learnt, Reads'5.Asked, Reads'5.Learnt, Reads.Asked, Reads.Learnt) Reads'3.Pre Reads'3.Post
 
 abbrev pub After-shared-slice-known : Type 0
-After-shared-slice-known = Lts.After-shared-slice-known (Reads.Asked, Reads.Learnt, Reads'4.Asked, Reads'4.Learnt, Reads'.Asked, Reads'.Learnt, Reads'5.Asked, Reads'5.Learnt, Reads''.Asked, Reads''.Learnt) Reads'3.Pre Reads'3.Post
+After-shared-slice-known = Lts.After-shared-slice-known (Reads''.Asked, Reads''.Learnt, Reads'4.Asked, Reads'4.Learnt, Reads'.Asked, Reads'.Learnt, Reads'5.Asked, Reads'5.Learnt, Reads.Asked, Reads.Learnt) Reads'3.Pre Reads'3.Post
 
 abbrev pub After-shared-slice-known2 : Type 0
-After-shared-slice-known2 = Lts.After-shared-slice-known2 (Reads.Asked, Reads.Learnt, Reads'4.Asked, Reads'4.Learnt, Reads'.Asked, Reads'.Learnt, Reads'5.Asked, Reads'5.Learnt, Reads''.Asked, Reads''.Learnt) Reads'3.Pre Reads'3.Post
+After-shared-slice-known2 = Lts.After-shared-slice-known2 (Reads''.Asked, Reads''.Learnt, Reads'4.Asked, Reads'4.Learnt, Reads'.Asked, Reads'.Learnt, Reads'5.Asked, Reads'5.Learnt, Reads.Asked, Reads.Learnt) Reads'3.Pre Reads'3.Post
 
 abbrev pub After-shared-slice-known3 : Type 0
-After-shared-slice-known3 = Lts.After-shared-slice-known3 (Reads.Asked, Reads.Learnt, Reads'4.Asked, Reads'4.Learnt, Reads'.Asked, Reads'.Learnt, Reads'5.Asked, Reads'5.Learnt, Reads''.Asked, Reads''.Learnt) Reads'3.Pre Reads'3.Post
+After-shared-slice-known3 = Lts.After-shared-slice-known3 (Reads''.Asked, Reads''.Learnt, Reads'4.Asked, Reads'4.Learnt, Reads'.Asked, Reads'.Learnt, Reads'5.Asked, Reads'5.Learnt, Reads.Asked, Reads.Learnt) Reads'3.Pre Reads'3.Post
 
 abbrev pub After-shared-slice-known4 : Type 0
-After-shared-slice-known4 = Lts.After-shared-slice-known4 (Reads.Asked, Reads.Learnt, Reads'4.Asked, Reads'4.Learnt, Reads'.Asked, Reads'.Learnt, Reads'5.Asked, Reads'5.Learnt, Reads''.Asked, Reads''.Learnt) Reads'3.Pre Reads'3.Post
+After-shared-slice-known4 = Lts.After-shared-slice-known4 (Reads''.Asked, Reads''.Learnt, Reads'4.Asked, Reads'4.Learnt, Reads'.Asked, Reads'.Learnt, Reads'5.Asked, Reads'5.Learnt, Reads.Asked, Reads.Learnt) Reads'3.Pre Reads'3.Post
 
 abbrev pub After-slice-known : Type 0
-After-slice-known = Lts.After-slice-known (Reads.Asked, Reads.Learnt, Reads'4.Asked, Reads'4.Learnt, Reads'.Asked, Reads'.Learnt, Reads'5.Asked, Reads'5.Learnt, Reads''.Asked, Reads''.Learnt) Reads'3.Pre Reads'3.Post
+After-slice-known = Lts.After-slice-known (Reads''.Asked, Reads''.Learnt, Reads'4.Asked, Reads'4.Learnt, Reads'.Asked, Reads'.Learnt, Reads'5.Asked, Reads'5.Learnt, Reads.Asked, Reads.Learnt) Reads'3.Pre Reads'3.Post
 
 abbrev pub After-slice-known2 : Type 0
-After-slice-known2 = Lts.After-slice-known2 (Reads.Asked, Reads.Learnt, Reads'4.Asked, Reads'4.Learnt, Reads'.Asked, Reads'.Learnt, Reads'5.Asked, Reads'5.Learnt, Reads''.Asked, Reads''.Learnt) Reads'3.Pre Reads'3.Post
+After-slice-known2 = Lts.After-slice-known2 (Reads''.Asked, Reads''.Learnt, Reads'4.Asked, Reads'4.Learnt, Reads'.Asked, Reads'.Learnt, Reads'5.Asked, Reads'5.Learnt, Reads.Asked, Reads.Learnt) Reads'3.Pre Reads'3.Post
 
 abbrev pub After-begin-run-arg : Type 0
-After-begin-run-arg = Lts.After-begin-run-arg (Reads.Asked, Reads.Learnt, Reads'4.Asked, Reads'4.Learnt, Reads'.Asked, Reads'.Learnt, Reads'5.Asked, Reads'5.Learnt, Reads''.Asked, Reads''.Learnt) Reads'3.Pre Reads'3.Post
+After-begin-run-arg = Lts.After-begin-run-arg (Reads''.Asked, Reads''.Learnt, Reads'4.Asked, Reads'4.Learnt, Reads'.Asked, Reads'.Learnt, Reads'5.Asked, Reads'5.Learnt, Reads.Asked, Reads.Learnt) Reads'3.Pre Reads'3.Post
 
 abbrev pub After-begin-run : Type 0
-After-begin-run = Lts.After-begin-run (Reads.Asked, Reads.Learnt, Reads'4.Asked, Reads'4.Learnt, Reads'.Asked, Reads'.Learnt, Reads'5.Asked, Reads'5.Learnt, Reads''.Asked, Reads''.Learnt) Reads'3.Pre Reads'3.Post
+After-begin-run = Lts.After-begin-run (Reads''.Asked, Reads''.Learnt, Reads'4.Asked, Reads'4.Learnt, Reads'.Asked, Reads'.Learnt, Reads'5.Asked, Reads'5.Learnt, Reads.Asked, Reads.Learnt) Reads'3.Pre Reads'3.Post
 
 abbrev pub After-zero-run-arg : Type 0
-After-zero-run-arg = Lts.After-zero-run-arg (Reads.Asked, Reads.Learnt, Reads'4.Asked, Reads'4.Learnt, Reads'.Asked, Reads'.Learnt, Reads'5.Asked, Reads'5.Learnt, Reads''.Asked, Reads''.Learnt) Reads'3.Pre Reads'3.Post
+After-zero-run-arg = Lts.After-zero-run-arg (Reads''.Asked, Reads''.Learnt, Reads'4.Asked, Reads'4.Learnt, Reads'.Asked, Reads'.Learnt, Reads'5.Asked, Reads'5.Learnt, Reads.Asked, Reads.Learnt) Reads'3.Pre Reads'3.Post
 
 abbrev pub After-zero-run : Type 0
-After-zero-run = Lts.After-zero-run (Reads.Asked, Reads.Learnt, Reads'4.Asked, Reads'4.Learnt, Reads'.Asked, Reads'.Learnt, Reads'5.Asked, Reads'5.Learnt, Reads''.Asked, Reads''.Learnt) Reads'3.Pre Reads'3.Post
+After-zero-run = Lts.After-zero-run (Reads''.Asked, Reads''.Learnt, Reads'4.Asked, Reads'4.Learnt, Reads'.Asked, Reads'.Learnt, Reads'5.Asked, Reads'5.Learnt, Reads.Asked, Reads.Learnt) Reads'3.Pre Reads'3.Post
 
 abbrev pub After-st : Type 0
-After-st = Lts.After-st (Reads.Asked, Reads.Learnt, Reads'4.Asked, Reads'4.Learnt, Reads'.Asked, Reads'.Learnt, Reads'5.Asked, Reads'5.Learnt, Reads''.Asked, Reads''.Learnt) Reads'3.Pre Reads'3.Post
+After-st = Lts.After-st (Reads''.Asked, Reads''.Learnt, Reads'4.Asked, Reads'4.Learnt, Reads'.Asked, Reads'.Learnt, Reads'5.Asked, Reads'5.Learnt, Reads.Asked, Reads.Learnt) Reads'3.Pre Reads'3.Post
 
 abbrev pub After-run-passes-arg : Type 0
-After-run-passes-arg = Lts.After-run-passes-arg (Reads.Asked, Reads.Learnt, Reads'4.Asked, Reads'4.Learnt, Reads'.Asked, Reads'.Learnt, Reads'5.Asked, Reads'5.Learnt, Reads''.Asked, Reads''.Learnt) Reads'3.Pre Reads'3.Post
+After-run-passes-arg = Lts.After-run-passes-arg (Reads''.Asked, Reads''.Learnt, Reads'4.Asked, Reads'4.Learnt, Reads'.Asked, Reads'.Learnt, Reads'5.Asked, Reads'5.Learnt, Reads.Asked, Reads.Learnt) Reads'3.Pre Reads'3.Post
 
 abbrev pub After-run-passes-arg2 : Type 0
-After-run-passes-arg2 = Lts.After-run-passes-arg2 (Reads.Asked, Reads.Learnt, Reads'4.Asked, Reads'4.Learnt, Reads'.Asked, Reads'.Learnt, Reads'5.Asked, Reads'5.Learnt, Reads''.Asked, Reads''.Learnt) Reads'3.Pre Reads'3.Post
+After-run-passes-arg2 = Lts.After-run-passes-arg2 (Reads''.Asked, Reads''.Learnt, Reads'4.Asked, Reads'4.Learnt, Reads'.Asked, Reads'.Learnt, Reads'5.Asked, Reads'5.Learnt, Reads.Asked, Reads.Learnt) Reads'3.Pre Reads'3.Post
 
 abbrev pub After-run-passes-arg3 : Type 0
-After-run-passes-arg3 = Lts.After-run-passes-arg3 (Reads.Asked, Reads.Learnt, Reads'4.Asked, Reads'4.Learnt, Reads'.Asked, Reads'.Learnt, Reads'5.Asked, Reads'5.Learnt, Reads''.Asked, Reads''.Learnt) Reads'3.Pre Reads'3.Post
+After-run-passes-arg3 = Lts.After-run-passes-arg3 (Reads''.Asked, Reads''.Learnt, Reads'4.Asked, Reads'4.Learnt, Reads'.Asked, Reads'.Learnt, Reads'5.Asked, Reads'5.Learnt, Reads.Asked, Reads.Learnt) Reads'3.Pre Reads'3.Post
 
 abbrev pub After-run-passes : Type 0
-After-run-passes = Lts.After-run-passes (Reads.Asked, Reads.Learnt, Reads'4.Asked, Reads'4.Learnt, Reads'.Asked, Reads'.Learnt, Reads'5.Asked, Reads'5.Learnt, Reads''.Asked, Reads''.Learnt) Reads'3.Pre Reads'3.Post
+After-run-passes = Lts.After-run-passes (Reads''.Asked, Reads''.Learnt, Reads'4.Asked, Reads'4.Learnt, Reads'.Asked, Reads'.Learnt, Reads'5.Asked, Reads'5.Learnt, Reads.Asked, Reads.Learnt) Reads'3.Pre Reads'3.Post
 
 abbrev pub After-labels : Type 0
-After-labels = Lts.After-labels (Reads.Asked, Reads.Learnt, Reads'4.Asked, Reads'4.Learnt, Reads'.Asked, Reads'.Learnt, Reads'5.Asked, Reads'5.Learnt, Reads''.Asked, Reads''.Learnt) Reads'3.Pre Reads'3.Post
+After-labels = Lts.After-labels (Reads''.Asked, Reads''.Learnt, Reads'4.Asked, Reads'4.Learnt, Reads'.Asked, Reads'.Learnt, Reads'5.Asked, Reads'5.Learnt, Reads.Asked, Reads.Learnt) Reads'3.Pre Reads'3.Post
 
 abbrev pub After-slice-known3 : Type 0
-After-slice-known3 = Lts.After-slice-known3 (Reads.Asked, Reads.Learnt, Reads'4.Asked, Reads'4.Learnt, Reads'.Asked, Reads'.Learnt, Reads'5.Asked, Reads'5.Learnt, Reads''.Asked, Reads''.Learnt) Reads'3.Pre Reads'3.Post
+After-slice-known3 = Lts.After-slice-known3 (Reads''.Asked, Reads''.Learnt, Reads'4.Asked, Reads'4.Learnt, Reads'.Asked, Reads'.Learnt, Reads'5.Asked, Reads'5.Learnt, Reads.Asked, Reads.Learnt) Reads'3.Pre Reads'3.Post
 
 abbrev pub After-stack : Type 0
-After-stack = Lts.After-stack (Reads.Asked, Reads.Learnt, Reads'4.Asked, Reads'4.Learnt, Reads'.Asked, Reads'.Learnt, Reads'5.Asked, Reads'5.Learnt, Reads''.Asked, Reads''.Learnt) Reads'3.Pre Reads'3.Post
+After-stack = Lts.After-stack (Reads''.Asked, Reads''.Learnt, Reads'4.Asked, Reads'4.Learnt, Reads'.Asked, Reads'.Learnt, Reads'5.Asked, Reads'5.Learnt, Reads.Asked, Reads.Learnt) Reads'3.Pre Reads'3.Post
 
 abbrev pub After-slice-known4 : Type 0
-After-slice-known4 = Lts.After-slice-known4 (Reads.Asked, Reads.Learnt, Reads'4.Asked, Reads'4.Learnt, Reads'.Asked, Reads'.Learnt, Reads'5.Asked, Reads'5.Learnt, Reads''.Asked, Reads''.Learnt) Reads'3.Pre Reads'3.Post
+After-slice-known4 = Lts.After-slice-known4 (Reads''.Asked, Reads''.Learnt, Reads'4.Asked, Reads'4.Learnt, Reads'.Asked, Reads'.Learnt, Reads'5.Asked, Reads'5.Learnt, Reads.Asked, Reads.Learnt) Reads'3.Pre Reads'3.Post
 
 abbrev pub After-clear-numbers-arg : Type 0
-After-clear-numbers-arg = Lts.After-clear-numbers-arg (Reads.Asked, Reads.Learnt, Reads'4.Asked, Reads'4.Learnt, Reads'.Asked, Reads'.Learnt, Reads'5.Asked, Reads'5.Learnt, Reads''.Asked, Reads''.Learnt) Reads'3.Pre Reads'3.Post
+After-clear-numbers-arg = Lts.After-clear-numbers-arg (Reads''.Asked, Reads''.Learnt, Reads'4.Asked, Reads'4.Learnt, Reads'.Asked, Reads'.Learnt, Reads'5.Asked, Reads'5.Learnt, Reads.Asked, Reads.Learnt) Reads'3.Pre Reads'3.Post
 
 abbrev pub After-clear-numbers : Type 0
-After-clear-numbers = Lts.After-clear-numbers (Reads.Asked, Reads.Learnt, Reads'4.Asked, Reads'4.Learnt, Reads'.Asked, Reads'.Learnt, Reads'5.Asked, Reads'5.Learnt, Reads''.Asked, Reads''.Learnt) Reads'3.Pre Reads'3.Post
+After-clear-numbers = Lts.After-clear-numbers (Reads''.Asked, Reads''.Learnt, Reads'4.Asked, Reads'4.Learnt, Reads'.Asked, Reads'.Learnt, Reads'5.Asked, Reads'5.Learnt, Reads.Asked, Reads.Learnt) Reads'3.Pre Reads'3.Post
 
 abbrev pub After-stack2 : Type 0
-After-stack2 = Lts.After-stack2 (Reads.Asked, Reads.Learnt, Reads'4.Asked, Reads'4.Learnt, Reads'.Asked, Reads'.Learnt, Reads'5.Asked, Reads'5.Learnt, Reads''.Asked, Reads''.Learnt) Reads'3.Pre Reads'3.Post
+After-stack2 = Lts.After-stack2 (Reads''.Asked, Reads''.Learnt, Reads'4.Asked, Reads'4.Learnt, Reads'.Asked, Reads'.Learnt, Reads'5.Asked, Reads'5.Learnt, Reads.Asked, Reads.Learnt) Reads'3.Pre Reads'3.Post
 
 abbrev pub After-slice-known5 : Type 0
-After-slice-known5 = Lts.After-slice-known5 (Reads.Asked, Reads.Learnt, Reads'4.Asked, Reads'4.Learnt, Reads'.Asked, Reads'.Learnt, Reads'5.Asked, Reads'5.Learnt, Reads''.Asked, Reads''.Learnt) Reads'3.Pre Reads'3.Post
+After-slice-known5 = Lts.After-slice-known5 (Reads''.Asked, Reads''.Learnt, Reads'4.Asked, Reads'4.Learnt, Reads'.Asked, Reads'.Learnt, Reads'5.Asked, Reads'5.Learnt, Reads.Asked, Reads.Learnt) Reads'3.Pre Reads'3.Post
 
 abbrev pub After-run-report : Type 0
-After-run-report = Lts.After-run-report (Reads.Asked, Reads.Learnt, Reads'4.Asked, Reads'4.Learnt, Reads'.Asked, Reads'.Learnt, Reads'5.Asked, Reads'5.Learnt, Reads''.Asked, Reads''.Learnt) Reads'3.Pre Reads'3.Post
+After-run-report = Lts.After-run-report (Reads''.Asked, Reads''.Learnt, Reads'4.Asked, Reads'4.Learnt, Reads'.Asked, Reads'.Learnt, Reads'5.Asked, Reads'5.Learnt, Reads.Asked, Reads.Learnt) Reads'3.Pre Reads'3.Post
 
 abbrev pub Need-begin-run-requires : Type 0
-Need-begin-run-requires = Lts.Need-begin-run-requires (Reads.Asked, Reads.Learnt, Reads'4.Asked, Reads'4.Learnt, Reads'.Asked, Reads'.Learnt, Reads'5.Asked, Reads'5.Learnt, Reads''.Asked, Reads''.Learnt) Reads'3.Pre Reads'3.Post
+Need-begin-run-requires = Lts.Need-begin-run-requires (Reads''.Asked, Reads''.Learnt, Reads'4.Asked, Reads'4.Learnt, Reads'.Asked, Reads'.Learnt, Reads'5.Asked, Reads'5.Learnt, Reads.Asked, Reads.Learnt) Reads'3.Pre Reads'3.Post
 
 abbrev pub Need-zero-run-requires : Type 0
-Need-zero-run-requires = Lts.Need-zero-run-requires (Reads.Asked, Reads.Learnt, Reads'4.Asked, Reads'4.Learnt, Reads'.Asked, Reads'.Learnt, Reads'5.Asked, Reads'5.Learnt, Reads''.Asked, Reads''.Learnt) Reads'3.Pre Reads'3.Post
+Need-zero-run-requires = Lts.Need-zero-run-requires (Reads''.Asked, Reads''.Learnt, Reads'4.Asked, Reads'4.Learnt, Reads'.Asked, Reads'.Learnt, Reads'5.Asked, Reads'5.Learnt, Reads.Asked, Reads.Learnt) Reads'3.Pre Reads'3.Post
 
 abbrev pub Need-run-passes-requires : Type 0
-Need-run-passes-requires = Lts.Need-run-passes-requires (Reads.Asked, Reads.Learnt, Reads'4.Asked, Reads'4.Learnt, Reads'.Asked, Reads'.Learnt, Reads'5.Asked, Reads'5.Learnt, Reads''.Asked, Reads''.Learnt) Reads'3.Pre Reads'3.Post
+Need-run-passes-requires = Lts.Need-run-passes-requires (Reads''.Asked, Reads''.Learnt, Reads'4.Asked, Reads'4.Learnt, Reads'.Asked, Reads'.Learnt, Reads'5.Asked, Reads'5.Learnt, Reads.Asked, Reads.Learnt) Reads'3.Pre Reads'3.Post
 
 abbrev pub Need-clear-numbers-requires : Type 0
-Need-clear-numbers-requires = Lts.Need-clear-numbers-requires (Reads.Asked, Reads.Learnt, Reads'4.Asked, Reads'4.Learnt, Reads'.Asked, Reads'.Learnt, Reads'5.Asked, Reads'5.Learnt, Reads''.Asked, Reads''.Learnt) Reads'3.Pre Reads'3.Post
+Need-clear-numbers-requires = Lts.Need-clear-numbers-requires (Reads''.Asked, Reads''.Learnt, Reads'4.Asked, Reads'4.Learnt, Reads'.Asked, Reads'.Learnt, Reads'5.Asked, Reads'5.Learnt, Reads.Asked, Reads.Learnt) Reads'3.Pre Reads'3.Post
 
 abbrev pub Need-run-report-requires : Type 0
-Need-run-report-requires = Lts.Need-run-report-requires (Reads.Asked, Reads.Learnt, Reads'4.Asked, Reads'4.Learnt, Reads'.Asked, Reads'.Learnt, Reads'5.Asked, Reads'5.Learnt, Reads''.Asked, Reads''.Learnt) Reads'3.Pre Reads'3.Post
+Need-run-report-requires = Lts.Need-run-report-requires (Reads''.Asked, Reads''.Learnt, Reads'4.Asked, Reads'4.Learnt, Reads'.Asked, Reads'.Learnt, Reads'5.Asked, Reads'5.Learnt, Reads.Asked, Reads.Learnt) Reads'3.Pre Reads'3.Post
 
 abbrev pub Need-same-length : Type 0
-Need-same-length = Lts.Need-same-length (Reads.Asked, Reads.Learnt, Reads'4.Asked, Reads'4.Learnt, Reads'.Asked, Reads'.Learnt, Reads'5.Asked, Reads'5.Learnt, Reads''.Asked, Reads''.Learnt) Reads'3.Pre Reads'3.Post
+Need-same-length = Lts.Need-same-length (Reads''.Asked, Reads''.Learnt, Reads'4.Asked, Reads'4.Learnt, Reads'.Asked, Reads'.Learnt, Reads'5.Asked, Reads'5.Learnt, Reads.Asked, Reads.Learnt) Reads'3.Pre Reads'3.Post
 
 abbrev pub Need-same-length-2 : Type 0
-Need-same-length-2 = Lts.Need-same-length-2 (Reads.Asked, Reads.Learnt, Reads'4.Asked, Reads'4.Learnt, Reads'.Asked, Reads'.Learnt, Reads'5.Asked, Reads'5.Learnt, Reads''.Asked, Reads''.Learnt) Reads'3.Pre Reads'3.Post
+Need-same-length-2 = Lts.Need-same-length-2 (Reads''.Asked, Reads''.Learnt, Reads'4.Asked, Reads'4.Learnt, Reads'.Asked, Reads'.Learnt, Reads'5.Asked, Reads'5.Learnt, Reads.Asked, Reads.Learnt) Reads'3.Pre Reads'3.Post
 
 abbrev pub Need-returns : Type 0
-Need-returns = Lts.Need-returns (Reads.Asked, Reads.Learnt, Reads'4.Asked, Reads'4.Learnt, Reads'.Asked, Reads'.Learnt, Reads'5.Asked, Reads'5.Learnt, Reads''.Asked, Reads''.Learnt) Reads'3.Pre Reads'3.Post
+Need-returns = Lts.Need-returns (Reads''.Asked, Reads''.Learnt, Reads'4.Asked, Reads'4.Learnt, Reads'.Asked, Reads'.Learnt, Reads'5.Asked, Reads'5.Learnt, Reads.Asked, Reads.Learnt) Reads'3.Pre Reads'3.Post
 
 module _ {M : Type 1} where
-  pub spec : (answer : Need-begin-run-requires) → (answer : Need-zero-run-requires) → (answer : Need-run-passes-requires) → (answer : Need-clear-numbers-requires) → (answer : Need-run-report-requires) → (answer : Need-same-length) → (answer : Need-same-length-2) → (answer : Need-returns) → Lts.Closed (Reads.Asked, Reads.Learnt, Reads'4.Asked, Reads'4.Learnt, Reads'.Asked, Reads'.Learnt, Reads'5.Asked, Reads'5.Learnt, Reads''.Asked, Reads''.Learnt) Reads'3.Pre Reads'3.Post M
-  spec = λ answer answer' answer'' answer'3 answer'4 answer'5 answer'6 answer'7. Lts.spec (Reads.Asked, Reads.Learnt, Reads'4.Asked, Reads'4.Learnt, Reads'.Asked, Reads'.Learnt, Reads'5.Asked, Reads'5.Learnt, Reads''.Asked, Reads''.Learnt) Reads'3.Pre Reads'3.Post answer answer' answer'' answer'3 answer'4 answer'5 answer'6 answer'7
+  pub spec : (answer : Need-begin-run-requires) → (answer : Need-zero-run-requires) → (answer : Need-run-passes-requires) → (answer : Need-clear-numbers-requires) → (answer : Need-run-report-requires) → (answer : Need-same-length) → (answer : Need-same-length-2) → (answer : Need-returns) → Lts.Closed (Reads''.Asked, Reads''.Learnt, Reads'4.Asked, Reads'4.Learnt, Reads'.Asked, Reads'.Learnt, Reads'5.Asked, Reads'5.Learnt, Reads.Asked, Reads.Learnt) Reads'3.Pre Reads'3.Post M
+  spec = λ answer answer' answer'' answer'3 answer'4 answer'5 answer'6 answer'7. Lts.spec (Reads''.Asked, Reads''.Learnt, Reads'4.Asked, Reads'4.Learnt, Reads'.Asked, Reads'.Learnt, Reads'5.Asked, Reads'5.Learnt, Reads.Asked, Reads.Learnt) Reads'3.Pre Reads'3.Post answer answer' answer'' answer'3 answer'4 answer'5 answer'6 answer'7
 
-  pub close : Lts.Closed (Reads.Asked, Reads.Learnt, Reads'4.Asked, Reads'4.Learnt, Reads'.Asked, Reads'.Learnt, Reads'5.Asked, Reads'5.Learnt, Reads''.Asked, Reads''.Learnt) Reads'3.Pre Reads'3.Post M → Statement.statement M
+  pub close : Lts.Closed (Reads''.Asked, Reads''.Learnt, Reads'4.Asked, Reads'4.Learnt, Reads'.Asked, Reads'.Learnt, Reads'5.Asked, Reads'5.Learnt, Reads.Asked, Reads.Learnt) Reads'3.Pre Reads'3.Post M → Statement.statement M
   unfolding Code.routine Running.tablesOf
-  close = λ closed 𝓤 H 𝓜 𝓖 𝓡. Written.close 7 Kinds.ps Kinds.r Reads'3.Ghost Reads'3.requires Reads'3.ensures Reads'3.pre-read Reads'3.Pinned Reads'3.Owned Reads'3.post-read record { M = M; 𝓤 = 𝓤; H = H; 𝓜 = 𝓜; 𝓖 = 𝓖; 𝓡 = 𝓡 } Code.env Key.name Code.function (Code.unfolded 𝓤 H 𝓜 𝓡) (λ κs a g. tt) (λ κs. Reads'3.owns κs record { M = M; 𝓤 = 𝓤; H = H; 𝓜 = 𝓜; 𝓖 = 𝓖; 𝓡 = 𝓡 }) (Reads'3.passes record { M = M; 𝓤 = 𝓤; H = H; 𝓜 = 𝓜; 𝓖 = 𝓖; 𝓡 = 𝓡 }) λ g. closed 𝓤 H (𝓖 .A) (Running.givenOf 𝓤 H 𝓜 𝓖) (Run.Over 𝓤 H 𝓜 𝓖 𝓡 Code.env) (Reads.known record { M = M; 𝓤 = 𝓤; H = H; 𝓜 = 𝓜; 𝓖 = 𝓖; 𝓡 = 𝓡 } Code.env Symbol.name Symbol.routine Code.calls-arc-swap·begin-run (Met.met 𝓤 H 𝓜 𝓖 𝓡)) (Reads'4.known record { M = M; 𝓤 = 𝓤; H = H; 𝓜 = 𝓜; 𝓖 = 𝓖; 𝓡 = 𝓡 } Code.env Symbol'3.name Symbol'3.routine Code.calls-arc-swap·zero-run (Met'3.met 𝓤 H 𝓜 𝓖 𝓡)) (Reads'.known record { M = M; 𝓤 = 𝓤; H = H; 𝓜 = 𝓜; 𝓖 = 𝓖; 𝓡 = 𝓡 } Code.env Symbol'.name Symbol'.routine Code.calls-arc-swap·run-passes (Met'.met 𝓤 H 𝓜 𝓖 𝓡)) (Reads'5.known record { M = M; 𝓤 = 𝓤; H = H; 𝓜 = 𝓜; 𝓖 = 𝓖; 𝓡 = 𝓡 } Code.env Symbol'4.name Symbol'4.routine Code.calls-lists·clear-numbers (Met'4.met 𝓤 H 𝓜 𝓖 𝓡)) (Reads''.known record { M = M; 𝓤 = 𝓤; H = H; 𝓜 = 𝓜; 𝓖 = 𝓖; 𝓡 = 𝓡 } Code.env Symbol''.name Symbol''.routine Code.calls-arc-swap·run-report (Met''.met 𝓤 H 𝓜 𝓖 𝓡))
+  close = λ closed 𝓤 H 𝓜 𝓖 𝓡. Written.close 7 Kinds.ps Kinds.r Reads'3.Ghost Reads'3.requires Reads'3.ensures Reads'3.pre-read Reads'3.Pinned Reads'3.Owned Reads'3.post-read record { M = M; 𝓤 = 𝓤; H = H; 𝓜 = 𝓜; 𝓖 = 𝓖; 𝓡 = 𝓡 } Code.env Key.name Code.function (Code.unfolded 𝓤 H 𝓜 𝓡) (λ κs a g. tt) (λ κs. Reads'3.owns κs record { M = M; 𝓤 = 𝓤; H = H; 𝓜 = 𝓜; 𝓖 = 𝓖; 𝓡 = 𝓡 }) (Reads'3.passes record { M = M; 𝓤 = 𝓤; H = H; 𝓜 = 𝓜; 𝓖 = 𝓖; 𝓡 = 𝓡 }) λ g. closed 𝓤 H (𝓖 .A) (Running.givenOf 𝓤 H 𝓜 𝓖) (Run.Over 𝓤 H 𝓜 𝓖 𝓡 Code.env) (Reads''.known record { M = M; 𝓤 = 𝓤; H = H; 𝓜 = 𝓜; 𝓖 = 𝓖; 𝓡 = 𝓡 } Code.env Symbol''.name Symbol''.routine Code.calls-arc-swap·steps·begin-run (Met''.met 𝓤 H 𝓜 𝓖 𝓡)) (Reads'4.known record { M = M; 𝓤 = 𝓤; H = H; 𝓜 = 𝓜; 𝓖 = 𝓖; 𝓡 = 𝓡 } Code.env Symbol'3.name Symbol'3.routine Code.calls-arc-swap·zero-run (Met'3.met 𝓤 H 𝓜 𝓖 𝓡)) (Reads'.known record { M = M; 𝓤 = 𝓤; H = H; 𝓜 = 𝓜; 𝓖 = 𝓖; 𝓡 = 𝓡 } Code.env Symbol'.name Symbol'.routine Code.calls-arc-swap·run-passes (Met'.met 𝓤 H 𝓜 𝓖 𝓡)) (Reads'5.known record { M = M; 𝓤 = 𝓤; H = H; 𝓜 = 𝓜; 𝓖 = 𝓖; 𝓡 = 𝓡 } Code.env Symbol'4.name Symbol'4.routine Code.calls-lists·clear-numbers (Met'4.met 𝓤 H 𝓜 𝓖 𝓡)) (Reads.known record { M = M; 𝓤 = 𝓤; H = H; 𝓜 = 𝓜; 𝓖 = 𝓖; 𝓡 = 𝓡 } Code.env Symbol.name Symbol.routine Code.calls-arc-swap·answers·run-report (Met.met 𝓤 H 𝓜 𝓖 𝓡))

@@ -1,4 +1,5 @@
 -- `arc_swap::turns::on_cut` meets its contract. The invariant: the arcs passed lead to the vertex's own part. Assumes nothing.
+use mathlib.Core.List.{[]}
 use Prim.Native.Nat.{_-_}
 use Rattle.topology.specs.Graph.{inRows}
 use Rattle.arc_swap.proofs.Taken.{Looking, begins, found, passed, nowhere}
@@ -7,10 +8,10 @@ use Rattle.arc_swap.proofs.turns.on_cut.Statement.{statement}
 use Rattle.arc_swap.proofs.turns.on_cut.Tie as tie
 
 abbrev Inv-loop : tie.InvT-loop
-Inv-loop starts neighbours arc-weights labels v end e₀ e = Looking (inRows starts neighbours arc-weights) labels v e₀ end e
+Inv-loop starts neighbours labels v end e₀ e = Looking (inRows starts neighbours []) labels v e₀ end e
 
 abbrev μ-loop : tie.MeasureT-loop
-μ-loop starts neighbours arc-weights labels v end e₀ e = end - e
+μ-loop starts neighbours labels v end e₀ e = end - e
 
 add-index : tie.Need-add-index Inv-loop μ-loop
 add-index c = search needs

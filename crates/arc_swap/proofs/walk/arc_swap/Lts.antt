@@ -96,7 +96,10 @@ abbrev pub type·13 : Syntax.Ty
 type·13 = Syntax.tyRef (Syntax.named 6) Syntax.mut RunRecordTy.behind
 
 abbrev pub type·14 : Syntax.Ty
-type·14 = Syntax.tyStruct (List._∷_ 97 (List._∷_ 114 (List._∷_ 99 (List._∷_ 95 (List._∷_ 115 (List._∷_ 119 (List._∷_ 97 (List._∷_ 112 (List._∷_ 58 (List._∷_ 58 (List._∷_ 83 (List._∷_ 101 (List._∷_ 116 (List._∷_ 116 (List._∷_ 105 (List._∷_ 110 (List._∷_ 103 (List._∷_ 115 List.[])))))))))))))))))) (Syntax.tcons (Syntax.tyInt Syntax.w32) (Syntax.tcons (Syntax.tyInt Syntax.w32) (Syntax.tcons (Syntax.tyFloat Ieee.binary64) Syntax.tnil)))
+type·14 = Syntax.tyStruct (List._∷_ 105 (List._∷_ 109 (List._∷_ 98 (List._∷_ 97 (List._∷_ 108 (List._∷_ 97 (List._∷_ 110 (List._∷_ 99 (List._∷_ 101 (List._∷_ 58 (List._∷_ 58 (List._∷_ 67 (List._∷_ 101 (List._∷_ 105 (List._∷_ 108 (List._∷_ 105 (List._∷_ 110 (List._∷_ 103 List.[])))))))))))))))))) (Syntax.tcons (Syntax.tyInt Syntax.w32) (Syntax.tcons (Syntax.tyInt Syntax.w32) (Syntax.tcons (Syntax.tyFloat Ieee.binary64) Syntax.tnil)))
+
+abbrev pub type·15 : Syntax.Ty
+type·15 = Syntax.tyStruct (List._∷_ 97 (List._∷_ 114 (List._∷_ 99 (List._∷_ 95 (List._∷_ 115 (List._∷_ 119 (List._∷_ 97 (List._∷_ 112 (List._∷_ 58 (List._∷_ 58 (List._∷_ 83 (List._∷_ 101 (List._∷_ 116 (List._∷_ 116 (List._∷_ 105 (List._∷_ 110 (List._∷_ 103 (List._∷_ 115 List.[])))))))))))))))))) (Syntax.tcons type·14 Syntax.tnil)
 
 abbrev pub row·0 : Row.Entry
 row·0 = (0, Rows.any-gone type·6)
@@ -165,7 +168,7 @@ abbrev pub row·21 : Row.Entry
 row·21 = (0, Rows.whole (Declared.row Report.the-type))
 
 abbrev pub row·22 : Row.Entry
-row·22 = (7, Rows.any-gone type·14)
+row·22 = (7, Rows.any-gone type·15)
 
 abbrev pub row·23 : Row.Entry
 row·23 = (10, Rows.sc-here (Row.sInt Syntax.w64))
@@ -270,7 +273,7 @@ abbrev b3 : Syntax.Body
 b3 = Syntax.call "arc_swap::zero_run" (List._∷_ (Syntax.copy (Syntax.place 13 List.[])) List.[]) (Syntax.place 12 List.[])
 
 abbrev b4 : Syntax.Body
-b4 = Syntax.call "arc_swap::bare_report" (List._∷_ (Syntax.int Syntax.w32 0) (List._∷_ (Syntax.int Syntax.w32 3) List.[])) (Syntax.place 0 List.[])
+b4 = Syntax.call "arc_swap::answers::bare_report" (List._∷_ (Syntax.int Syntax.w32 0) (List._∷_ (Syntax.int Syntax.w32 3) List.[])) (Syntax.place 0 List.[])
 
 abbrev b5 : Syntax.Body
 b5 = Syntax.return
@@ -297,13 +300,13 @@ abbrev b12 : Syntax.Body
 b12 = Syntax.assign (Syntax.place 15 List.[]) (Syntax.aggregate (List._∷_ (Syntax.copy (Syntax.place 14 List.[])) (List._∷_ (Syntax.copy (Syntax.place 5 (List._∷_ (Syntax.field 1) List.[]))) List.[])))
 
 abbrev b13 : Syntax.Body
-b13 = Syntax.call "arc_swap::number_of" (List._∷_ (Syntax.copy (Syntax.place 1 List.[])) (List._∷_ (Syntax.copy (Syntax.place 2 List.[])) (List._∷_ (Syntax.copy (Syntax.place 3 List.[])) (List._∷_ (Syntax.copy (Syntax.place 4 List.[])) (List._∷_ (Syntax.copy (Syntax.place 15 List.[])) (List._∷_ (Syntax.copy (Syntax.place 7 List.[])) List.[])))))) (Syntax.place 9 List.[])
+b13 = Syntax.call "arc_swap::number::number_of" (List._∷_ (Syntax.copy (Syntax.place 1 List.[])) (List._∷_ (Syntax.copy (Syntax.place 2 List.[])) (List._∷_ (Syntax.copy (Syntax.place 3 List.[])) (List._∷_ (Syntax.copy (Syntax.place 4 List.[])) (List._∷_ (Syntax.copy (Syntax.place 15 List.[])) (List._∷_ (Syntax.copy (Syntax.place 7 List.[])) List.[])))))) (Syntax.place 9 List.[])
 
 abbrev b14 : Syntax.Body
 b14 = Syntax.assign (Syntax.place 11 List.[]) (Syntax.op2 Syntax.ne (Syntax.copy (Syntax.place 9 List.[])) (Syntax.int Syntax.w32 0))
 
 abbrev b15 : Syntax.Body
-b15 = Syntax.call "arc_swap::bare_report" (List._∷_ (Syntax.copy (Syntax.place 9 List.[])) (List._∷_ (Syntax.int Syntax.w32 0) List.[])) (Syntax.place 0 List.[])
+b15 = Syntax.call "arc_swap::answers::bare_report" (List._∷_ (Syntax.copy (Syntax.place 9 List.[])) (List._∷_ (Syntax.int Syntax.w32 0) List.[])) (Syntax.place 0 List.[])
 
 abbrev b16 : Syntax.Body
 b16 = Syntax.return
@@ -667,7 +670,7 @@ module _ (claims· : Claims) where
   s8 = Scalar.n-room T9 10 (Syntax.tyInt Syntax.w64)
 
   abbrev s9 : Typed.Mo T11 → Typed.Mo T12
-  s9 = Scalar.n-room T11 7 type·14
+  s9 = Scalar.n-room T11 7 type·15
 
   abbrev s10 : Typed.Mo T12 → Typed.Mo T13
   s10 = Scalar.n-room T12 11 Syntax.tyBool
@@ -709,7 +712,7 @@ module _ (claims· : Claims) where
   s28 = Scalar.k-op2 T29 Syntax.ne (Scalar.oAt 9 (Syntax.tyInt Syntax.w32) (Row.valS (Row.sInt Syntax.w32))) (Scalar.oInt Syntax.w32 0) 11 (Rows.sc-here Row.sBool) (Row.sBool .of)
 
   abbrev s29 : Typed.Mo T31 → Typed.Mo T33
-  s29 = Scalar.n-room T31 7 type·14
+  s29 = Scalar.n-room T31 7 type·15
 
   abbrev s30 : Typed.Mo T33 → Typed.Mo T34
   s30 = Scalar.n-room T33 11 Syntax.tyBool
@@ -742,7 +745,7 @@ module _ (claims· : Claims) where
   s42 = Call.callB ps·3 r·3 (claims· .6) (claims· .7) T45 (record { pos = 1; ty = Syntax.tyRef (Syntax.named 0) Syntax.imm (Syntax.tyInt Syntax.w32); ref = λ x. x }, (record { pos = 2; ty = Syntax.tyRef (Syntax.named 1) Syntax.imm (Syntax.tyInt Syntax.w32); ref = λ x. x }, (record { pos = 3; ty = Syntax.tyRef (Syntax.named 2) Syntax.imm (Syntax.tyInt Syntax.w32); ref = λ x. x }, (record { pos = 4; ty = Syntax.tyRef (Syntax.named 3) Syntax.imm (Syntax.tyInt Syntax.w32); ref = λ x. x }, (record { pos = 17; ty = Syntax.tyRef Syntax.erased Syntax.mut (Syntax.tyInt Syntax.w32); ref = λ x. x }, (record { pos = 19; ty = Syntax.tyRef Syntax.erased Syntax.mut (Syntax.tyInt Syntax.w32); ref = λ x. x }, (record { pos = 7; st = List.[]; d = 0; at = λ x. x }, (record { pos = 20; ty = Syntax.tyRef Syntax.erased Syntax.mut RunRecordTy.behind; ref = λ x. x }, tt)))))))) 0 (List._∷_ 0 (List._∷_ 1 (List._∷_ 2 (List._∷_ 3 (List._∷_ 9 (List._∷_ 10 (List._∷_ 11 List.[]))))))) type·6
 
   abbrev s43 : Typed.Mo T46 → Typed.Mo T47
-  s43 = Scalar.n-room T46 7 type·14
+  s43 = Scalar.n-room T46 7 type·15
 
   abbrev s44 : Typed.Mo T47 → Typed.Mo T48
   s44 = Scalar.n-room T47 9 (Syntax.tyInt Syntax.w32)
@@ -765,7 +768,7 @@ module _ (claims· : Claims) where
   module _ (Pre· : (κs : Lifetimes.Lfts 7) → Kinds.Dens κs ps → Type 0) (Post· : (κs : Lifetimes.Lfts 7) → (a : Kinds.Dens κs ps) → Kinds.Plain 7 ps r κs) where
     module _ (M : Type 1) where
       abbrev pub Closed : Type 2
-      Closed = (𝓤 : URA.URA M) (H : Wp.Heap 𝓤) (A : Atoms.Atoms 𝓤) (W : Kit.Given 𝓤 H A) (𝓣 : Wp.Tables 𝓤 H) (known0 : Plain.Known 𝓤 H A W 𝓣 1 ps·0 r·0 (claims· .0) (claims· .1) "arc_swap::zero_run") (known1 : Plain.Known 𝓤 H A W 𝓣 0 ps·1 r·1 (claims· .2) (claims· .3) "arc_swap::bare_report") (known2 : Plain.Known 𝓤 H A W 𝓣 5 ps·2 r·2 (claims· .4) (claims· .5) "arc_swap::number_of") (known3 : Plain.Known 𝓤 H A W 𝓣 7 ps·3 r·3 (claims· .6) (claims· .7) "arc_swap::swap_all") → Statement.Triple 𝓤 (Wp.WpFn 𝓤 H (𝓣 .C) (𝓣 .Λ) (Function.fnOf 7 ps r xs m hs body)) (Function.plainOf 𝓤 H A 7 ps r Pre· Post·)
+      Closed = (𝓤 : URA.URA M) (H : Wp.Heap 𝓤) (A : Atoms.Atoms 𝓤) (W : Kit.Given 𝓤 H A) (𝓣 : Wp.Tables 𝓤 H) (known0 : Plain.Known 𝓤 H A W 𝓣 1 ps·0 r·0 (claims· .0) (claims· .1) "arc_swap::zero_run") (known1 : Plain.Known 𝓤 H A W 𝓣 0 ps·1 r·1 (claims· .2) (claims· .3) "arc_swap::answers::bare_report") (known2 : Plain.Known 𝓤 H A W 𝓣 5 ps·2 r·2 (claims· .4) (claims· .5) "arc_swap::number::number_of") (known3 : Plain.Known 𝓤 H A W 𝓣 7 ps·3 r·3 (claims· .6) (claims· .7) "arc_swap::swap_all") → Statement.Triple 𝓤 (Wp.WpFn 𝓤 H (𝓣 .C) (𝓣 .Λ) (Function.fnOf 7 ps r xs m hs body)) (Function.plainOf 𝓤 H A 7 ps r Pre· Post·)
 
     module _ where
       abbrev at0 : Typed.TF T21 O1
@@ -968,7 +971,7 @@ module _ (claims· : Claims) where
 
       module _ {M : Type 1} (𝓤 : URA.URA M) (H : Wp.Heap 𝓤) (A : Atoms.Atoms 𝓤) (W : Kit.Given 𝓤 H A) (𝓣 : Wp.Tables 𝓤 H) where
         abbrev Knowns : Type 1
-        Knowns = Plain.Known 𝓤 H A W 𝓣 1 ps·0 r·0 (claims· .0) (claims· .1) "arc_swap::zero_run" × Plain.Known 𝓤 H A W 𝓣 0 ps·1 r·1 (claims· .2) (claims· .3) "arc_swap::bare_report" × Plain.Known 𝓤 H A W 𝓣 5 ps·2 r·2 (claims· .4) (claims· .5) "arc_swap::number_of" × Plain.Known 𝓤 H A W 𝓣 7 ps·3 r·3 (claims· .6) (claims· .7) "arc_swap::swap_all"
+        Knowns = Plain.Known 𝓤 H A W 𝓣 1 ps·0 r·0 (claims· .0) (claims· .1) "arc_swap::zero_run" × Plain.Known 𝓤 H A W 𝓣 0 ps·1 r·1 (claims· .2) (claims· .3) "arc_swap::answers::bare_report" × Plain.Known 𝓤 H A W 𝓣 5 ps·2 r·2 (claims· .4) (claims· .5) "arc_swap::number::number_of" × Plain.Known 𝓤 H A W 𝓣 7 ps·3 r·3 (claims· .6) (claims· .7) "arc_swap::swap_all"
 
       module _ (κs : Lifetimes.Lfts 7) (qs : Lifetimes.Shares 7) where
         abbrev g8 : List.List Row.Entry
@@ -1237,7 +1240,7 @@ module _ (claims· : Claims) where
           d0 = Typed.t-return 𝓤 H A W 𝓣 E Δ1 tt
 
           d1 : Typed.Typed 𝓤 H A 𝓣 E G20 b6 Δ1 at1
-          d1 = Typed.s-seq 𝓤 H A W 𝓣 E G20 G21 b4 b5 Δ1 (Typed.both s18) at0 (Plain.t-call-plain 𝓤 H A W 𝓣 0 ps·1 r·1 (claims· .2) (claims· .3) "arc_swap::bare_report" (known .1) E (λ pos β. β) G20 (Num.vLit 0, (Num.vLit 3, tt)) 0 List.[] (Call.sub-id 𝓤 H A W (G20 .slots)) (tt, (tt, tt)) (Reads.room-gone 𝓤 H A type·6) tt Path'.refl) d0
+          d1 = Typed.s-seq 𝓤 H A W 𝓣 E G20 G21 b4 b5 Δ1 (Typed.both s18) at0 (Plain.t-call-plain 𝓤 H A W 𝓣 0 ps·1 r·1 (claims· .2) (claims· .3) "arc_swap::answers::bare_report" (known .1) E (λ pos β. β) G20 (Num.vLit 0, (Num.vLit 3, tt)) 0 List.[] (Call.sub-id 𝓤 H A W (G20 .slots)) (tt, (tt, tt)) (Reads.room-gone 𝓤 H A type·6) tt Path'.refl) d0
 
           d2 : Typed.Typed 𝓤 H A 𝓣 E G19 b6 Δ1 at2
           d2 = Typed.g-pre 𝓤 H A W 𝓣 E G19 G20 b6 Δ1 (λ Ψ. Ψ) at1 (Lifetime.g-forget 𝓤 H A W E G19 7 Row.dead Path'.refl) d1
@@ -1264,7 +1267,7 @@ module _ (claims· : Claims) where
           d9 = Typed.g-pre 𝓤 H A W 𝓣 E G12 G13 b8 Δ1 (Typed.pass T12 T13 s10) at8 (Scalar.g-room 𝓤 H A W E G12 11 Syntax.tyBool (Scalar.room-sc 𝓤 H A W Row.sBool)) d8
 
           d10 : Typed.Typed 𝓤 H A 𝓣 E G11 b8 Δ1 at10
-          d10 = Typed.g-pre 𝓤 H A W 𝓣 E G11 G12 b8 Δ1 (Typed.pass T11 T12 s9) at9 (Scalar.g-room 𝓤 H A W E G11 7 type·14 (Local.room-whole 𝓤 H A W (Declared.row Settings.the-type) type·14 Path'.refl)) d9
+          d10 = Typed.g-pre 𝓤 H A W 𝓣 E G11 G12 b8 Δ1 (Typed.pass T11 T12 s9) at9 (Scalar.g-room 𝓤 H A W E G11 7 type·15 (Local.room-whole 𝓤 H A W (Declared.row Settings.the-type) type·15 Path'.refl)) d9
 
           d11 : Typed.Typed 𝓤 H A 𝓣 E G22 b9 Δ1 at11
           d11 = Typed.t-skip 𝓤 H A W 𝓣 E Δ1 tt
@@ -1285,13 +1288,13 @@ module _ (claims· : Claims) where
           d16 = Typed.g-pre 𝓤 H A W 𝓣 E G35 G36 b16 Δ2 (Typed.pass T35 T36 s32) at15 (Scalar.g-room 𝓤 H A W E G35 9 (Syntax.tyInt Syntax.w32) (Scalar.room-sc 𝓤 H A W (Row.sInt Syntax.w32))) d15
 
           d17 : Typed.Typed 𝓤 H A 𝓣 E G34 b17 Δ2 at17
-          d17 = Typed.s-seq 𝓤 H A W 𝓣 E G34 G35 b15 b16 Δ2 (Typed.both s31) at16 (Plain.t-call-plain 𝓤 H A W 𝓣 0 ps·1 r·1 (claims· .2) (claims· .3) "arc_swap::bare_report" (known .1) E (λ pos β. β) G34 (Num.vAt 9 λ x. x, (Num.vLit 0, tt)) 0 List.[] (Call.sub-id 𝓤 H A W (G34 .slots)) ((Scalar.reads-sc 𝓤 H A W (Row.sInt Syntax.w32), Path'.refl), (tt, tt)) (Reads.room-gone 𝓤 H A type·6) tt Path'.refl) d16
+          d17 = Typed.s-seq 𝓤 H A W 𝓣 E G34 G35 b15 b16 Δ2 (Typed.both s31) at16 (Plain.t-call-plain 𝓤 H A W 𝓣 0 ps·1 r·1 (claims· .2) (claims· .3) "arc_swap::answers::bare_report" (known .1) E (λ pos β. β) G34 (Num.vAt 9 λ x. x, (Num.vLit 0, tt)) 0 List.[] (Call.sub-id 𝓤 H A W (G34 .slots)) ((Scalar.reads-sc 𝓤 H A W (Row.sInt Syntax.w32), Path'.refl), (tt, tt)) (Reads.room-gone 𝓤 H A type·6) tt Path'.refl) d16
 
           d18 : Typed.Typed 𝓤 H A 𝓣 E G33 b17 Δ2 at18
           d18 = Typed.g-pre 𝓤 H A W 𝓣 E G33 G34 b17 Δ2 (Typed.pass T33 T34 s30) at17 (Scalar.g-room 𝓤 H A W E G33 11 Syntax.tyBool (Scalar.room-sc 𝓤 H A W Row.sBool)) d17
 
           d19 : Typed.Typed 𝓤 H A 𝓣 E G31 b17 Δ2 at19
-          d19 = Typed.g-pre 𝓤 H A W 𝓣 E G31 G33 b17 Δ2 (Typed.pass T31 T33 s29) at18 (Scalar.g-room 𝓤 H A W E G31 7 type·14 (Local.room-whole 𝓤 H A W (Declared.row Settings.the-type) type·14 Path'.refl)) d18
+          d19 = Typed.g-pre 𝓤 H A W 𝓣 E G31 G33 b17 Δ2 (Typed.pass T31 T33 s29) at18 (Scalar.g-room 𝓤 H A W E G31 7 type·15 (Local.room-whole 𝓤 H A W (Declared.row Settings.the-type) type·15 Path'.refl)) d18
 
           d20 : Typed.Typed 𝓤 H A 𝓣 E G37 b18 Δ2 at20
           d20 = Typed.t-skip 𝓤 H A W 𝓣 E Δ2 tt
@@ -1342,7 +1345,7 @@ module _ (claims· : Claims) where
           d35 = Typed.g-pre 𝓤 H A W 𝓣 E G47 G48 b26 Δ0 (Typed.pass T47 T48 s44) at34 (Scalar.g-room 𝓤 H A W E G47 9 (Syntax.tyInt Syntax.w32) (Scalar.room-sc 𝓤 H A W (Row.sInt Syntax.w32))) d34
 
           d36 : Typed.Typed 𝓤 H A 𝓣 E G46 b26 Δ0 at36
-          d36 = Typed.g-pre 𝓤 H A W 𝓣 E G46 G47 b26 Δ0 (Typed.pass T46 T47 s43) at35 (Scalar.g-room 𝓤 H A W E G46 7 type·14 (Local.room-whole 𝓤 H A W (Declared.row Settings.the-type) type·14 Path'.refl)) d35
+          d36 = Typed.g-pre 𝓤 H A W 𝓣 E G46 G47 b26 Δ0 (Typed.pass T46 T47 s43) at35 (Scalar.g-room 𝓤 H A W E G46 7 type·15 (Local.room-whole 𝓤 H A W (Declared.row Settings.the-type) type·15 Path'.refl)) d35
 
           d37 : Typed.Typed 𝓤 H A 𝓣 E G45 b27 Δ0 at37
           d37 = Typed.s-seq 𝓤 H A W 𝓣 E G45 G46 b25 b26 Δ0 (Typed.both s42) at36 (Plain.t-call-plain 𝓤 H A W 𝓣 7 ps·3 r·3 (claims· .6) (claims· .7) "arc_swap::swap_all" (known .3) E (λ pos β. β) G45 (record { pos = 1; ty = Syntax.tyRef (Syntax.named 0) Syntax.imm (Syntax.tyInt Syntax.w32); ref = λ x. x }, (record { pos = 2; ty = Syntax.tyRef (Syntax.named 1) Syntax.imm (Syntax.tyInt Syntax.w32); ref = λ x. x }, (record { pos = 3; ty = Syntax.tyRef (Syntax.named 2) Syntax.imm (Syntax.tyInt Syntax.w32); ref = λ x. x }, (record { pos = 4; ty = Syntax.tyRef (Syntax.named 3) Syntax.imm (Syntax.tyInt Syntax.w32); ref = λ x. x }, (record { pos = 17; ty = Syntax.tyRef Syntax.erased Syntax.mut (Syntax.tyInt Syntax.w32); ref = λ x. x }, (record { pos = 19; ty = Syntax.tyRef Syntax.erased Syntax.mut (Syntax.tyInt Syntax.w32); ref = λ x. x }, (record { pos = 7; st = List.[]; d = 0; at = λ x. x }, (record { pos = 20; ty = Syntax.tyRef Syntax.erased Syntax.mut RunRecordTy.behind; ref = λ x. x }, tt)))))))) 0 (List._∷_ 0 (List._∷_ 1 (List._∷_ 2 (List._∷_ 3 (List._∷_ 9 (List._∷_ 10 (List._∷_ 11 List.[]))))))) (Call.sub-id 𝓤 H A W (G45 .slots)) (ShrSlice.spares-sslice 𝓤 H A W (Referent.rtF (Referent.fInt Syntax.w32)) type·7 0, Shared.reads-sslice 𝓤 H A W (Referent.rtF (Referent.fInt Syntax.w32)) type·7 0, Path'.refl, (ShrSlice.spares-sslice 𝓤 H A W (Referent.rtF (Referent.fInt Syntax.w32)) type·8 1, Shared.reads-sslice 𝓤 H A W (Referent.rtF (Referent.fInt Syntax.w32)) type·8 1, Path'.refl, (ShrSlice.spares-sslice 𝓤 H A W (Referent.rtF (Referent.fInt Syntax.w32)) type·9 2, Shared.reads-sslice 𝓤 H A W (Referent.rtF (Referent.fInt Syntax.w32)) type·9 2, Path'.refl, (ShrSlice.spares-sslice 𝓤 H A W (Referent.rtF (Referent.fInt Syntax.w32)) type·10 3, Shared.reads-sslice 𝓤 H A W (Referent.rtF (Referent.fInt Syntax.w32)) type·10 3, Path'.refl, (Reads.as-is 𝓤 H A (Mut.mslice (Referent.rtF (Referent.fInt Syntax.w32)) type·3 9), Mut.reads-mslice 𝓤 H A W (Referent.rtF (Referent.fInt Syntax.w32)) type·3 9, Path'.refl, (Reads.as-is 𝓤 H A (Mut.mslice (Referent.rtF (Referent.fInt Syntax.w32)) type·3 10), Mut.reads-mslice 𝓤 H A W (Referent.rtF (Referent.fInt Syntax.w32)) type·3 10, Path'.refl, ((Yields.yields-copy 𝓤 H A W (λ ρ. Unit) (Declared.row Settings.the-type) Path'.refl (Copies.cStruct Settings.the-type Laws'.the-laws Laws'.the-copy .copy 𝓤 H A W) (Rows.whole (Declared.row Settings.the-type)) (λ x. x) (λ x. x) (λ ρ told. Local.mem-whole 𝓤 H A W (Declared.row Settings.the-type) ρ) λ ρ told. Local.whole-mem 𝓤 H A W (Declared.row Settings.the-type) ρ, Path'.refl), (Reads.as-is 𝓤 H A (Rows.mref RunRecordTy.R type·0 11), Reads.reads-mref 𝓤 H A W RunRecordTy.R type·0 11, Path'.refl, tt)))))))) (Reads.room-gone 𝓤 H A type·6) (tt, (tt, (tt, (tt, (tt, (tt, (tt, tt))))))) Path'.refl) d36
@@ -1390,7 +1393,7 @@ module _ (claims· : Claims) where
           d51 = Typed.g-pre 𝓤 H A W 𝓣 E G26 G27 b34 Δ0 (Typed.pass T26 T27 s24) at50 (Scalar.g-room 𝓤 H A W E G26 15 type·2 (Shared.room-sslice 𝓤 H A W (Referent.rtF (Referent.fInt Syntax.w32)) type·1 8)) d50
 
           d52 : Typed.Typed 𝓤 H A 𝓣 E G25 b35 Δ0 at52
-          d52 = Typed.s-seq 𝓤 H A W 𝓣 E G25 G26 b13 b34 Δ0 (Typed.both s23) at51 (Plain.t-call-plain 𝓤 H A W 𝓣 5 ps·2 r·2 (claims· .4) (claims· .5) "arc_swap::number_of" (known .2) E (λ pos β. β) G25 (record { pos = 1; ty = Syntax.tyRef (Syntax.named 0) Syntax.imm (Syntax.tyInt Syntax.w32); ref = λ x. x }, (record { pos = 2; ty = Syntax.tyRef (Syntax.named 1) Syntax.imm (Syntax.tyInt Syntax.w32); ref = λ x. x }, (record { pos = 3; ty = Syntax.tyRef (Syntax.named 2) Syntax.imm (Syntax.tyInt Syntax.w32); ref = λ x. x }, (record { pos = 4; ty = Syntax.tyRef (Syntax.named 3) Syntax.imm (Syntax.tyInt Syntax.w32); ref = λ x. x }, (record { pos = 15; ty = Syntax.tyRef Syntax.erased Syntax.imm (Syntax.tyInt Syntax.w32); ref = λ x. x }, (record { pos = 7; st = List.[]; d = 0; at = λ x. x }, tt)))))) 9 (List._∷_ 0 (List._∷_ 1 (List._∷_ 2 (List._∷_ 3 (List._∷_ 8 List.[]))))) (Call.sub-id 𝓤 H A W (G25 .slots)) (ShrSlice.spares-sslice 𝓤 H A W (Referent.rtF (Referent.fInt Syntax.w32)) type·7 0, Shared.reads-sslice 𝓤 H A W (Referent.rtF (Referent.fInt Syntax.w32)) type·7 0, Path'.refl, (ShrSlice.spares-sslice 𝓤 H A W (Referent.rtF (Referent.fInt Syntax.w32)) type·8 1, Shared.reads-sslice 𝓤 H A W (Referent.rtF (Referent.fInt Syntax.w32)) type·8 1, Path'.refl, (ShrSlice.spares-sslice 𝓤 H A W (Referent.rtF (Referent.fInt Syntax.w32)) type·9 2, Shared.reads-sslice 𝓤 H A W (Referent.rtF (Referent.fInt Syntax.w32)) type·9 2, Path'.refl, (ShrSlice.spares-sslice 𝓤 H A W (Referent.rtF (Referent.fInt Syntax.w32)) type·10 3, Shared.reads-sslice 𝓤 H A W (Referent.rtF (Referent.fInt Syntax.w32)) type·10 3, Path'.refl, (ShrSlice.spares-sslice 𝓤 H A W (Referent.rtF (Referent.fInt Syntax.w32)) type·1 8, Shared.reads-sslice 𝓤 H A W (Referent.rtF (Referent.fInt Syntax.w32)) type·1 8, Path'.refl, ((Yields.yields-copy 𝓤 H A W (λ ρ. Unit) (Declared.row Settings.the-type) Path'.refl (Copies.cStruct Settings.the-type Laws'.the-laws Laws'.the-copy .copy 𝓤 H A W) (Rows.whole (Declared.row Settings.the-type)) (λ x. x) (λ x. x) (λ ρ told. Local.mem-whole 𝓤 H A W (Declared.row Settings.the-type) ρ) λ ρ told. Local.whole-mem 𝓤 H A W (Declared.row Settings.the-type) ρ, Path'.refl), tt)))))) (Reads.room-gone 𝓤 H A (Syntax.tyInt Syntax.w32)) (tt, (tt, (tt, (tt, (tt, tt))))) Path'.refl) d51
+          d52 = Typed.s-seq 𝓤 H A W 𝓣 E G25 G26 b13 b34 Δ0 (Typed.both s23) at51 (Plain.t-call-plain 𝓤 H A W 𝓣 5 ps·2 r·2 (claims· .4) (claims· .5) "arc_swap::number::number_of" (known .2) E (λ pos β. β) G25 (record { pos = 1; ty = Syntax.tyRef (Syntax.named 0) Syntax.imm (Syntax.tyInt Syntax.w32); ref = λ x. x }, (record { pos = 2; ty = Syntax.tyRef (Syntax.named 1) Syntax.imm (Syntax.tyInt Syntax.w32); ref = λ x. x }, (record { pos = 3; ty = Syntax.tyRef (Syntax.named 2) Syntax.imm (Syntax.tyInt Syntax.w32); ref = λ x. x }, (record { pos = 4; ty = Syntax.tyRef (Syntax.named 3) Syntax.imm (Syntax.tyInt Syntax.w32); ref = λ x. x }, (record { pos = 15; ty = Syntax.tyRef Syntax.erased Syntax.imm (Syntax.tyInt Syntax.w32); ref = λ x. x }, (record { pos = 7; st = List.[]; d = 0; at = λ x. x }, tt)))))) 9 (List._∷_ 0 (List._∷_ 1 (List._∷_ 2 (List._∷_ 3 (List._∷_ 8 List.[]))))) (Call.sub-id 𝓤 H A W (G25 .slots)) (ShrSlice.spares-sslice 𝓤 H A W (Referent.rtF (Referent.fInt Syntax.w32)) type·7 0, Shared.reads-sslice 𝓤 H A W (Referent.rtF (Referent.fInt Syntax.w32)) type·7 0, Path'.refl, (ShrSlice.spares-sslice 𝓤 H A W (Referent.rtF (Referent.fInt Syntax.w32)) type·8 1, Shared.reads-sslice 𝓤 H A W (Referent.rtF (Referent.fInt Syntax.w32)) type·8 1, Path'.refl, (ShrSlice.spares-sslice 𝓤 H A W (Referent.rtF (Referent.fInt Syntax.w32)) type·9 2, Shared.reads-sslice 𝓤 H A W (Referent.rtF (Referent.fInt Syntax.w32)) type·9 2, Path'.refl, (ShrSlice.spares-sslice 𝓤 H A W (Referent.rtF (Referent.fInt Syntax.w32)) type·10 3, Shared.reads-sslice 𝓤 H A W (Referent.rtF (Referent.fInt Syntax.w32)) type·10 3, Path'.refl, (ShrSlice.spares-sslice 𝓤 H A W (Referent.rtF (Referent.fInt Syntax.w32)) type·1 8, Shared.reads-sslice 𝓤 H A W (Referent.rtF (Referent.fInt Syntax.w32)) type·1 8, Path'.refl, ((Yields.yields-copy 𝓤 H A W (λ ρ. Unit) (Declared.row Settings.the-type) Path'.refl (Copies.cStruct Settings.the-type Laws'.the-laws Laws'.the-copy .copy 𝓤 H A W) (Rows.whole (Declared.row Settings.the-type)) (λ x. x) (λ x. x) (λ ρ told. Local.mem-whole 𝓤 H A W (Declared.row Settings.the-type) ρ) λ ρ told. Local.whole-mem 𝓤 H A W (Declared.row Settings.the-type) ρ, Path'.refl), tt)))))) (Reads.room-gone 𝓤 H A (Syntax.tyInt Syntax.w32)) (tt, (tt, (tt, (tt, (tt, tt))))) Path'.refl) d51
 
           d53 : Typed.Typed 𝓤 H A 𝓣 E G24 b36 Δ0 at53
           d53 = Typed.s-seq 𝓤 H A W 𝓣 E G24 G25 b12 b35 Δ0 (Typed.ask s22) at52 (Relend.t-sl-aggregate 𝓤 H A W E (Referent.rtF (Referent.fInt Syntax.w32)) 𝓣 (Relend.asShr (Referent.rtF (Referent.fInt Syntax.w32))) G24 14 15 8 type·1 type·1 (λ x. x) (Scalar.oFld 5 (List._∷_ (Syntax.field 1) List.[]) (Syntax.tyInt Syntax.w64) 8 λ v. Shared.lenV (v .0)) (Reads.as-is 𝓤 H A (Relend.ssptr (Referent.rtF (Referent.fInt Syntax.w32)) type·1 8)) (Reads.room-gone 𝓤 H A type·2) (Reshare.reads-owedS-len 𝓤 H A W (Referent.rtF (Referent.fInt Syntax.w32)) type·11 4 8 (Row.lease (κs .1 .1 .1 .1 .0) (qs .1 .1 .1 .1 .0)) 8 Path'.refl, Path'.refl) Path'.refl Path'.refl λ b o k. tt) d52
@@ -1867,6 +1870,6 @@ module _ (claims· : Claims) where
           pub asked : (a : Kinds.Dens κs ps) → (good : Kinds.GoodsP κs ps a) → (pre : Pre· κs a) → (bs : List.List Nat.ℕ) → Φ (Any.wantQ 7 ps r xs m κs qs a (Post· κs a)) (Function.init 7 ps r xs m κs qs a)
           asked = λ a good pre bs. laid record { κs = κs; args = record { starts = a .0; neighbours = a .1 .0; arc-weights = a .1 .1 .0; weights = a .1 .1 .1 .0; labels = a .1 .1 .1 .1 .0; stack = a .1 .1 .1 .1 .1 .0; settings = a .1 .1 .1 .1 .1 .1 .0; run = a .1 .1 .1 .1 .1 .1 .1 .0 }; good = good; pre = pre }
 
-        module _ {M : Type 1} (𝓤 : URA.URA M) (H : Wp.Heap 𝓤) (A : Atoms.Atoms 𝓤) (W : Kit.Given 𝓤 H A) (𝓣 : Wp.Tables 𝓤 H) (known0 : Plain.Known 𝓤 H A W 𝓣 1 ps·0 r·0 (claims· .0) (claims· .1) "arc_swap::zero_run") (known1 : Plain.Known 𝓤 H A W 𝓣 0 ps·1 r·1 (claims· .2) (claims· .3) "arc_swap::bare_report") (known2 : Plain.Known 𝓤 H A W 𝓣 5 ps·2 r·2 (claims· .4) (claims· .5) "arc_swap::number_of") (known3 : Plain.Known 𝓤 H A W 𝓣 7 ps·3 r·3 (claims· .6) (claims· .7) "arc_swap::swap_all") where
+        module _ {M : Type 1} (𝓤 : URA.URA M) (H : Wp.Heap 𝓤) (A : Atoms.Atoms 𝓤) (W : Kit.Given 𝓤 H A) (𝓣 : Wp.Tables 𝓤 H) (known0 : Plain.Known 𝓤 H A W 𝓣 1 ps·0 r·0 (claims· .0) (claims· .1) "arc_swap::zero_run") (known1 : Plain.Known 𝓤 H A W 𝓣 0 ps·1 r·1 (claims· .2) (claims· .3) "arc_swap::answers::bare_report") (known2 : Plain.Known 𝓤 H A W 𝓣 5 ps·2 r·2 (claims· .4) (claims· .5) "arc_swap::number::number_of") (known3 : Plain.Known 𝓤 H A W 𝓣 7 ps·3 r·3 (claims· .6) (claims· .7) "arc_swap::swap_all") where
           pub spec : Statement.Triple 𝓤 (Wp.WpFn 𝓤 H (𝓣 .C) (𝓣 .Λ) (Function.fnOf 7 ps r xs m hs body)) (Function.plainOf 𝓤 H A 7 ps r Pre· Post·)
           spec = Plain.t-fn-plain 𝓤 H A W 𝓣 7 ps r xs m hs body (λ κs qs bs. Φ) (λ κs qs bs bd. typed κs qs 𝓤 H A W 𝓣 (known0, known1, known2, known3) bs bd) Pre· Post· asked

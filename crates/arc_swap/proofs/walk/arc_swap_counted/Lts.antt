@@ -104,7 +104,10 @@ abbrev pub type·12 : Syntax.Ty
 type·12 = Syntax.tyRef (Syntax.named 5) Syntax.mut (Syntax.tyInt Syntax.w32)
 
 abbrev pub type·13 : Syntax.Ty
-type·13 = Syntax.tyStruct (List._∷_ 97 (List._∷_ 114 (List._∷_ 99 (List._∷_ 95 (List._∷_ 115 (List._∷_ 119 (List._∷_ 97 (List._∷_ 112 (List._∷_ 58 (List._∷_ 58 (List._∷_ 83 (List._∷_ 101 (List._∷_ 116 (List._∷_ 116 (List._∷_ 105 (List._∷_ 110 (List._∷_ 103 (List._∷_ 115 List.[])))))))))))))))))) (Syntax.tcons (Syntax.tyInt Syntax.w32) (Syntax.tcons (Syntax.tyInt Syntax.w32) (Syntax.tcons (Syntax.tyFloat Ieee.binary64) Syntax.tnil)))
+type·13 = Syntax.tyStruct (List._∷_ 105 (List._∷_ 109 (List._∷_ 98 (List._∷_ 97 (List._∷_ 108 (List._∷_ 97 (List._∷_ 110 (List._∷_ 99 (List._∷_ 101 (List._∷_ 58 (List._∷_ 58 (List._∷_ 67 (List._∷_ 101 (List._∷_ 105 (List._∷_ 108 (List._∷_ 105 (List._∷_ 110 (List._∷_ 103 List.[])))))))))))))))))) (Syntax.tcons (Syntax.tyInt Syntax.w32) (Syntax.tcons (Syntax.tyInt Syntax.w32) (Syntax.tcons (Syntax.tyFloat Ieee.binary64) Syntax.tnil)))
+
+abbrev pub type·14 : Syntax.Ty
+type·14 = Syntax.tyStruct (List._∷_ 97 (List._∷_ 114 (List._∷_ 99 (List._∷_ 95 (List._∷_ 115 (List._∷_ 119 (List._∷_ 97 (List._∷_ 112 (List._∷_ 58 (List._∷_ 58 (List._∷_ 83 (List._∷_ 101 (List._∷_ 116 (List._∷_ 116 (List._∷_ 105 (List._∷_ 110 (List._∷_ 103 (List._∷_ 115 List.[])))))))))))))))))) (Syntax.tcons type·13 Syntax.tnil)
 
 abbrev pub row·0 : Row.Entry
 row·0 = (0, Rows'.any-gone type·6)
@@ -164,7 +167,7 @@ abbrev pub row·18 : Row.Entry
 row·18 = (0, Rows'.whole (Declared.row Answered.the-type))
 
 abbrev pub row·19 : Row.Entry
-row·19 = (7, Rows'.any-gone type·13)
+row·19 = (7, Rows'.any-gone type·14)
 
 abbrev pub row·20 : Row.Entry
 row·20 = (10, Rows.arrF RunRecordTy.R 1 0)
@@ -278,7 +281,7 @@ abbrev b10 : Syntax.Body
 b10 = Syntax.assign (Syntax.place 10 List.[]) (Syntax.rvOpd (Syntax.copy (Syntax.place 8 List.[])))
 
 abbrev b11 : Syntax.Body
-b11 = Syntax.call "arc_swap::with_counts" (List._∷_ (Syntax.copy (Syntax.place 9 List.[])) (List._∷_ (Syntax.copy (Syntax.place 10 List.[])) List.[])) (Syntax.place 0 List.[])
+b11 = Syntax.call "arc_swap::answers::with_counts" (List._∷_ (Syntax.copy (Syntax.place 9 List.[])) (List._∷_ (Syntax.copy (Syntax.place 10 List.[])) List.[])) (Syntax.place 0 List.[])
 
 abbrev b12 : Syntax.Body
 b12 = Syntax.return
@@ -558,7 +561,7 @@ module _ (claims· : Claims) where
   s21 = λ bs. Call.callB ps·1 r·1 (claims· .2) (claims· .3) T22 (record { pos = 1; ty = Syntax.tyRef (Syntax.named 0) Syntax.imm (Syntax.tyInt Syntax.w32); ref = λ x. x }, (record { pos = 2; ty = Syntax.tyRef (Syntax.named 1) Syntax.imm (Syntax.tyInt Syntax.w32); ref = λ x. x }, (record { pos = 3; ty = Syntax.tyRef (Syntax.named 2) Syntax.imm (Syntax.tyInt Syntax.w32); ref = λ x. x }, (record { pos = 4; ty = Syntax.tyRef (Syntax.named 3) Syntax.imm (Syntax.tyInt Syntax.w32); ref = λ x. x }, (record { pos = 12; ty = Syntax.tyRef Syntax.erased Syntax.mut (Syntax.tyInt Syntax.w32); ref = λ x. x }, (record { pos = 14; ty = Syntax.tyRef Syntax.erased Syntax.mut (Syntax.tyInt Syntax.w32); ref = λ x. x }, (record { pos = 7; st = List.[]; d = 0; at = λ x. x }, (record { pos = 17; ty = Syntax.tyRef Syntax.erased Syntax.mut RunRecordTy.behind; ref = λ x. x }, tt)))))))) 9 (List._∷_ 0 (List._∷_ 1 (List._∷_ 2 (List._∷_ 3 (List._∷_ 6 (List._∷_ 7 (List._∷_ 8 List.[]))))))) type·1
 
   abbrev s22 : (bs : List.List Nat.ℕ) → Typed.Mo T23 → Typed.Mo T24
-  s22 = λ bs. Scalar.n-room T23 7 type·13
+  s22 = λ bs. Scalar.n-room T23 7 type·14
 
   abbrev s24 : (bs : List.List Nat.ℕ) → Typed.Both T24 T26
   s24 = λ bs. Relend.k-back-sl (Referent.rtF (Referent.fInt Syntax.w32)) T24 12 5 4 6 type·11 type·2 Row.off (λ x. x) λ x. x
@@ -593,7 +596,7 @@ module _ (claims· : Claims) where
   module _ (Pre· : (κs : Lifetimes.Lfts 6) → Kinds.Dens κs ps → Type 0) (Post· : (κs : Lifetimes.Lfts 6) → (a : Kinds.Dens κs ps) → Kinds.Plain 6 ps r κs) where
     module _ (M : Type 1) where
       abbrev pub Closed : Type 2
-      Closed = (𝓤 : URA.URA M) (H : Wp.Heap 𝓤) (A : Atoms.Atoms 𝓤) (W : Kit.Given 𝓤 H A) (𝓣 : Wp.Tables 𝓤 H) (known0 : Plain.Known 𝓤 H A W 𝓣 0 ps·0 r·0 (claims· .0) (claims· .1) "arc_swap::blank_runs") (known1 : Plain.Known 𝓤 H A W 𝓣 7 ps·1 r·1 (claims· .2) (claims· .3) "arc_swap::arc_swap") (known2 : Plain.Known 𝓤 H A W 𝓣 0 ps·2 r·2 (claims· .4) (claims· .5) "arc_swap::with_counts") → Statement.Triple 𝓤 (Wp.WpFn 𝓤 H (𝓣 .C) (𝓣 .Λ) (Function.fnOf 6 ps r xs m hs body)) (Function.plainOf 𝓤 H A 6 ps r Pre· Post·)
+      Closed = (𝓤 : URA.URA M) (H : Wp.Heap 𝓤) (A : Atoms.Atoms 𝓤) (W : Kit.Given 𝓤 H A) (𝓣 : Wp.Tables 𝓤 H) (known0 : Plain.Known 𝓤 H A W 𝓣 0 ps·0 r·0 (claims· .0) (claims· .1) "arc_swap::blank_runs") (known1 : Plain.Known 𝓤 H A W 𝓣 7 ps·1 r·1 (claims· .2) (claims· .3) "arc_swap::arc_swap") (known2 : Plain.Known 𝓤 H A W 𝓣 0 ps·2 r·2 (claims· .4) (claims· .5) "arc_swap::answers::with_counts") → Statement.Triple 𝓤 (Wp.WpFn 𝓤 H (𝓣 .C) (𝓣 .Λ) (Function.fnOf 6 ps r xs m hs body)) (Function.plainOf 𝓤 H A 6 ps r Pre· Post·)
 
     module _ where
       abbrev at0 : (bs : List.List Nat.ℕ) → Typed.TF T40 O0
@@ -721,7 +724,7 @@ module _ (claims· : Claims) where
 
       module _ {M : Type 1} (𝓤 : URA.URA M) (H : Wp.Heap 𝓤) (A : Atoms.Atoms 𝓤) (W : Kit.Given 𝓤 H A) (𝓣 : Wp.Tables 𝓤 H) where
         abbrev Knowns : Type 1
-        Knowns = Plain.Known 𝓤 H A W 𝓣 0 ps·0 r·0 (claims· .0) (claims· .1) "arc_swap::blank_runs" × Plain.Known 𝓤 H A W 𝓣 7 ps·1 r·1 (claims· .2) (claims· .3) "arc_swap::arc_swap" × Plain.Known 𝓤 H A W 𝓣 0 ps·2 r·2 (claims· .4) (claims· .5) "arc_swap::with_counts"
+        Knowns = Plain.Known 𝓤 H A W 𝓣 0 ps·0 r·0 (claims· .0) (claims· .1) "arc_swap::blank_runs" × Plain.Known 𝓤 H A W 𝓣 7 ps·1 r·1 (claims· .2) (claims· .3) "arc_swap::arc_swap" × Plain.Known 𝓤 H A W 𝓣 0 ps·2 r·2 (claims· .4) (claims· .5) "arc_swap::answers::with_counts"
 
       module _ (κs : Lifetimes.Lfts 6) (qs : Lifetimes.Shares 6) where
         abbrev g6 : List.List Row.Entry
@@ -915,7 +918,7 @@ module _ (claims· : Claims) where
           d2 = Typed.g-pre 𝓤 H A W 𝓣 E G38 G39 b12 Δ0 (Typed.pass T38 T39 (s37 bs)) (at1 bs) (Scalar.g-room 𝓤 H A W E G38 9 type·1 (Local.room-whole 𝓤 H A W (Declared.row Report.the-type) type·1 Path'.refl)) d1
 
           d3 : Typed.Typed 𝓤 H A 𝓣 E G37 b13 Δ0 (at3 bs)
-          d3 = Typed.s-seq 𝓤 H A W 𝓣 E G37 G38 b11 b12 Δ0 (Typed.both (s36 bs)) (at2 bs) (Plain.t-call-plain 𝓤 H A W 𝓣 0 ps·2 r·2 (claims· .4) (claims· .5) "arc_swap::with_counts" (known .2) E (λ pos β. β) G37 (record { pos = 9; st = List.[]; d = 0; at = λ x. x }, (record { pos = 10; st = List.[]; d = 0; at = λ x. x }, tt)) 0 List.[] (Call.sub-id 𝓤 H A W (G37 .slots)) ((Yields.yields-copy 𝓤 H A W (λ ρ. Unit) (Declared.row Report.the-type) Path'.refl (Copies.cStruct Report.the-type Laws'.the-laws Laws'.the-copy .copy 𝓤 H A W) (Rows'.whole (Declared.row Report.the-type)) (λ x. x) (λ x. x) (λ ρ told. Local.mem-whole 𝓤 H A W (Declared.row Report.the-type) ρ) λ ρ told. Local.whole-mem 𝓤 H A W (Declared.row Report.the-type) ρ, Path'.refl), ((Array.arr-yields 𝓤 H A W RunRecordTy.element RunRecordTy.element-laws 1, Path'.refl), tt)) (Reads.room-gone 𝓤 H A type·6) tt Path'.refl) d2
+          d3 = Typed.s-seq 𝓤 H A W 𝓣 E G37 G38 b11 b12 Δ0 (Typed.both (s36 bs)) (at2 bs) (Plain.t-call-plain 𝓤 H A W 𝓣 0 ps·2 r·2 (claims· .4) (claims· .5) "arc_swap::answers::with_counts" (known .2) E (λ pos β. β) G37 (record { pos = 9; st = List.[]; d = 0; at = λ x. x }, (record { pos = 10; st = List.[]; d = 0; at = λ x. x }, tt)) 0 List.[] (Call.sub-id 𝓤 H A W (G37 .slots)) ((Yields.yields-copy 𝓤 H A W (λ ρ. Unit) (Declared.row Report.the-type) Path'.refl (Copies.cStruct Report.the-type Laws'.the-laws Laws'.the-copy .copy 𝓤 H A W) (Rows'.whole (Declared.row Report.the-type)) (λ x. x) (λ x. x) (λ ρ told. Local.mem-whole 𝓤 H A W (Declared.row Report.the-type) ρ) λ ρ told. Local.whole-mem 𝓤 H A W (Declared.row Report.the-type) ρ, Path'.refl), ((Array.arr-yields 𝓤 H A W RunRecordTy.element RunRecordTy.element-laws 1, Path'.refl), tt)) (Reads.room-gone 𝓤 H A type·6) tt Path'.refl) d2
 
           d4 : Typed.Typed 𝓤 H A 𝓣 E G36 b13 Δ0 (at4 bs)
           d4 = Typed.g-pre 𝓤 H A W 𝓣 E G36 G37 b13 Δ0 (Typed.pass T36 T37 (s35 bs)) (at3 bs) (Scalar.g-room 𝓤 H A W E G36 8 (Syntax.tyArray RunRecordTy.by-value 1) (Init.room-arr 𝓤 H A W RunRecordTy.R 1 0 1 Path'.refl)) d3
@@ -957,7 +960,7 @@ module _ (claims· : Claims) where
           d16 = Typed.g-pre 𝓤 H A W 𝓣 E G24 G25 b14 Δ0 (λ Ψ. Ψ) (at15 bs) (Lifetime.g-end 𝓤 H A W E G24 6 Path'.refl) d15
 
           d17 : Typed.Typed 𝓤 H A 𝓣 E G23 b14 Δ0 (at17 bs)
-          d17 = Typed.g-pre 𝓤 H A W 𝓣 E G23 G24 b14 Δ0 (Typed.pass T23 T24 (s22 bs)) (at16 bs) (Scalar.g-room 𝓤 H A W E G23 7 type·13 (Local.room-whole 𝓤 H A W (Declared.row Settings.the-type) type·13 Path'.refl)) d16
+          d17 = Typed.g-pre 𝓤 H A W 𝓣 E G23 G24 b14 Δ0 (Typed.pass T23 T24 (s22 bs)) (at16 bs) (Scalar.g-room 𝓤 H A W E G23 7 type·14 (Local.room-whole 𝓤 H A W (Declared.row Settings.the-type) type·14 Path'.refl)) d16
 
           d18 : Typed.Typed 𝓤 H A 𝓣 E G22 b15 Δ0 (at18 bs)
           d18 = Typed.s-seq 𝓤 H A W 𝓣 E G22 G23 b9 b14 Δ0 (Typed.both (s21 bs)) (at17 bs) (Plain.t-call-plain 𝓤 H A W 𝓣 7 ps·1 r·1 (claims· .2) (claims· .3) "arc_swap::arc_swap" (known .1) E (λ pos β. β) G22 (record { pos = 1; ty = Syntax.tyRef (Syntax.named 0) Syntax.imm (Syntax.tyInt Syntax.w32); ref = λ x. x }, (record { pos = 2; ty = Syntax.tyRef (Syntax.named 1) Syntax.imm (Syntax.tyInt Syntax.w32); ref = λ x. x }, (record { pos = 3; ty = Syntax.tyRef (Syntax.named 2) Syntax.imm (Syntax.tyInt Syntax.w32); ref = λ x. x }, (record { pos = 4; ty = Syntax.tyRef (Syntax.named 3) Syntax.imm (Syntax.tyInt Syntax.w32); ref = λ x. x }, (record { pos = 12; ty = Syntax.tyRef Syntax.erased Syntax.mut (Syntax.tyInt Syntax.w32); ref = λ x. x }, (record { pos = 14; ty = Syntax.tyRef Syntax.erased Syntax.mut (Syntax.tyInt Syntax.w32); ref = λ x. x }, (record { pos = 7; st = List.[]; d = 0; at = λ x. x }, (record { pos = 17; ty = Syntax.tyRef Syntax.erased Syntax.mut RunRecordTy.behind; ref = λ x. x }, tt)))))))) 9 (List._∷_ 0 (List._∷_ 1 (List._∷_ 2 (List._∷_ 3 (List._∷_ 6 (List._∷_ 7 (List._∷_ 8 List.[]))))))) (Call.sub-id 𝓤 H A W (G22 .slots)) (ShrSlice.spares-sslice 𝓤 H A W (Referent.rtF (Referent.fInt Syntax.w32)) type·7 0, Shared.reads-sslice 𝓤 H A W (Referent.rtF (Referent.fInt Syntax.w32)) type·7 0, Path'.refl, (ShrSlice.spares-sslice 𝓤 H A W (Referent.rtF (Referent.fInt Syntax.w32)) type·8 1, Shared.reads-sslice 𝓤 H A W (Referent.rtF (Referent.fInt Syntax.w32)) type·8 1, Path'.refl, (ShrSlice.spares-sslice 𝓤 H A W (Referent.rtF (Referent.fInt Syntax.w32)) type·9 2, Shared.reads-sslice 𝓤 H A W (Referent.rtF (Referent.fInt Syntax.w32)) type·9 2, Path'.refl, (ShrSlice.spares-sslice 𝓤 H A W (Referent.rtF (Referent.fInt Syntax.w32)) type·10 3, Shared.reads-sslice 𝓤 H A W (Referent.rtF (Referent.fInt Syntax.w32)) type·10 3, Path'.refl, (Reads.as-is 𝓤 H A (Mut.mslice (Referent.rtF (Referent.fInt Syntax.w32)) type·2 6), Mut.reads-mslice 𝓤 H A W (Referent.rtF (Referent.fInt Syntax.w32)) type·2 6, Path'.refl, (Reads.as-is 𝓤 H A (Mut.mslice (Referent.rtF (Referent.fInt Syntax.w32)) type·2 7), Mut.reads-mslice 𝓤 H A W (Referent.rtF (Referent.fInt Syntax.w32)) type·2 7, Path'.refl, ((Yields.yields-copy 𝓤 H A W (λ ρ. Unit) (Declared.row Settings.the-type) Path'.refl (Copies.cStruct Settings.the-type Laws''.the-laws Laws''.the-copy .copy 𝓤 H A W) (Rows'.whole (Declared.row Settings.the-type)) (λ x. x) (λ x. x) (λ ρ told. Local.mem-whole 𝓤 H A W (Declared.row Settings.the-type) ρ) λ ρ told. Local.whole-mem 𝓤 H A W (Declared.row Settings.the-type) ρ, Path'.refl), (Reads.as-is 𝓤 H A (Rows'.mref RunRecordTy.R type·4 8), Reads.reads-mref 𝓤 H A W RunRecordTy.R type·4 8, Path'.refl, tt)))))))) (Reads.room-gone 𝓤 H A type·1) (tt, (tt, (tt, (tt, (tt, (tt, (tt, tt))))))) Path'.refl) d17
@@ -1319,6 +1322,6 @@ module _ (claims· : Claims) where
           pub asked : (a : Kinds.Dens κs ps) → (good : Kinds.GoodsP κs ps a) → (pre : Pre· κs a) → (bs : List.List Nat.ℕ) → Φ bs (Any.wantQ 6 ps r xs m κs qs a (Post· κs a)) (Function.init 6 ps r xs m κs qs a)
           asked = λ a good pre bs. laid record { κs = κs; args = record { starts = a .0; neighbours = a .1 .0; arc-weights = a .1 .1 .0; weights = a .1 .1 .1 .0; labels = a .1 .1 .1 .1 .0; stack = a .1 .1 .1 .1 .1 .0; settings = a .1 .1 .1 .1 .1 .1 .0 }; blocks = bs; good = good; pre = pre }
 
-        module _ {M : Type 1} (𝓤 : URA.URA M) (H : Wp.Heap 𝓤) (A : Atoms.Atoms 𝓤) (W : Kit.Given 𝓤 H A) (𝓣 : Wp.Tables 𝓤 H) (known0 : Plain.Known 𝓤 H A W 𝓣 0 ps·0 r·0 (claims· .0) (claims· .1) "arc_swap::blank_runs") (known1 : Plain.Known 𝓤 H A W 𝓣 7 ps·1 r·1 (claims· .2) (claims· .3) "arc_swap::arc_swap") (known2 : Plain.Known 𝓤 H A W 𝓣 0 ps·2 r·2 (claims· .4) (claims· .5) "arc_swap::with_counts") where
+        module _ {M : Type 1} (𝓤 : URA.URA M) (H : Wp.Heap 𝓤) (A : Atoms.Atoms 𝓤) (W : Kit.Given 𝓤 H A) (𝓣 : Wp.Tables 𝓤 H) (known0 : Plain.Known 𝓤 H A W 𝓣 0 ps·0 r·0 (claims· .0) (claims· .1) "arc_swap::blank_runs") (known1 : Plain.Known 𝓤 H A W 𝓣 7 ps·1 r·1 (claims· .2) (claims· .3) "arc_swap::arc_swap") (known2 : Plain.Known 𝓤 H A W 𝓣 0 ps·2 r·2 (claims· .4) (claims· .5) "arc_swap::answers::with_counts") where
           pub spec : Statement.Triple 𝓤 (Wp.WpFn 𝓤 H (𝓣 .C) (𝓣 .Λ) (Function.fnOf 6 ps r xs m hs body)) (Function.plainOf 𝓤 H A 6 ps r Pre· Post·)
           spec = Plain.t-fn-plain 𝓤 H A W 𝓣 6 ps r xs m hs body (λ κs qs bs. Φ bs) (λ κs qs bs bd. typed κs qs 𝓤 H A W 𝓣 (known0, known1, known2) bs bd) Pre· Post· asked

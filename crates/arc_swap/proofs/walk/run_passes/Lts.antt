@@ -275,7 +275,7 @@ abbrev b9 : Syntax.Body
 b9 = Syntax.assign (Syntax.place 12 List.[]) (Syntax.op2 (Syntax.add Syntax.unsigned) (Syntax.copy (Syntax.place 12 List.[])) (Syntax.int Syntax.w32 1))
 
 abbrev b10 : Syntax.Body
-b10 = Syntax.call "arc_swap::end_of" (List._∷_ (Syntax.copy (Syntax.place 13 List.[])) (List._∷_ (Syntax.copy (Syntax.place 11 (List._∷_ (Syntax.field 0) List.[]))) (List._∷_ (Syntax.copy (Syntax.place 11 (List._∷_ (Syntax.field 2) List.[]))) List.[]))) (Syntax.place 14 List.[])
+b10 = Syntax.call "arc_swap::steps::end_of" (List._∷_ (Syntax.copy (Syntax.place 13 List.[])) (List._∷_ (Syntax.copy (Syntax.place 11 (List._∷_ (Syntax.field 0) List.[]))) (List._∷_ (Syntax.copy (Syntax.place 11 (List._∷_ (Syntax.field 2) List.[]))) List.[]))) (Syntax.place 14 List.[])
 
 abbrev b11 : Syntax.Body
 b11 = Syntax.assign (Syntax.place 20 List.[]) (Syntax.op2 Syntax.ne (Syntax.copy (Syntax.place 14 List.[])) (Syntax.int Syntax.w32 0))
@@ -686,7 +686,7 @@ module _ (claims· : Claims) where
   module _ (Pre· : (κs : Lifetimes.Lfts 7) → Kinds.Dens κs ps → Type 0) (Post· : (κs : Lifetimes.Lfts 7) → (a : Kinds.Dens κs ps) → Kinds.Plain 7 ps r κs) where
     module _ (M : Type 1) where
       abbrev pub Closed : Type 2
-      Closed = (𝓤 : URA.URA M) (H : Wp.Heap 𝓤) (A : Atoms.Atoms 𝓤) (W : Kit.Given 𝓤 H A) (𝓣 : Wp.Tables 𝓤 H) (known0 : Plain.Known 𝓤 H A W 𝓣 7 ps·0 r·0 (claims· .0) (claims· .1) "arc_swap::sweep_all") (known1 : Plain.Known 𝓤 H A W 𝓣 0 ps·1 r·1 (claims· .2) (claims· .3) "arc_swap::end_of") → Statement.Triple 𝓤 (Wp.WpFn 𝓤 H (𝓣 .C) (𝓣 .Λ) (Function.fnOf 7 ps r xs m hs body)) (Function.plainOf 𝓤 H A 7 ps r Pre· Post·)
+      Closed = (𝓤 : URA.URA M) (H : Wp.Heap 𝓤) (A : Atoms.Atoms 𝓤) (W : Kit.Given 𝓤 H A) (𝓣 : Wp.Tables 𝓤 H) (known0 : Plain.Known 𝓤 H A W 𝓣 7 ps·0 r·0 (claims· .0) (claims· .1) "arc_swap::sweep_all") (known1 : Plain.Known 𝓤 H A W 𝓣 0 ps·1 r·1 (claims· .2) (claims· .3) "arc_swap::steps::end_of") → Statement.Triple 𝓤 (Wp.WpFn 𝓤 H (𝓣 .C) (𝓣 .Λ) (Function.fnOf 7 ps r xs m hs body)) (Function.plainOf 𝓤 H A 7 ps r Pre· Post·)
 
     module _ (Inv·0 : InvT-loop) (μ·0 : MeasureT-loop) where
       abbrev at0 : Typed.TF T43 O3
@@ -847,7 +847,7 @@ module _ (claims· : Claims) where
 
       module _ {M : Type 1} (𝓤 : URA.URA M) (H : Wp.Heap 𝓤) (A : Atoms.Atoms 𝓤) (W : Kit.Given 𝓤 H A) (𝓣 : Wp.Tables 𝓤 H) where
         abbrev Knowns : Type 1
-        Knowns = Plain.Known 𝓤 H A W 𝓣 7 ps·0 r·0 (claims· .0) (claims· .1) "arc_swap::sweep_all" × Plain.Known 𝓤 H A W 𝓣 0 ps·1 r·1 (claims· .2) (claims· .3) "arc_swap::end_of"
+        Knowns = Plain.Known 𝓤 H A W 𝓣 7 ps·0 r·0 (claims· .0) (claims· .1) "arc_swap::sweep_all" × Plain.Known 𝓤 H A W 𝓣 0 ps·1 r·1 (claims· .2) (claims· .3) "arc_swap::steps::end_of"
 
       module _ (κs : Lifetimes.Lfts 7) (qs : Lifetimes.Shares 7) where
         abbrev g7 : List.List Row.Entry
@@ -1092,7 +1092,7 @@ module _ (claims· : Claims) where
           d15 = Typed.s-seq 𝓤 H A W 𝓣 E G33 G34 b11 b16 Δ3 (Typed.ask s32) at14 (Scalar.t-op2 𝓤 H A W E 𝓣 G33 Syntax.ne (Scalar.oAt 14 (Syntax.tyInt Syntax.w32) (Row.valS (Row.sInt Syntax.w32))) (Scalar.oInt Syntax.w32 0) 20 (Rows.sc-here Row.sBool) Syntax.tyBool (Row.valS Row.sBool) (Row.sBool .of) (Scalar.reads-sc 𝓤 H A W (Row.sInt Syntax.w32), Path'.refl) tt (Reads'.room-gone 𝓤 H A Syntax.tyBool) (Scalar.holds-sc 𝓤 H A W Row.sBool) Path'.refl (λ u. Path'.refl) λ u. tt) d14
 
           d16 : Typed.Typed 𝓤 H A 𝓣 E G32 b18 Δ3 at16
-          d16 = Typed.s-seq 𝓤 H A W 𝓣 E G32 G33 b10 b17 Δ3 (Typed.both s31) at15 (Plain.t-call-plain 𝓤 H A W 𝓣 0 ps·1 r·1 (claims· .2) (claims· .3) "arc_swap::end_of" (known .1) E (λ pos β. β) G32 (Num.vAt 13 λ x. x, (Bool.bFld 11 (List._∷_ (Syntax.field 0) List.[]) 0 λ x. Standing.struct .as-values x .0, (Num.vFld 11 (List._∷_ (Syntax.field 2) List.[]) 16 λ x. Standing.struct .as-values x .1 .1 .0, tt))) 14 List.[] (Call.sub-id 𝓤 H A W (G32 .slots)) ((Scalar.reads-sc 𝓤 H A W (Row.sInt Syntax.w64), Path'.refl), ((Reads.reads-field 𝓤 H A W Standing.the-type Laws.the-laws 0 Syntax.tyBool 0 Path'.refl, Path'.refl), ((Reads.reads-field 𝓤 H A W Standing.the-type Laws.the-laws 2 (Syntax.tyInt Syntax.w64) 16 Path'.refl, Path'.refl), tt))) (Reads'.room-gone 𝓤 H A (Syntax.tyInt Syntax.w32)) tt Path'.refl) d15
+          d16 = Typed.s-seq 𝓤 H A W 𝓣 E G32 G33 b10 b17 Δ3 (Typed.both s31) at15 (Plain.t-call-plain 𝓤 H A W 𝓣 0 ps·1 r·1 (claims· .2) (claims· .3) "arc_swap::steps::end_of" (known .1) E (λ pos β. β) G32 (Num.vAt 13 λ x. x, (Bool.bFld 11 (List._∷_ (Syntax.field 0) List.[]) 0 λ x. Standing.struct .as-values x .0, (Num.vFld 11 (List._∷_ (Syntax.field 2) List.[]) 16 λ x. Standing.struct .as-values x .1 .1 .0, tt))) 14 List.[] (Call.sub-id 𝓤 H A W (G32 .slots)) ((Scalar.reads-sc 𝓤 H A W (Row.sInt Syntax.w64), Path'.refl), ((Reads.reads-field 𝓤 H A W Standing.the-type Laws.the-laws 0 Syntax.tyBool 0 Path'.refl, Path'.refl), ((Reads.reads-field 𝓤 H A W Standing.the-type Laws.the-laws 2 (Syntax.tyInt Syntax.w64) 16 Path'.refl, Path'.refl), tt))) (Reads'.room-gone 𝓤 H A (Syntax.tyInt Syntax.w32)) tt Path'.refl) d15
 
           d17 : Typed.Typed 𝓤 H A 𝓣 E G31 b19 Δ3 at17
           d17 = Typed.s-seq 𝓤 H A W 𝓣 E G31 G32 b9 b18 Δ3 (Typed.ask s30) at16 (Scalar.t-op2 𝓤 H A W E 𝓣 G31 (Syntax.add Syntax.unsigned) (Scalar.oAt 12 (Syntax.tyInt Syntax.w32) (Row.valS (Row.sInt Syntax.w32))) (Scalar.oInt Syntax.w32 1) 12 (Rows.sc-here (Row.sInt Syntax.w32)) (Syntax.tyInt Syntax.w32) (Row.valS (Row.sInt Syntax.w32)) (Row.sInt Syntax.w32 .of) (Scalar.reads-sc 𝓤 H A W (Row.sInt Syntax.w32), Path'.refl) tt (Scalar.room-sc 𝓤 H A W (Row.sInt Syntax.w32)) (Scalar.holds-sc 𝓤 H A W (Row.sInt Syntax.w32)) Path'.refl (λ u. Path'.refl) λ u. tt) d16
@@ -1554,6 +1554,6 @@ module _ (claims· : Claims) where
           pub asked : (a : Kinds.Dens κs ps) → (good : Kinds.GoodsP κs ps a) → (pre : Pre· κs a) → (bs : List.List Nat.ℕ) → Φ (Any.wantQ 7 ps r xs m κs qs a (Post· κs a)) (Function.init 7 ps r xs m κs qs a)
           asked = λ a good pre bs. laid record { κs = κs; args = record { starts = a .0; neighbours = a .1 .0; arc-weights = a .1 .1 .0; weights = a .1 .1 .1 .0; labels = a .1 .1 .1 .1 .0; stack = a .1 .1 .1 .1 .1 .0; ceilings = a .1 .1 .1 .1 .1 .1 .0; parts = a .1 .1 .1 .1 .1 .1 .1 .0; first = a .1 .1 .1 .1 .1 .1 .1 .1 .0; run = a .1 .1 .1 .1 .1 .1 .1 .1 .1 .0 }; good = good; fits = record { parts = record { fits = good .1 .1 .1 .1 .1 .1 .1 .0 .1 } }; pre = pre }
 
-        module _ {M : Type 1} (𝓤 : URA.URA M) (H : Wp.Heap 𝓤) (A : Atoms.Atoms 𝓤) (W : Kit.Given 𝓤 H A) (𝓣 : Wp.Tables 𝓤 H) (known0 : Plain.Known 𝓤 H A W 𝓣 7 ps·0 r·0 (claims· .0) (claims· .1) "arc_swap::sweep_all") (known1 : Plain.Known 𝓤 H A W 𝓣 0 ps·1 r·1 (claims· .2) (claims· .3) "arc_swap::end_of") where
+        module _ {M : Type 1} (𝓤 : URA.URA M) (H : Wp.Heap 𝓤) (A : Atoms.Atoms 𝓤) (W : Kit.Given 𝓤 H A) (𝓣 : Wp.Tables 𝓤 H) (known0 : Plain.Known 𝓤 H A W 𝓣 7 ps·0 r·0 (claims· .0) (claims· .1) "arc_swap::sweep_all") (known1 : Plain.Known 𝓤 H A W 𝓣 0 ps·1 r·1 (claims· .2) (claims· .3) "arc_swap::steps::end_of") where
           pub spec : Statement.Triple 𝓤 (Wp.WpFn 𝓤 H (𝓣 .C) (𝓣 .Λ) (Function.fnOf 7 ps r xs m hs body)) (Function.plainOf 𝓤 H A 7 ps r Pre· Post·)
           spec = Plain.t-fn-plain 𝓤 H A W 𝓣 7 ps r xs m hs body (λ κs qs bs. Φ) (λ κs qs bs bd. typed κs qs 𝓤 H A W 𝓣 (known0, known1) bs bd) Pre· Post· asked

@@ -127,7 +127,10 @@ abbrev pub type·17 : Syntax.Ty
 type·17 = Syntax.tyRef (Syntax.named 6) Syntax.mut RunRecordTy.behind
 
 abbrev pub type·18 : Syntax.Ty
-type·18 = Syntax.tyStruct (List._∷_ 97 (List._∷_ 114 (List._∷_ 99 (List._∷_ 95 (List._∷_ 115 (List._∷_ 119 (List._∷_ 97 (List._∷_ 112 (List._∷_ 58 (List._∷_ 58 (List._∷_ 83 (List._∷_ 101 (List._∷_ 116 (List._∷_ 116 (List._∷_ 105 (List._∷_ 110 (List._∷_ 103 (List._∷_ 115 List.[])))))))))))))))))) (Syntax.tcons (Syntax.tyInt Syntax.w32) (Syntax.tcons (Syntax.tyInt Syntax.w32) (Syntax.tcons (Syntax.tyFloat Ieee.binary64) Syntax.tnil)))
+type·18 = Syntax.tyStruct (List._∷_ 105 (List._∷_ 109 (List._∷_ 98 (List._∷_ 97 (List._∷_ 108 (List._∷_ 97 (List._∷_ 110 (List._∷_ 99 (List._∷_ 101 (List._∷_ 58 (List._∷_ 58 (List._∷_ 67 (List._∷_ 101 (List._∷_ 105 (List._∷_ 108 (List._∷_ 105 (List._∷_ 110 (List._∷_ 103 List.[])))))))))))))))))) (Syntax.tcons (Syntax.tyInt Syntax.w32) (Syntax.tcons (Syntax.tyInt Syntax.w32) (Syntax.tcons (Syntax.tyFloat Ieee.binary64) Syntax.tnil)))
+
+abbrev pub type·19 : Syntax.Ty
+type·19 = Syntax.tyStruct (List._∷_ 97 (List._∷_ 114 (List._∷_ 99 (List._∷_ 95 (List._∷_ 115 (List._∷_ 119 (List._∷_ 97 (List._∷_ 112 (List._∷_ 58 (List._∷_ 58 (List._∷_ 83 (List._∷_ 101 (List._∷_ 116 (List._∷_ 116 (List._∷_ 105 (List._∷_ 110 (List._∷_ 103 (List._∷_ 115 List.[])))))))))))))))))) (Syntax.tcons type·18 Syntax.tnil)
 
 abbrev pub row·0 : Row.Entry
 row·0 = (0, Rows.any-gone type·10)
@@ -205,7 +208,7 @@ abbrev pub row·24 : Row.Entry
 row·24 = (0, Rows.whole (Declared.row Report.the-type))
 
 abbrev pub row·25 : Row.Entry
-row·25 = (7, Rows.any-gone type·18)
+row·25 = (7, Rows.any-gone type·19)
 
 abbrev pub row·26 : Row.Entry
 row·26 = (5, Reshare.mslice-owedS (Referent.rtF (Referent.fInt Syntax.w32)) type·15 4 7 Row.off)
@@ -322,7 +325,7 @@ abbrev b1 : Syntax.Body
 b1 = Syntax.assign (Syntax.place 13 List.[]) (Syntax.aggregate (List._∷_ (Syntax.copy (Syntax.place 12 List.[])) (List._∷_ (Syntax.copy (Syntax.place 5 (List._∷_ (Syntax.field 1) List.[]))) List.[])))
 
 abbrev b2 : Syntax.Body
-b2 = Syntax.call "arc_swap::begin_run" (List._∷_ (Syntax.copy (Syntax.place 1 List.[])) (List._∷_ (Syntax.copy (Syntax.place 2 List.[])) (List._∷_ (Syntax.copy (Syntax.place 3 List.[])) (List._∷_ (Syntax.copy (Syntax.place 4 List.[])) (List._∷_ (Syntax.copy (Syntax.place 13 List.[])) (List._∷_ (Syntax.copy (Syntax.place 7 List.[])) List.[])))))) (Syntax.place 9 List.[])
+b2 = Syntax.call "arc_swap::steps::begin_run" (List._∷_ (Syntax.copy (Syntax.place 1 List.[])) (List._∷_ (Syntax.copy (Syntax.place 2 List.[])) (List._∷_ (Syntax.copy (Syntax.place 3 List.[])) (List._∷_ (Syntax.copy (Syntax.place 4 List.[])) (List._∷_ (Syntax.copy (Syntax.place 13 List.[])) (List._∷_ (Syntax.copy (Syntax.place 7 List.[])) List.[])))))) (Syntax.place 9 List.[])
 
 abbrev b3 : Syntax.Body
 b3 = Syntax.assign (Syntax.place 15 List.[]) (Syntax.addrOf (Syntax.place 8 (List._∷_ (Syntax.deref RunRecordTy.by-value) List.[])))
@@ -364,7 +367,7 @@ abbrev b15 : Syntax.Body
 b15 = Syntax.call "lists::clear_numbers" (List._∷_ (Syntax.copy (Syntax.place 22 List.[])) (List._∷_ (Syntax.copy (Syntax.place 23 List.[])) List.[])) (Syntax.place 14 List.[])
 
 abbrev b16 : Syntax.Body
-b16 = Syntax.call "arc_swap::run_report" (List._∷_ (Syntax.copy (Syntax.place 10 (List._∷_ (Syntax.field 2) List.[]))) (List._∷_ (Syntax.copy (Syntax.place 11 List.[])) List.[])) (Syntax.place 0 List.[])
+b16 = Syntax.call "arc_swap::answers::run_report" (List._∷_ (Syntax.copy (Syntax.place 10 (List._∷_ (Syntax.field 2) List.[]))) (List._∷_ (Syntax.copy (Syntax.place 11 List.[])) List.[])) (Syntax.place 0 List.[])
 
 abbrev b17 : Syntax.Body
 b17 = Syntax.return
@@ -701,7 +704,7 @@ module _ (claims· : Claims) where
   s10 = λ bs. Scalar.n-room T11 13 type·6
 
   abbrev s11 : (bs : List.List Nat.ℕ) → Typed.Mo T12 → Typed.Mo T13
-  s11 = λ bs. Scalar.n-room T12 7 type·18
+  s11 = λ bs. Scalar.n-room T12 7 type·19
 
   abbrev s13 : (bs : List.List Nat.ℕ) → Typed.Mo T13 → Typed.Mo T15
   s13 = λ bs. Reshare.n-back-sl-shr (Referent.rtF (Referent.fInt Syntax.w32)) T13 5 4 7 type·15 Row.off λ x. x
@@ -793,7 +796,7 @@ module _ (claims· : Claims) where
   module _ (Pre· : (κs : Lifetimes.Lfts 7) → Kinds.Dens κs ps → Type 0) (Post· : (κs : Lifetimes.Lfts 7) → (a : Kinds.Dens κs ps) → Kinds.Plain 7 ps r κs) where
     module _ (M : Type 1) where
       abbrev pub Closed : Type 2
-      Closed = (𝓤 : URA.URA M) (H : Wp.Heap 𝓤) (A : Atoms.Atoms 𝓤) (W : Kit.Given 𝓤 H A) (𝓣 : Wp.Tables 𝓤 H) (known0 : Plain.Known 𝓤 H A W 𝓣 5 ps·0 r·0 (claims· .0) (claims· .1) "arc_swap::begin_run") (known1 : Plain.Known 𝓤 H A W 𝓣 1 ps·1 r·1 (claims· .2) (claims· .3) "arc_swap::zero_run") (known2 : Plain.Known 𝓤 H A W 𝓣 7 ps·2 r·2 (claims· .4) (claims· .5) "arc_swap::run_passes") (known3 : Plain.Known 𝓤 H A W 𝓣 1 ps·3 r·3 (claims· .6) (claims· .7) "lists::clear_numbers") (known4 : Plain.Known 𝓤 H A W 𝓣 0 ps·4 r·4 (claims· .8) (claims· .9) "arc_swap::run_report") → Statement.Triple 𝓤 (Wp.WpFn 𝓤 H (𝓣 .C) (𝓣 .Λ) (Function.fnOf 7 ps r xs m hs body)) (Function.plainOf 𝓤 H A 7 ps r Pre· Post·)
+      Closed = (𝓤 : URA.URA M) (H : Wp.Heap 𝓤) (A : Atoms.Atoms 𝓤) (W : Kit.Given 𝓤 H A) (𝓣 : Wp.Tables 𝓤 H) (known0 : Plain.Known 𝓤 H A W 𝓣 5 ps·0 r·0 (claims· .0) (claims· .1) "arc_swap::steps::begin_run") (known1 : Plain.Known 𝓤 H A W 𝓣 1 ps·1 r·1 (claims· .2) (claims· .3) "arc_swap::zero_run") (known2 : Plain.Known 𝓤 H A W 𝓣 7 ps·2 r·2 (claims· .4) (claims· .5) "arc_swap::run_passes") (known3 : Plain.Known 𝓤 H A W 𝓣 1 ps·3 r·3 (claims· .6) (claims· .7) "lists::clear_numbers") (known4 : Plain.Known 𝓤 H A W 𝓣 0 ps·4 r·4 (claims· .8) (claims· .9) "arc_swap::answers::run_report") → Statement.Triple 𝓤 (Wp.WpFn 𝓤 H (𝓣 .C) (𝓣 .Λ) (Function.fnOf 7 ps r xs m hs body)) (Function.plainOf 𝓤 H A 7 ps r Pre· Post·)
 
     module _ where
       abbrev at0 : (bs : List.List Nat.ℕ) → Typed.TF T59 O0
@@ -978,7 +981,7 @@ module _ (claims· : Claims) where
 
       module _ {M : Type 1} (𝓤 : URA.URA M) (H : Wp.Heap 𝓤) (A : Atoms.Atoms 𝓤) (W : Kit.Given 𝓤 H A) (𝓣 : Wp.Tables 𝓤 H) where
         abbrev Knowns : Type 1
-        Knowns = Plain.Known 𝓤 H A W 𝓣 5 ps·0 r·0 (claims· .0) (claims· .1) "arc_swap::begin_run" × Plain.Known 𝓤 H A W 𝓣 1 ps·1 r·1 (claims· .2) (claims· .3) "arc_swap::zero_run" × Plain.Known 𝓤 H A W 𝓣 7 ps·2 r·2 (claims· .4) (claims· .5) "arc_swap::run_passes" × Plain.Known 𝓤 H A W 𝓣 1 ps·3 r·3 (claims· .6) (claims· .7) "lists::clear_numbers" × Plain.Known 𝓤 H A W 𝓣 0 ps·4 r·4 (claims· .8) (claims· .9) "arc_swap::run_report"
+        Knowns = Plain.Known 𝓤 H A W 𝓣 5 ps·0 r·0 (claims· .0) (claims· .1) "arc_swap::steps::begin_run" × Plain.Known 𝓤 H A W 𝓣 1 ps·1 r·1 (claims· .2) (claims· .3) "arc_swap::zero_run" × Plain.Known 𝓤 H A W 𝓣 7 ps·2 r·2 (claims· .4) (claims· .5) "arc_swap::run_passes" × Plain.Known 𝓤 H A W 𝓣 1 ps·3 r·3 (claims· .6) (claims· .7) "lists::clear_numbers" × Plain.Known 𝓤 H A W 𝓣 0 ps·4 r·4 (claims· .8) (claims· .9) "arc_swap::answers::run_report"
 
       module _ (κs : Lifetimes.Lfts 7) (qs : Lifetimes.Shares 7) where
         abbrev g3 : List.List Row.Entry
@@ -1259,7 +1262,7 @@ module _ (claims· : Claims) where
           d2 = Typed.g-pre 𝓤 H A W 𝓣 E G57 G58 b17 Δ0 (Typed.pass T57 T58 (s56 bs)) (at1 bs) (Scalar.g-room 𝓤 H A W E G57 10 type·2 (Local.room-whole 𝓤 H A W (Declared.row Standing.the-type) type·2 Path'.refl)) d1
 
           d3 : Typed.Typed 𝓤 H A 𝓣 E G56 b18 Δ0 (at3 bs)
-          d3 = Typed.s-seq 𝓤 H A W 𝓣 E G56 G57 b16 b17 Δ0 (Typed.both (s55 bs)) (at2 bs) (Plain.t-call-plain 𝓤 H A W 𝓣 0 ps·4 r·4 (claims· .8) (claims· .9) "arc_swap::run_report" (known .4) E (λ pos β. β) G56 (Num.vFld 10 (List._∷_ (Syntax.field 2) List.[]) 16 λ x. Standing.struct .as-values x .1 .1 .0, (record { pos = 11; st = List.[]; d = 0; at = λ x. x }, tt)) 0 List.[] (Call.sub-id 𝓤 H A W (G56 .slots)) ((Reads.reads-field 𝓤 H A W Standing.the-type Laws.the-laws 2 (Syntax.tyInt Syntax.w64) 16 Path'.refl, Path'.refl), ((Yields.yields-copy 𝓤 H A W (λ ρ. Unit) (Declared.row Ended.the-type) Path'.refl (Copies.cStruct Ended.the-type Laws''.the-laws Laws''.the-copy .copy 𝓤 H A W) (Rows.whole (Declared.row Ended.the-type)) (λ x. x) (λ x. x) (λ ρ told. Local.mem-whole 𝓤 H A W (Declared.row Ended.the-type) ρ) λ ρ told. Local.whole-mem 𝓤 H A W (Declared.row Ended.the-type) ρ, Path'.refl), tt)) (Reads'.room-gone 𝓤 H A type·10) tt Path'.refl) d2
+          d3 = Typed.s-seq 𝓤 H A W 𝓣 E G56 G57 b16 b17 Δ0 (Typed.both (s55 bs)) (at2 bs) (Plain.t-call-plain 𝓤 H A W 𝓣 0 ps·4 r·4 (claims· .8) (claims· .9) "arc_swap::answers::run_report" (known .4) E (λ pos β. β) G56 (Num.vFld 10 (List._∷_ (Syntax.field 2) List.[]) 16 λ x. Standing.struct .as-values x .1 .1 .0, (record { pos = 11; st = List.[]; d = 0; at = λ x. x }, tt)) 0 List.[] (Call.sub-id 𝓤 H A W (G56 .slots)) ((Reads.reads-field 𝓤 H A W Standing.the-type Laws.the-laws 2 (Syntax.tyInt Syntax.w64) 16 Path'.refl, Path'.refl), ((Yields.yields-copy 𝓤 H A W (λ ρ. Unit) (Declared.row Ended.the-type) Path'.refl (Copies.cStruct Ended.the-type Laws''.the-laws Laws''.the-copy .copy 𝓤 H A W) (Rows.whole (Declared.row Ended.the-type)) (λ x. x) (λ x. x) (λ ρ told. Local.mem-whole 𝓤 H A W (Declared.row Ended.the-type) ρ) λ ρ told. Local.whole-mem 𝓤 H A W (Declared.row Ended.the-type) ρ, Path'.refl), tt)) (Reads'.room-gone 𝓤 H A type·10) tt Path'.refl) d2
 
           d4 : Typed.Typed 𝓤 H A 𝓣 E G55 b18 Δ0 (at4 bs)
           d4 = Typed.g-pre 𝓤 H A W 𝓣 E G55 G56 b18 Δ0 (λ Ψ. Ψ) (at3 bs) (Lifetime.g-forget 𝓤 H A W E G55 12 Row.dead Path'.refl) d3
@@ -1391,13 +1394,13 @@ module _ (claims· : Claims) where
           d46 = Typed.g-pre 𝓤 H A W 𝓣 E G13 G14 b31 Δ0 (λ Ψ. Ψ) (at45 bs) (Lifetime.g-end 𝓤 H A W E G13 7 Path'.refl) d45
 
           d47 : Typed.Typed 𝓤 H A 𝓣 E G12 b31 Δ0 (at47 bs)
-          d47 = Typed.g-pre 𝓤 H A W 𝓣 E G12 G13 b31 Δ0 (Typed.pass T12 T13 (s11 bs)) (at46 bs) (Scalar.g-room 𝓤 H A W E G12 7 type·18 (Local.room-whole 𝓤 H A W (Declared.row Settings.the-type) type·18 Path'.refl)) d46
+          d47 = Typed.g-pre 𝓤 H A W 𝓣 E G12 G13 b31 Δ0 (Typed.pass T12 T13 (s11 bs)) (at46 bs) (Scalar.g-room 𝓤 H A W E G12 7 type·19 (Local.room-whole 𝓤 H A W (Declared.row Settings.the-type) type·19 Path'.refl)) d46
 
           d48 : Typed.Typed 𝓤 H A 𝓣 E G11 b31 Δ0 (at48 bs)
           d48 = Typed.g-pre 𝓤 H A W 𝓣 E G11 G12 b31 Δ0 (Typed.pass T11 T12 (s10 bs)) (at47 bs) (Scalar.g-room 𝓤 H A W E G11 13 type·6 (Shared.room-sslice 𝓤 H A W (Referent.rtF (Referent.fInt Syntax.w32)) type·5 7)) d47
 
           d49 : Typed.Typed 𝓤 H A 𝓣 E G10 b32 Δ0 (at49 bs)
-          d49 = Typed.s-seq 𝓤 H A W 𝓣 E G10 G11 b2 b31 Δ0 (Typed.both (s9 bs)) (at48 bs) (Plain.t-call-plain 𝓤 H A W 𝓣 5 ps·0 r·0 (claims· .0) (claims· .1) "arc_swap::begin_run" (known .0) E (λ pos β. β) G10 (record { pos = 1; ty = Syntax.tyRef (Syntax.named 0) Syntax.imm (Syntax.tyInt Syntax.w32); ref = λ x. x }, (record { pos = 2; ty = Syntax.tyRef (Syntax.named 1) Syntax.imm (Syntax.tyInt Syntax.w32); ref = λ x. x }, (record { pos = 3; ty = Syntax.tyRef (Syntax.named 2) Syntax.imm (Syntax.tyInt Syntax.w32); ref = λ x. x }, (record { pos = 4; ty = Syntax.tyRef (Syntax.named 3) Syntax.imm (Syntax.tyInt Syntax.w32); ref = λ x. x }, (record { pos = 13; ty = Syntax.tyRef Syntax.erased Syntax.imm (Syntax.tyInt Syntax.w32); ref = λ x. x }, (record { pos = 7; st = List.[]; d = 0; at = λ x. x }, tt)))))) 9 (List._∷_ 0 (List._∷_ 1 (List._∷_ 2 (List._∷_ 3 (List._∷_ 7 List.[]))))) (Call.sub-id 𝓤 H A W (G10 .slots)) (ShrSlice.spares-sslice 𝓤 H A W (Referent.rtF (Referent.fInt Syntax.w32)) type·11 0, Shared.reads-sslice 𝓤 H A W (Referent.rtF (Referent.fInt Syntax.w32)) type·11 0, Path'.refl, (ShrSlice.spares-sslice 𝓤 H A W (Referent.rtF (Referent.fInt Syntax.w32)) type·12 1, Shared.reads-sslice 𝓤 H A W (Referent.rtF (Referent.fInt Syntax.w32)) type·12 1, Path'.refl, (ShrSlice.spares-sslice 𝓤 H A W (Referent.rtF (Referent.fInt Syntax.w32)) type·13 2, Shared.reads-sslice 𝓤 H A W (Referent.rtF (Referent.fInt Syntax.w32)) type·13 2, Path'.refl, (ShrSlice.spares-sslice 𝓤 H A W (Referent.rtF (Referent.fInt Syntax.w32)) type·14 3, Shared.reads-sslice 𝓤 H A W (Referent.rtF (Referent.fInt Syntax.w32)) type·14 3, Path'.refl, (ShrSlice.spares-sslice 𝓤 H A W (Referent.rtF (Referent.fInt Syntax.w32)) type·5 7, Shared.reads-sslice 𝓤 H A W (Referent.rtF (Referent.fInt Syntax.w32)) type·5 7, Path'.refl, ((Yields.yields-copy 𝓤 H A W (λ ρ. Unit) (Declared.row Settings.the-type) Path'.refl (Copies.cStruct Settings.the-type Laws'4.the-laws Laws'4.the-copy .copy 𝓤 H A W) (Rows.whole (Declared.row Settings.the-type)) (λ x. x) (λ x. x) (λ ρ told. Local.mem-whole 𝓤 H A W (Declared.row Settings.the-type) ρ) λ ρ told. Local.whole-mem 𝓤 H A W (Declared.row Settings.the-type) ρ, Path'.refl), tt)))))) (Reads'.room-gone 𝓤 H A type·3) (tt, (tt, (tt, (tt, (tt, tt))))) Path'.refl) d48
+          d49 = Typed.s-seq 𝓤 H A W 𝓣 E G10 G11 b2 b31 Δ0 (Typed.both (s9 bs)) (at48 bs) (Plain.t-call-plain 𝓤 H A W 𝓣 5 ps·0 r·0 (claims· .0) (claims· .1) "arc_swap::steps::begin_run" (known .0) E (λ pos β. β) G10 (record { pos = 1; ty = Syntax.tyRef (Syntax.named 0) Syntax.imm (Syntax.tyInt Syntax.w32); ref = λ x. x }, (record { pos = 2; ty = Syntax.tyRef (Syntax.named 1) Syntax.imm (Syntax.tyInt Syntax.w32); ref = λ x. x }, (record { pos = 3; ty = Syntax.tyRef (Syntax.named 2) Syntax.imm (Syntax.tyInt Syntax.w32); ref = λ x. x }, (record { pos = 4; ty = Syntax.tyRef (Syntax.named 3) Syntax.imm (Syntax.tyInt Syntax.w32); ref = λ x. x }, (record { pos = 13; ty = Syntax.tyRef Syntax.erased Syntax.imm (Syntax.tyInt Syntax.w32); ref = λ x. x }, (record { pos = 7; st = List.[]; d = 0; at = λ x. x }, tt)))))) 9 (List._∷_ 0 (List._∷_ 1 (List._∷_ 2 (List._∷_ 3 (List._∷_ 7 List.[]))))) (Call.sub-id 𝓤 H A W (G10 .slots)) (ShrSlice.spares-sslice 𝓤 H A W (Referent.rtF (Referent.fInt Syntax.w32)) type·11 0, Shared.reads-sslice 𝓤 H A W (Referent.rtF (Referent.fInt Syntax.w32)) type·11 0, Path'.refl, (ShrSlice.spares-sslice 𝓤 H A W (Referent.rtF (Referent.fInt Syntax.w32)) type·12 1, Shared.reads-sslice 𝓤 H A W (Referent.rtF (Referent.fInt Syntax.w32)) type·12 1, Path'.refl, (ShrSlice.spares-sslice 𝓤 H A W (Referent.rtF (Referent.fInt Syntax.w32)) type·13 2, Shared.reads-sslice 𝓤 H A W (Referent.rtF (Referent.fInt Syntax.w32)) type·13 2, Path'.refl, (ShrSlice.spares-sslice 𝓤 H A W (Referent.rtF (Referent.fInt Syntax.w32)) type·14 3, Shared.reads-sslice 𝓤 H A W (Referent.rtF (Referent.fInt Syntax.w32)) type·14 3, Path'.refl, (ShrSlice.spares-sslice 𝓤 H A W (Referent.rtF (Referent.fInt Syntax.w32)) type·5 7, Shared.reads-sslice 𝓤 H A W (Referent.rtF (Referent.fInt Syntax.w32)) type·5 7, Path'.refl, ((Yields.yields-copy 𝓤 H A W (λ ρ. Unit) (Declared.row Settings.the-type) Path'.refl (Copies.cStruct Settings.the-type Laws'4.the-laws Laws'4.the-copy .copy 𝓤 H A W) (Rows.whole (Declared.row Settings.the-type)) (λ x. x) (λ x. x) (λ ρ told. Local.mem-whole 𝓤 H A W (Declared.row Settings.the-type) ρ) λ ρ told. Local.whole-mem 𝓤 H A W (Declared.row Settings.the-type) ρ, Path'.refl), tt)))))) (Reads'.room-gone 𝓤 H A type·3) (tt, (tt, (tt, (tt, (tt, tt))))) Path'.refl) d48
 
           d50 : Typed.Typed 𝓤 H A 𝓣 E G9 b33 Δ0 (at50 bs)
           d50 = Typed.s-seq 𝓤 H A W 𝓣 E G9 G10 b1 b32 Δ0 (Typed.ask (s8 bs)) (at49 bs) (Relend.t-sl-aggregate 𝓤 H A W E (Referent.rtF (Referent.fInt Syntax.w32)) 𝓣 (Relend.asShr (Referent.rtF (Referent.fInt Syntax.w32))) G9 12 13 7 type·5 type·5 (λ x. x) (Scalar.oFld 5 (List._∷_ (Syntax.field 1) List.[]) (Syntax.tyInt Syntax.w64) 8 λ v. Shared.lenV (v .0)) (Reads'.as-is 𝓤 H A (Relend.ssptr (Referent.rtF (Referent.fInt Syntax.w32)) type·5 7)) (Reads'.room-gone 𝓤 H A type·6) (Reshare.reads-owedS-len 𝓤 H A W (Referent.rtF (Referent.fInt Syntax.w32)) type·15 4 7 (Row.lease (κs .1 .1 .1 .1 .0) (qs .1 .1 .1 .1 .0)) 8 Path'.refl, Path'.refl) Path'.refl Path'.refl λ b o k. tt) d49
@@ -1830,6 +1833,6 @@ module _ (claims· : Claims) where
           pub asked : (a : Kinds.Dens κs ps) → (good : Kinds.GoodsP κs ps a) → (pre : Pre· κs a) → (bs : List.List Nat.ℕ) → Φ bs (Any.wantQ 7 ps r xs m κs qs a (Post· κs a)) (Function.init 7 ps r xs m κs qs a)
           asked = λ a good pre bs. laid record { κs = κs; args = record { starts = a .0; neighbours = a .1 .0; arc-weights = a .1 .1 .0; weights = a .1 .1 .1 .0; labels = a .1 .1 .1 .1 .0; stack = a .1 .1 .1 .1 .1 .0; settings = a .1 .1 .1 .1 .1 .1 .0; run = a .1 .1 .1 .1 .1 .1 .1 .0 }; blocks = bs; good = good; pre = pre }
 
-        module _ {M : Type 1} (𝓤 : URA.URA M) (H : Wp.Heap 𝓤) (A : Atoms.Atoms 𝓤) (W : Kit.Given 𝓤 H A) (𝓣 : Wp.Tables 𝓤 H) (known0 : Plain.Known 𝓤 H A W 𝓣 5 ps·0 r·0 (claims· .0) (claims· .1) "arc_swap::begin_run") (known1 : Plain.Known 𝓤 H A W 𝓣 1 ps·1 r·1 (claims· .2) (claims· .3) "arc_swap::zero_run") (known2 : Plain.Known 𝓤 H A W 𝓣 7 ps·2 r·2 (claims· .4) (claims· .5) "arc_swap::run_passes") (known3 : Plain.Known 𝓤 H A W 𝓣 1 ps·3 r·3 (claims· .6) (claims· .7) "lists::clear_numbers") (known4 : Plain.Known 𝓤 H A W 𝓣 0 ps·4 r·4 (claims· .8) (claims· .9) "arc_swap::run_report") where
+        module _ {M : Type 1} (𝓤 : URA.URA M) (H : Wp.Heap 𝓤) (A : Atoms.Atoms 𝓤) (W : Kit.Given 𝓤 H A) (𝓣 : Wp.Tables 𝓤 H) (known0 : Plain.Known 𝓤 H A W 𝓣 5 ps·0 r·0 (claims· .0) (claims· .1) "arc_swap::steps::begin_run") (known1 : Plain.Known 𝓤 H A W 𝓣 1 ps·1 r·1 (claims· .2) (claims· .3) "arc_swap::zero_run") (known2 : Plain.Known 𝓤 H A W 𝓣 7 ps·2 r·2 (claims· .4) (claims· .5) "arc_swap::run_passes") (known3 : Plain.Known 𝓤 H A W 𝓣 1 ps·3 r·3 (claims· .6) (claims· .7) "lists::clear_numbers") (known4 : Plain.Known 𝓤 H A W 𝓣 0 ps·4 r·4 (claims· .8) (claims· .9) "arc_swap::answers::run_report") where
           pub spec : Statement.Triple 𝓤 (Wp.WpFn 𝓤 H (𝓣 .C) (𝓣 .Λ) (Function.fnOf 7 ps r xs m hs body)) (Function.plainOf 𝓤 H A 7 ps r Pre· Post·)
           spec = Plain.t-fn-plain 𝓤 H A W 𝓣 7 ps r xs m hs body (λ κs qs bs. Φ bs) (λ κs qs bs bd. typed κs qs 𝓤 H A W 𝓣 (known0, known1, known2, known3, known4) bs bd) Pre· Post· asked

@@ -249,10 +249,10 @@ xs = List._∷_ type·1 (List._∷_ (Syntax.tyInt Syntax.w64) (List._∷_ type·
 abbrev pub m : Nat.ℕ
 m = 5
 
-abbrev pub ps·0 : List.List (Kinds.PK 5)
-ps·0 = List._∷_ (ShrSlice.pShrS (Referent.rtF (Referent.fInt Syntax.w32)) 0 tt) (List._∷_ (ShrSlice.pShrS (Referent.rtF (Referent.fInt Syntax.w32)) 1 tt) (List._∷_ (ShrSlice.pShrS (Referent.rtF (Referent.fInt Syntax.w32)) 2 tt) (List._∷_ (ShrSlice.pShrS (Referent.rtF (Referent.fInt Syntax.w32)) 3 tt) (List._∷_ (MutSlice.pMutS (Referent.rtF (Referent.fInt Syntax.w32)) 4 tt) (List._∷_ (Num.pNum Syntax.w64) (List._∷_ (Value.pVal record { ty = Declared.row Standing.the-type; one = Path'.refl; val = Laws''.val Standing.the-type Laws.the-laws; tells = Laws''.tells Standing.the-type Laws.the-laws; still = Laws''.still Standing.the-type Laws.the-copy Exit.yes; row = Rows.whole (Declared.row Standing.the-type); rd = λ x. x; mk = λ x. x } λ M 𝓤 H A W. record { copies = Laws''.copy Standing.the-type Laws.the-copy 𝓤 H A W; lawful = Laws''.lawful Standing.the-type Laws.the-laws 𝓤 H A W; makes = Laws''.makes Standing.the-type Laws.the-plain 𝓤 H A; in-mem = Local.mem-whole 𝓤 H A W (Declared.row Standing.the-type); of-mem = Local.whole-mem 𝓤 H A W (Declared.row Standing.the-type) }) List.[]))))))
+abbrev pub ps·0 : List.List (Kinds.PK 4)
+ps·0 = List._∷_ (ShrSlice.pShrS (Referent.rtF (Referent.fInt Syntax.w32)) 0 tt) (List._∷_ (ShrSlice.pShrS (Referent.rtF (Referent.fInt Syntax.w32)) 1 tt) (List._∷_ (ShrSlice.pShrS (Referent.rtF (Referent.fInt Syntax.w32)) 2 tt) (List._∷_ (MutSlice.pMutS (Referent.rtF (Referent.fInt Syntax.w32)) 3 tt) (List._∷_ (Num.pNum Syntax.w64) (List._∷_ (Value.pVal record { ty = Declared.row Standing.the-type; one = Path'.refl; val = Laws''.val Standing.the-type Laws.the-laws; tells = Laws''.tells Standing.the-type Laws.the-laws; still = Laws''.still Standing.the-type Laws.the-copy Exit.yes; row = Rows.whole (Declared.row Standing.the-type); rd = λ x. x; mk = λ x. x } λ M 𝓤 H A W. record { copies = Laws''.copy Standing.the-type Laws.the-copy 𝓤 H A W; lawful = Laws''.lawful Standing.the-type Laws.the-laws 𝓤 H A W; makes = Laws''.makes Standing.the-type Laws.the-plain 𝓤 H A; in-mem = Local.mem-whole 𝓤 H A W (Declared.row Standing.the-type); of-mem = Local.whole-mem 𝓤 H A W (Declared.row Standing.the-type) }) List.[])))))
 
-abbrev pub r·0 : Kinds.RK 5
+abbrev pub r·0 : Kinds.RK 4
 r·0 = Value.rVal record { ty = Declared.row Standing.the-type; one = Path'.refl; val = Laws''.val Standing.the-type Laws.the-laws; tells = Laws''.tells Standing.the-type Laws.the-laws; still = Laws''.still Standing.the-type Laws.the-copy Exit.yes; row = Rows.whole (Declared.row Standing.the-type); rd = λ x. x; mk = λ x. x } λ M 𝓤 H A W. record { copies = Laws''.copy Standing.the-type Laws.the-copy 𝓤 H A W; lawful = Laws''.lawful Standing.the-type Laws.the-laws 𝓤 H A W; makes = Laws''.makes Standing.the-type Laws.the-plain 𝓤 H A; in-mem = Local.mem-whole 𝓤 H A W (Declared.row Standing.the-type); of-mem = Local.whole-mem 𝓤 H A W (Declared.row Standing.the-type) }
 
 abbrev pub ps·1 : List.List (Kinds.PK 7)
@@ -298,7 +298,7 @@ abbrev b10 : Syntax.Body
 b10 = Syntax.assign (Syntax.place 19 List.[]) (Syntax.aggregate (List._∷_ (Syntax.copy (Syntax.place 18 List.[])) (List._∷_ (Syntax.copy (Syntax.place 6 (List._∷_ (Syntax.field 1) List.[]))) List.[])))
 
 abbrev b11 : Syntax.Body
-b11 = Syntax.call "arc_swap::turns::push_first" (List._∷_ (Syntax.copy (Syntax.place 1 List.[])) (List._∷_ (Syntax.copy (Syntax.place 2 List.[])) (List._∷_ (Syntax.copy (Syntax.place 3 List.[])) (List._∷_ (Syntax.copy (Syntax.place 17 List.[])) (List._∷_ (Syntax.copy (Syntax.place 19 List.[])) (List._∷_ (Syntax.copy (Syntax.place 12 List.[])) (List._∷_ (Syntax.copy (Syntax.place 11 List.[])) List.[]))))))) (Syntax.place 13 List.[])
+b11 = Syntax.call "arc_swap::turns::push_first" (List._∷_ (Syntax.copy (Syntax.place 1 List.[])) (List._∷_ (Syntax.copy (Syntax.place 2 List.[])) (List._∷_ (Syntax.copy (Syntax.place 17 List.[])) (List._∷_ (Syntax.copy (Syntax.place 19 List.[])) (List._∷_ (Syntax.copy (Syntax.place 12 List.[])) (List._∷_ (Syntax.copy (Syntax.place 11 List.[])) List.[])))))) (Syntax.place 13 List.[])
 
 abbrev b12 : Syntax.Body
 b12 = Syntax.assign (Syntax.place 20 List.[]) (Syntax.addrOf (Syntax.place 5 (List._∷_ (Syntax.field 0) (List._∷_ (Syntax.deref (Syntax.tyInt Syntax.w32)) List.[]))))
@@ -415,7 +415,7 @@ abbrev pub body : Syntax.Body
 body = b48
 
 abbrev pub Claims : Type 1
-Claims = Kinds.In 5 ps·0 × Kinds.Out 5 ps·0 r·0 × Kinds.In 7 ps·1 × Kinds.Out 7 ps·1 r·1
+Claims = Kinds.In 4 ps·0 × Kinds.Out 4 ps·0 r·0 × Kinds.In 7 ps·1 × Kinds.Out 7 ps·1 r·1
 
 abbrev pub t0 : List.List Row.Entry
 t0 = List._∷_ row·0 (List._∷_ row·1 (List._∷_ row·2 (List._∷_ row·3 (List._∷_ row·4 (List._∷_ row·5 (List._∷_ row·6 (List._∷_ row·7 (List._∷_ row·8 (List._∷_ row·9 (List._∷_ row·10 (List._∷_ row·11 (List._∷_ row·12 (List._∷_ row·13 (List._∷_ row·14 (List._∷_ row·15 List.[])))))))))))))))
@@ -794,7 +794,7 @@ module _ (claims· : Claims) where
   s20 = Relend.k-sl-aggregate (Referent.rtF (Referent.fInt Syntax.w32)) (Relend.asMut (Referent.rtF (Referent.fInt Syntax.w32))) T23 18 19 8 type·4 type·4 (λ x. x) (Scalar.oFld 6 (List._∷_ (Syntax.field 1) List.[]) (Syntax.tyInt Syntax.w64) 8 λ v. Shared.lenV (v .0))
 
   abbrev s21 : Typed.Both T24 T25
-  s21 = Call.callB ps·0 r·0 (claims· .0) (claims· .1) T24 (record { pos = 1; ty = Syntax.tyRef (Syntax.named 0) Syntax.imm (Syntax.tyInt Syntax.w32); ref = λ x. x }, (record { pos = 2; ty = Syntax.tyRef (Syntax.named 1) Syntax.imm (Syntax.tyInt Syntax.w32); ref = λ x. x }, (record { pos = 3; ty = Syntax.tyRef (Syntax.named 2) Syntax.imm (Syntax.tyInt Syntax.w32); ref = λ x. x }, (record { pos = 17; ty = Syntax.tyRef Syntax.erased Syntax.imm (Syntax.tyInt Syntax.w32); ref = λ x. x }, (record { pos = 19; ty = Syntax.tyRef Syntax.erased Syntax.mut (Syntax.tyInt Syntax.w32); ref = λ x. x }, (Num.vAt 12 λ x. x, (record { pos = 11; st = List.[]; d = 0; at = λ x. x }, tt))))))) 13 (List._∷_ 0 (List._∷_ 1 (List._∷_ 2 (List._∷_ 7 (List._∷_ 8 List.[]))))) type·1
+  s21 = Call.callB ps·0 r·0 (claims· .0) (claims· .1) T24 (record { pos = 1; ty = Syntax.tyRef (Syntax.named 0) Syntax.imm (Syntax.tyInt Syntax.w32); ref = λ x. x }, (record { pos = 2; ty = Syntax.tyRef (Syntax.named 1) Syntax.imm (Syntax.tyInt Syntax.w32); ref = λ x. x }, (record { pos = 17; ty = Syntax.tyRef Syntax.erased Syntax.imm (Syntax.tyInt Syntax.w32); ref = λ x. x }, (record { pos = 19; ty = Syntax.tyRef Syntax.erased Syntax.mut (Syntax.tyInt Syntax.w32); ref = λ x. x }, (Num.vAt 12 λ x. x, (record { pos = 11; st = List.[]; d = 0; at = λ x. x }, tt)))))) 13 (List._∷_ 0 (List._∷_ 1 (List._∷_ 7 (List._∷_ 8 List.[])))) type·1
 
   abbrev s22 : Typed.Mo T25 → Typed.Mo T26
   s22 = Scalar.n-room T25 17 type·3
@@ -895,7 +895,7 @@ module _ (claims· : Claims) where
   module _ (Pre· : (κs : Lifetimes.Lfts 7) → Kinds.Dens κs ps → Type 0) (Post· : (κs : Lifetimes.Lfts 7) → (a : Kinds.Dens κs ps) → Kinds.Plain 7 ps r κs) where
     module _ (M : Type 1) where
       abbrev pub Closed : Type 2
-      Closed = (𝓤 : URA.URA M) (H : Wp.Heap 𝓤) (A : Atoms.Atoms 𝓤) (W : Kit.Given 𝓤 H A) (𝓣 : Wp.Tables 𝓤 H) (known0 : Plain.Known 𝓤 H A W 𝓣 5 ps·0 r·0 (claims· .0) (claims· .1) "arc_swap::turns::push_first") (known1 : Plain.Known 𝓤 H A W 𝓣 7 ps·1 r·1 (claims· .2) (claims· .3) "arc_swap::drain_stack") → Statement.Triple 𝓤 (Wp.WpFn 𝓤 H (𝓣 .C) (𝓣 .Λ) (Function.fnOf 7 ps r xs m hs body)) (Function.plainOf 𝓤 H A 7 ps r Pre· Post·)
+      Closed = (𝓤 : URA.URA M) (H : Wp.Heap 𝓤) (A : Atoms.Atoms 𝓤) (W : Kit.Given 𝓤 H A) (𝓣 : Wp.Tables 𝓤 H) (known0 : Plain.Known 𝓤 H A W 𝓣 4 ps·0 r·0 (claims· .0) (claims· .1) "arc_swap::turns::push_first") (known1 : Plain.Known 𝓤 H A W 𝓣 7 ps·1 r·1 (claims· .2) (claims· .3) "arc_swap::drain_stack") → Statement.Triple 𝓤 (Wp.WpFn 𝓤 H (𝓣 .C) (𝓣 .Λ) (Function.fnOf 7 ps r xs m hs body)) (Function.plainOf 𝓤 H A 7 ps r Pre· Post·)
 
     module _ (Inv·0 : InvT-loop) (μ·0 : MeasureT-loop) where
       abbrev at0 : Typed.TF T16 O4
@@ -1137,7 +1137,7 @@ module _ (claims· : Claims) where
 
       module _ {M : Type 1} (𝓤 : URA.URA M) (H : Wp.Heap 𝓤) (A : Atoms.Atoms 𝓤) (W : Kit.Given 𝓤 H A) (𝓣 : Wp.Tables 𝓤 H) where
         abbrev Knowns : Type 1
-        Knowns = Plain.Known 𝓤 H A W 𝓣 5 ps·0 r·0 (claims· .0) (claims· .1) "arc_swap::turns::push_first" × Plain.Known 𝓤 H A W 𝓣 7 ps·1 r·1 (claims· .2) (claims· .3) "arc_swap::drain_stack"
+        Knowns = Plain.Known 𝓤 H A W 𝓣 4 ps·0 r·0 (claims· .0) (claims· .1) "arc_swap::turns::push_first" × Plain.Known 𝓤 H A W 𝓣 7 ps·1 r·1 (claims· .2) (claims· .3) "arc_swap::drain_stack"
 
       module _ (κs : Lifetimes.Lfts 7) (qs : Lifetimes.Shares 7) where
         abbrev g11 : List.List Row.Entry
@@ -1592,7 +1592,7 @@ module _ (claims· : Claims) where
           d50 = Typed.g-pre 𝓤 H A W 𝓣 E G25 G26 b32 Δ3 (Typed.pass T25 T26 s22) at49 (Scalar.g-room 𝓤 H A W E G25 17 type·3 (Shared.room-sslice 𝓤 H A W (Referent.rtF (Referent.fInt Syntax.w32)) type·2 7)) d49
 
           d51 : Typed.Typed 𝓤 H A 𝓣 E G24 b33 Δ3 at51
-          d51 = Typed.s-seq 𝓤 H A W 𝓣 E G24 G25 b11 b32 Δ3 (Typed.both s21) at50 (Plain.t-call-plain 𝓤 H A W 𝓣 5 ps·0 r·0 (claims· .0) (claims· .1) "arc_swap::turns::push_first" (known .0) E (λ pos β. β) G24 (record { pos = 1; ty = Syntax.tyRef (Syntax.named 0) Syntax.imm (Syntax.tyInt Syntax.w32); ref = λ x. x }, (record { pos = 2; ty = Syntax.tyRef (Syntax.named 1) Syntax.imm (Syntax.tyInt Syntax.w32); ref = λ x. x }, (record { pos = 3; ty = Syntax.tyRef (Syntax.named 2) Syntax.imm (Syntax.tyInt Syntax.w32); ref = λ x. x }, (record { pos = 17; ty = Syntax.tyRef Syntax.erased Syntax.imm (Syntax.tyInt Syntax.w32); ref = λ x. x }, (record { pos = 19; ty = Syntax.tyRef Syntax.erased Syntax.mut (Syntax.tyInt Syntax.w32); ref = λ x. x }, (Num.vAt 12 λ x. x, (record { pos = 11; st = List.[]; d = 0; at = λ x. x }, tt))))))) 13 (List._∷_ 0 (List._∷_ 1 (List._∷_ 2 (List._∷_ 7 (List._∷_ 8 List.[]))))) (Call.sub-id 𝓤 H A W (G24 .slots)) (ShrSlice.spares-sslice 𝓤 H A W (Referent.rtF (Referent.fInt Syntax.w32)) type·7 0, Shared.reads-sslice 𝓤 H A W (Referent.rtF (Referent.fInt Syntax.w32)) type·7 0, Path'.refl, (ShrSlice.spares-sslice 𝓤 H A W (Referent.rtF (Referent.fInt Syntax.w32)) type·8 1, Shared.reads-sslice 𝓤 H A W (Referent.rtF (Referent.fInt Syntax.w32)) type·8 1, Path'.refl, (ShrSlice.spares-sslice 𝓤 H A W (Referent.rtF (Referent.fInt Syntax.w32)) type·9 2, Shared.reads-sslice 𝓤 H A W (Referent.rtF (Referent.fInt Syntax.w32)) type·9 2, Path'.refl, (ShrSlice.spares-sslice 𝓤 H A W (Referent.rtF (Referent.fInt Syntax.w32)) type·2 7, Shared.reads-sslice 𝓤 H A W (Referent.rtF (Referent.fInt Syntax.w32)) type·2 7, Path'.refl, (Reads'.as-is 𝓤 H A (Mut.mslice (Referent.rtF (Referent.fInt Syntax.w32)) type·4 8), Mut.reads-mslice 𝓤 H A W (Referent.rtF (Referent.fInt Syntax.w32)) type·4 8, Path'.refl, ((Scalar.reads-sc 𝓤 H A W (Row.sInt Syntax.w64), Path'.refl), ((Yields.yields-copy 𝓤 H A W (λ ρ. Unit) (Declared.row Standing.the-type) Path'.refl (Copies.cStruct Standing.the-type Laws.the-laws Laws.the-copy .copy 𝓤 H A W) (Rows.whole (Declared.row Standing.the-type)) (λ x. x) (λ x. x) (λ ρ told. Local.mem-whole 𝓤 H A W (Declared.row Standing.the-type) ρ) λ ρ told. Local.whole-mem 𝓤 H A W (Declared.row Standing.the-type) ρ, Path'.refl), tt))))))) (Reads'.room-gone 𝓤 H A type·1) (tt, (tt, (tt, (tt, (tt, tt))))) Path'.refl) d50
+          d51 = Typed.s-seq 𝓤 H A W 𝓣 E G24 G25 b11 b32 Δ3 (Typed.both s21) at50 (Plain.t-call-plain 𝓤 H A W 𝓣 4 ps·0 r·0 (claims· .0) (claims· .1) "arc_swap::turns::push_first" (known .0) E (λ pos β. β) G24 (record { pos = 1; ty = Syntax.tyRef (Syntax.named 0) Syntax.imm (Syntax.tyInt Syntax.w32); ref = λ x. x }, (record { pos = 2; ty = Syntax.tyRef (Syntax.named 1) Syntax.imm (Syntax.tyInt Syntax.w32); ref = λ x. x }, (record { pos = 17; ty = Syntax.tyRef Syntax.erased Syntax.imm (Syntax.tyInt Syntax.w32); ref = λ x. x }, (record { pos = 19; ty = Syntax.tyRef Syntax.erased Syntax.mut (Syntax.tyInt Syntax.w32); ref = λ x. x }, (Num.vAt 12 λ x. x, (record { pos = 11; st = List.[]; d = 0; at = λ x. x }, tt)))))) 13 (List._∷_ 0 (List._∷_ 1 (List._∷_ 7 (List._∷_ 8 List.[])))) (Call.sub-id 𝓤 H A W (G24 .slots)) (ShrSlice.spares-sslice 𝓤 H A W (Referent.rtF (Referent.fInt Syntax.w32)) type·7 0, Shared.reads-sslice 𝓤 H A W (Referent.rtF (Referent.fInt Syntax.w32)) type·7 0, Path'.refl, (ShrSlice.spares-sslice 𝓤 H A W (Referent.rtF (Referent.fInt Syntax.w32)) type·8 1, Shared.reads-sslice 𝓤 H A W (Referent.rtF (Referent.fInt Syntax.w32)) type·8 1, Path'.refl, (ShrSlice.spares-sslice 𝓤 H A W (Referent.rtF (Referent.fInt Syntax.w32)) type·2 7, Shared.reads-sslice 𝓤 H A W (Referent.rtF (Referent.fInt Syntax.w32)) type·2 7, Path'.refl, (Reads'.as-is 𝓤 H A (Mut.mslice (Referent.rtF (Referent.fInt Syntax.w32)) type·4 8), Mut.reads-mslice 𝓤 H A W (Referent.rtF (Referent.fInt Syntax.w32)) type·4 8, Path'.refl, ((Scalar.reads-sc 𝓤 H A W (Row.sInt Syntax.w64), Path'.refl), ((Yields.yields-copy 𝓤 H A W (λ ρ. Unit) (Declared.row Standing.the-type) Path'.refl (Copies.cStruct Standing.the-type Laws.the-laws Laws.the-copy .copy 𝓤 H A W) (Rows.whole (Declared.row Standing.the-type)) (λ x. x) (λ x. x) (λ ρ told. Local.mem-whole 𝓤 H A W (Declared.row Standing.the-type) ρ) λ ρ told. Local.whole-mem 𝓤 H A W (Declared.row Standing.the-type) ρ, Path'.refl), tt)))))) (Reads'.room-gone 𝓤 H A type·1) (tt, (tt, (tt, (tt, tt)))) Path'.refl) d50
 
           d52 : Typed.Typed 𝓤 H A 𝓣 E G23 b34 Δ3 at52
           d52 = Typed.s-seq 𝓤 H A W 𝓣 E G23 G24 b10 b33 Δ3 (Typed.ask s20) at51 (Relend.t-sl-aggregate 𝓤 H A W E (Referent.rtF (Referent.fInt Syntax.w32)) 𝓣 (Relend.asMut (Referent.rtF (Referent.fInt Syntax.w32))) G23 18 19 8 type·4 type·4 (λ x. x) (Scalar.oFld 6 (List._∷_ (Syntax.field 1) List.[]) (Syntax.tyInt Syntax.w64) 8 λ v. Shared.lenV (v .0)) (Reads'.as-is 𝓤 H A (Relend.msptr (Referent.rtF (Referent.fInt Syntax.w32)) type·4 8)) (Reads'.room-gone 𝓤 H A type·5) (Relend.reads-owed-len 𝓤 H A W (Referent.rtF (Referent.fInt Syntax.w32)) type·12 5 8 (Row.lease (κs .1 .1 .1 .1 .1 .0) (qs .1 .1 .1 .1 .1 .0)) 8 Path'.refl, Path'.refl) Path'.refl Path'.refl λ b o k. tt) d51
@@ -1884,14 +1884,14 @@ module _ (claims· : Claims) where
 
       module _ (before· : After-push-first-arg2) where
         abbrev pub After-push-first·own : Type 0
-        After-push-first·own = Called.Called ps·0 r·0 (claims· .1) T24 (record { pos = 1; ty = Syntax.tyRef (Syntax.named 0) Syntax.imm (Syntax.tyInt Syntax.w32); ref = λ x. x }, (record { pos = 2; ty = Syntax.tyRef (Syntax.named 1) Syntax.imm (Syntax.tyInt Syntax.w32); ref = λ x. x }, (record { pos = 3; ty = Syntax.tyRef (Syntax.named 2) Syntax.imm (Syntax.tyInt Syntax.w32); ref = λ x. x }, (record { pos = 17; ty = Syntax.tyRef Syntax.erased Syntax.imm (Syntax.tyInt Syntax.w32); ref = λ x. x }, (record { pos = 19; ty = Syntax.tyRef Syntax.erased Syntax.mut (Syntax.tyInt Syntax.w32); ref = λ x. x }, (Num.vAt 12 λ x. x, (record { pos = 11; st = List.[]; d = 0; at = λ x. x }, tt))))))) (m20 (before· .before) (before· .push-first-arg2 .given))
+        After-push-first·own = Called.Called ps·0 r·0 (claims· .1) T24 (record { pos = 1; ty = Syntax.tyRef (Syntax.named 0) Syntax.imm (Syntax.tyInt Syntax.w32); ref = λ x. x }, (record { pos = 2; ty = Syntax.tyRef (Syntax.named 1) Syntax.imm (Syntax.tyInt Syntax.w32); ref = λ x. x }, (record { pos = 17; ty = Syntax.tyRef Syntax.erased Syntax.imm (Syntax.tyInt Syntax.w32); ref = λ x. x }, (record { pos = 19; ty = Syntax.tyRef Syntax.erased Syntax.mut (Syntax.tyInt Syntax.w32); ref = λ x. x }, (Num.vAt 12 λ x. x, (record { pos = 11; st = List.[]; d = 0; at = λ x. x }, tt)))))) (m20 (before· .before) (before· .push-first-arg2 .given))
 
       pub record After-push-first : Type 0 where
         pub before : After-push-first-arg2
         pub push-first : After-push-first·own before
 
       abbrev pub After-push-first·gave : (c : After-push-first) → s21 .gives (m20 (c .before .before) (c .before .push-first-arg2 .given))
-      After-push-first·gave = λ c. Called.given ps·0 r·0 (claims· .1) T24 (record { pos = 1; ty = Syntax.tyRef (Syntax.named 0) Syntax.imm (Syntax.tyInt Syntax.w32); ref = λ x. x }, (record { pos = 2; ty = Syntax.tyRef (Syntax.named 1) Syntax.imm (Syntax.tyInt Syntax.w32); ref = λ x. x }, (record { pos = 3; ty = Syntax.tyRef (Syntax.named 2) Syntax.imm (Syntax.tyInt Syntax.w32); ref = λ x. x }, (record { pos = 17; ty = Syntax.tyRef Syntax.erased Syntax.imm (Syntax.tyInt Syntax.w32); ref = λ x. x }, (record { pos = 19; ty = Syntax.tyRef Syntax.erased Syntax.mut (Syntax.tyInt Syntax.w32); ref = λ x. x }, (Num.vAt 12 λ x. x, (record { pos = 11; st = List.[]; d = 0; at = λ x. x }, tt))))))) (m20 (c .before .before) (c .before .push-first-arg2 .given)) (c .push-first)
+      After-push-first·gave = λ c. Called.given ps·0 r·0 (claims· .1) T24 (record { pos = 1; ty = Syntax.tyRef (Syntax.named 0) Syntax.imm (Syntax.tyInt Syntax.w32); ref = λ x. x }, (record { pos = 2; ty = Syntax.tyRef (Syntax.named 1) Syntax.imm (Syntax.tyInt Syntax.w32); ref = λ x. x }, (record { pos = 17; ty = Syntax.tyRef Syntax.erased Syntax.imm (Syntax.tyInt Syntax.w32); ref = λ x. x }, (record { pos = 19; ty = Syntax.tyRef Syntax.erased Syntax.mut (Syntax.tyInt Syntax.w32); ref = λ x. x }, (Num.vAt 12 λ x. x, (record { pos = 11; st = List.[]; d = 0; at = λ x. x }, tt)))))) (m20 (c .before .before) (c .before .push-first-arg2 .given)) (c .push-first)
 
       abbrev pub m22 : (before : After-push-first-arg2) → (given : s21 .gives (m20 (before .before) (before .push-first-arg2 .given))) → Typed.Mo T26
       m22 = λ before given. s22 (m21 before given)
@@ -2140,7 +2140,7 @@ module _ (claims· : Claims) where
         lay4 = λ c. (Path'.refl, λ g. λ g'. λ g''. (Path'.refl, λ g'3. (Path'.refl, λ g'4. (drain-stack-requires record { before = record { before = record { before = record { before = record { before = record { before = c .before; push-first = c .push-first }; stack = record { given = g } }; slice-known3 = record { given = g' } }; drain-stack-arg = record { given = g'' } }; drain-stack-arg2 = record { given = g'3 } }; drain-stack-arg3 = record { given = g'4 } }, λ g'5. lay5 record { before = record { before = record { before = record { before = record { before = record { before = record { before = c .before; push-first = c .push-first }; stack = record { given = g } }; slice-known3 = record { given = g' } }; drain-stack-arg = record { given = g'' } }; drain-stack-arg2 = record { given = g'3 } }; drain-stack-arg3 = record { given = g'4 } }; drain-stack = Called.called ps·1 r·1 (claims· .3) T42 (record { pos = 1; ty = Syntax.tyRef (Syntax.named 0) Syntax.imm (Syntax.tyInt Syntax.w32); ref = λ x. x }, (record { pos = 2; ty = Syntax.tyRef (Syntax.named 1) Syntax.imm (Syntax.tyInt Syntax.w32); ref = λ x. x }, (record { pos = 3; ty = Syntax.tyRef (Syntax.named 2) Syntax.imm (Syntax.tyInt Syntax.w32); ref = λ x. x }, (record { pos = 4; ty = Syntax.tyRef (Syntax.named 3) Syntax.imm (Syntax.tyInt Syntax.w32); ref = λ x. x }, (record { pos = 21; ty = Syntax.tyRef Syntax.erased Syntax.mut (Syntax.tyInt Syntax.w32); ref = λ x. x }, (record { pos = 23; ty = Syntax.tyRef Syntax.erased Syntax.mut (Syntax.tyInt Syntax.w32); ref = λ x. x }, (record { pos = 7; st = List.[]; d = 0; at = λ x. x }, (Num.vAt 8 λ x. x, (record { pos = 13; st = List.[]; d = 0; at = λ x. x }, (record { pos = 24; ty = Syntax.tyRef Syntax.erased Syntax.mut RunRecordTy.behind; ref = λ x. x }, tt)))))))))) (m31 record { before = record { before = record { before = record { before = record { before = c .before; push-first = c .push-first }; stack = record { given = g } }; slice-known3 = record { given = g' } }; drain-stack-arg = record { given = g'' } }; drain-stack-arg2 = record { given = g'3 } } g'4) g'5 }))))
 
         lay3 : (c : In-loop) → at57 (W3 (c .before .before) (c .before .loop .labels) (c .before .loop .stack) (c .before .loop .run) (c .before .loop .st) (c .before .loop .v)) (m14 (c .before))
-        lay3 = λ c. λ g. (Path'.refl, λ g'. (Path'.refl, (push-first-requires record { before = record { before = record { before = c .before; loop-test = c .loop-test }; push-first-arg = record { given = g } }; push-first-arg2 = record { given = g' } }, λ g''. lay4 record { before = record { before = record { before = record { before = c .before; loop-test = c .loop-test }; push-first-arg = record { given = g } }; push-first-arg2 = record { given = g' } }; push-first = Called.called ps·0 r·0 (claims· .1) T24 (record { pos = 1; ty = Syntax.tyRef (Syntax.named 0) Syntax.imm (Syntax.tyInt Syntax.w32); ref = λ x. x }, (record { pos = 2; ty = Syntax.tyRef (Syntax.named 1) Syntax.imm (Syntax.tyInt Syntax.w32); ref = λ x. x }, (record { pos = 3; ty = Syntax.tyRef (Syntax.named 2) Syntax.imm (Syntax.tyInt Syntax.w32); ref = λ x. x }, (record { pos = 17; ty = Syntax.tyRef Syntax.erased Syntax.imm (Syntax.tyInt Syntax.w32); ref = λ x. x }, (record { pos = 19; ty = Syntax.tyRef Syntax.erased Syntax.mut (Syntax.tyInt Syntax.w32); ref = λ x. x }, (Num.vAt 12 λ x. x, (record { pos = 11; st = List.[]; d = 0; at = λ x. x }, tt))))))) (m20 record { before = record { before = c .before; loop-test = c .loop-test }; push-first-arg = record { given = g } } g') g'' })))
+        lay3 = λ c. λ g. (Path'.refl, λ g'. (Path'.refl, (push-first-requires record { before = record { before = record { before = c .before; loop-test = c .loop-test }; push-first-arg = record { given = g } }; push-first-arg2 = record { given = g' } }, λ g''. lay4 record { before = record { before = record { before = record { before = c .before; loop-test = c .loop-test }; push-first-arg = record { given = g } }; push-first-arg2 = record { given = g' } }; push-first = Called.called ps·0 r·0 (claims· .1) T24 (record { pos = 1; ty = Syntax.tyRef (Syntax.named 0) Syntax.imm (Syntax.tyInt Syntax.w32); ref = λ x. x }, (record { pos = 2; ty = Syntax.tyRef (Syntax.named 1) Syntax.imm (Syntax.tyInt Syntax.w32); ref = λ x. x }, (record { pos = 17; ty = Syntax.tyRef Syntax.erased Syntax.imm (Syntax.tyInt Syntax.w32); ref = λ x. x }, (record { pos = 19; ty = Syntax.tyRef Syntax.erased Syntax.mut (Syntax.tyInt Syntax.w32); ref = λ x. x }, (Num.vAt 12 λ x. x, (record { pos = 11; st = List.[]; d = 0; at = λ x. x }, tt)))))) (m20 record { before = record { before = c .before; loop-test = c .loop-test }; push-first-arg = record { given = g } } g') g'' })))
 
         lay2 : (c : After-loop) → at4 (W4 (c .before .before) (c .before .loop .labels) (c .before .loop .stack) (c .before .loop .run) (c .before .loop .st) (c .before .loop .v)) (m13 (c .before .before) (c .before .loop .labels) (c .before .loop .stack) (c .before .loop .run) (c .before .loop .st) (c .before .loop .v))
         lay2 = λ c. lay7 record { before = c .before; loop-test = c .loop-test }
@@ -2155,6 +2155,6 @@ module _ (claims· : Claims) where
           pub asked : (a : Kinds.Dens κs ps) → (good : Kinds.GoodsP κs ps a) → (pre : Pre· κs a) → (bs : List.List Nat.ℕ) → Φ (Any.wantQ 7 ps r xs m κs qs a (Post· κs a)) (Function.init 7 ps r xs m κs qs a)
           asked = λ a good pre bs. laid record { κs = κs; args = record { starts = a .0; neighbours = a .1 .0; arc-weights = a .1 .1 .0; weights = a .1 .1 .1 .0; labels = a .1 .1 .1 .1 .0; stack = a .1 .1 .1 .1 .1 .0; ceilings = a .1 .1 .1 .1 .1 .1 .0; parts = a .1 .1 .1 .1 .1 .1 .1 .0; first = a .1 .1 .1 .1 .1 .1 .1 .1 .0; run = a .1 .1 .1 .1 .1 .1 .1 .1 .1 .0 }; good = good; fits = record { parts = record { fits = good .1 .1 .1 .1 .1 .1 .1 .0 .1 } }; pre = pre }
 
-        module _ {M : Type 1} (𝓤 : URA.URA M) (H : Wp.Heap 𝓤) (A : Atoms.Atoms 𝓤) (W : Kit.Given 𝓤 H A) (𝓣 : Wp.Tables 𝓤 H) (known0 : Plain.Known 𝓤 H A W 𝓣 5 ps·0 r·0 (claims· .0) (claims· .1) "arc_swap::turns::push_first") (known1 : Plain.Known 𝓤 H A W 𝓣 7 ps·1 r·1 (claims· .2) (claims· .3) "arc_swap::drain_stack") where
+        module _ {M : Type 1} (𝓤 : URA.URA M) (H : Wp.Heap 𝓤) (A : Atoms.Atoms 𝓤) (W : Kit.Given 𝓤 H A) (𝓣 : Wp.Tables 𝓤 H) (known0 : Plain.Known 𝓤 H A W 𝓣 4 ps·0 r·0 (claims· .0) (claims· .1) "arc_swap::turns::push_first") (known1 : Plain.Known 𝓤 H A W 𝓣 7 ps·1 r·1 (claims· .2) (claims· .3) "arc_swap::drain_stack") where
           pub spec : Statement.Triple 𝓤 (Wp.WpFn 𝓤 H (𝓣 .C) (𝓣 .Λ) (Function.fnOf 7 ps r xs m hs body)) (Function.plainOf 𝓤 H A 7 ps r Pre· Post·)
           spec = Plain.t-fn-plain 𝓤 H A W 𝓣 7 ps r xs m hs body (λ κs qs bs. Φ) (λ κs qs bs bd. typed κs qs 𝓤 H A W 𝓣 (known0, known1) bs bd) Pre· Post· asked

@@ -86,7 +86,10 @@ abbrev pub type·11 : Syntax.Ty
 type·11 = Syntax.tyRef (Syntax.named 6) Syntax.mut RunRecordTy.behind
 
 abbrev pub type·12 : Syntax.Ty
-type·12 = Syntax.tyStruct (List._∷_ 97 (List._∷_ 114 (List._∷_ 99 (List._∷_ 95 (List._∷_ 115 (List._∷_ 119 (List._∷_ 97 (List._∷_ 112 (List._∷_ 58 (List._∷_ 58 (List._∷_ 83 (List._∷_ 101 (List._∷_ 116 (List._∷_ 116 (List._∷_ 105 (List._∷_ 110 (List._∷_ 103 (List._∷_ 115 List.[])))))))))))))))))) (Syntax.tcons (Syntax.tyInt Syntax.w32) (Syntax.tcons (Syntax.tyInt Syntax.w32) (Syntax.tcons (Syntax.tyFloat Ieee.binary64) Syntax.tnil)))
+type·12 = Syntax.tyStruct (List._∷_ 105 (List._∷_ 109 (List._∷_ 98 (List._∷_ 97 (List._∷_ 108 (List._∷_ 97 (List._∷_ 110 (List._∷_ 99 (List._∷_ 101 (List._∷_ 58 (List._∷_ 58 (List._∷_ 67 (List._∷_ 101 (List._∷_ 105 (List._∷_ 108 (List._∷_ 105 (List._∷_ 110 (List._∷_ 103 List.[])))))))))))))))))) (Syntax.tcons (Syntax.tyInt Syntax.w32) (Syntax.tcons (Syntax.tyInt Syntax.w32) (Syntax.tcons (Syntax.tyFloat Ieee.binary64) Syntax.tnil)))
+
+abbrev pub type·13 : Syntax.Ty
+type·13 = Syntax.tyStruct (List._∷_ 97 (List._∷_ 114 (List._∷_ 99 (List._∷_ 95 (List._∷_ 115 (List._∷_ 119 (List._∷_ 97 (List._∷_ 112 (List._∷_ 58 (List._∷_ 58 (List._∷_ 83 (List._∷_ 101 (List._∷_ 116 (List._∷_ 116 (List._∷_ 105 (List._∷_ 110 (List._∷_ 103 (List._∷_ 115 List.[])))))))))))))))))) (Syntax.tcons type·12 Syntax.tnil)
 
 abbrev pub row·0 : Row.Entry
 row·0 = (0, Rows.any-gone type·4)
@@ -134,7 +137,7 @@ abbrev pub row·14 : Row.Entry
 row·14 = (0, Rows.whole (Declared.row Report.the-type))
 
 abbrev pub row·15 : Row.Entry
-row·15 = (7, Rows.any-gone type·12)
+row·15 = (7, Rows.any-gone type·13)
 
 abbrev pub row·16 : Row.Entry
 row·16 = (5, Relend.mslice-owed (Referent.rtF (Referent.fInt Syntax.w32)) type·9 4 7 Row.off)
@@ -369,7 +372,7 @@ module _ (claims· : Claims) where
   s14 = Call.callB ps·0 r·0 (claims· .0) (claims· .1) T15 (record { pos = 1; ty = Syntax.tyRef (Syntax.named 0) Syntax.imm (Syntax.tyInt Syntax.w32); ref = λ x. x }, (record { pos = 2; ty = Syntax.tyRef (Syntax.named 1) Syntax.imm (Syntax.tyInt Syntax.w32); ref = λ x. x }, (record { pos = 3; ty = Syntax.tyRef (Syntax.named 2) Syntax.imm (Syntax.tyInt Syntax.w32); ref = λ x. x }, (record { pos = 4; ty = Syntax.tyRef (Syntax.named 3) Syntax.imm (Syntax.tyInt Syntax.w32); ref = λ x. x }, (record { pos = 10; ty = Syntax.tyRef Syntax.erased Syntax.mut (Syntax.tyInt Syntax.w32); ref = λ x. x }, (record { pos = 12; ty = Syntax.tyRef Syntax.erased Syntax.mut (Syntax.tyInt Syntax.w32); ref = λ x. x }, (record { pos = 7; st = List.[]; d = 0; at = λ x. x }, (record { pos = 13; ty = Syntax.tyRef Syntax.erased Syntax.mut RunRecordTy.behind; ref = λ x. x }, tt)))))))) 0 (List._∷_ 0 (List._∷_ 1 (List._∷_ 2 (List._∷_ 3 (List._∷_ 7 (List._∷_ 8 (List._∷_ 9 List.[]))))))) type·4
 
   abbrev s15 : Typed.Mo T16 → Typed.Mo T17
-  s15 = Scalar.n-room T16 7 type·12
+  s15 = Scalar.n-room T16 7 type·13
 
   abbrev s17 : Typed.Both T17 T19
   s17 = Relend.k-back-sl (Referent.rtF (Referent.fInt Syntax.w32)) T17 10 5 4 7 type·9 type·0 Row.off (λ x. x) λ x. x
@@ -660,7 +663,7 @@ module _ (claims· : Claims) where
           d11 = Typed.g-pre 𝓤 H A W 𝓣 E G17 G18 b6 Δ0 (λ Ψ. Ψ) at10 (Lifetime.g-end 𝓤 H A W E G17 7 Path'.refl) d10
 
           d12 : Typed.Typed 𝓤 H A 𝓣 E G16 b6 Δ0 at12
-          d12 = Typed.g-pre 𝓤 H A W 𝓣 E G16 G17 b6 Δ0 (Typed.pass T16 T17 s15) at11 (Scalar.g-room 𝓤 H A W E G16 7 type·12 (Local.room-whole 𝓤 H A W (Declared.row Settings.the-type) type·12 Path'.refl)) d11
+          d12 = Typed.g-pre 𝓤 H A W 𝓣 E G16 G17 b6 Δ0 (Typed.pass T16 T17 s15) at11 (Scalar.g-room 𝓤 H A W E G16 7 type·13 (Local.room-whole 𝓤 H A W (Declared.row Settings.the-type) type·13 Path'.refl)) d11
 
           d13 : Typed.Typed 𝓤 H A 𝓣 E G15 b7 Δ0 at13
           d13 = Typed.s-seq 𝓤 H A W 𝓣 E G15 G16 b5 b6 Δ0 (Typed.both s14) at12 (Plain.t-call-plain 𝓤 H A W 𝓣 7 ps·0 r·0 (claims· .0) (claims· .1) "arc_swap::arc_swap" known E (λ pos β. β) G15 (record { pos = 1; ty = Syntax.tyRef (Syntax.named 0) Syntax.imm (Syntax.tyInt Syntax.w32); ref = λ x. x }, (record { pos = 2; ty = Syntax.tyRef (Syntax.named 1) Syntax.imm (Syntax.tyInt Syntax.w32); ref = λ x. x }, (record { pos = 3; ty = Syntax.tyRef (Syntax.named 2) Syntax.imm (Syntax.tyInt Syntax.w32); ref = λ x. x }, (record { pos = 4; ty = Syntax.tyRef (Syntax.named 3) Syntax.imm (Syntax.tyInt Syntax.w32); ref = λ x. x }, (record { pos = 10; ty = Syntax.tyRef Syntax.erased Syntax.mut (Syntax.tyInt Syntax.w32); ref = λ x. x }, (record { pos = 12; ty = Syntax.tyRef Syntax.erased Syntax.mut (Syntax.tyInt Syntax.w32); ref = λ x. x }, (record { pos = 7; st = List.[]; d = 0; at = λ x. x }, (record { pos = 13; ty = Syntax.tyRef Syntax.erased Syntax.mut RunRecordTy.behind; ref = λ x. x }, tt)))))))) 0 (List._∷_ 0 (List._∷_ 1 (List._∷_ 2 (List._∷_ 3 (List._∷_ 7 (List._∷_ 8 (List._∷_ 9 List.[]))))))) (Call.sub-id 𝓤 H A W (G15 .slots)) (ShrSlice.spares-sslice 𝓤 H A W (Referent.rtF (Referent.fInt Syntax.w32)) type·5 0, Shared.reads-sslice 𝓤 H A W (Referent.rtF (Referent.fInt Syntax.w32)) type·5 0, Path'.refl, (ShrSlice.spares-sslice 𝓤 H A W (Referent.rtF (Referent.fInt Syntax.w32)) type·6 1, Shared.reads-sslice 𝓤 H A W (Referent.rtF (Referent.fInt Syntax.w32)) type·6 1, Path'.refl, (ShrSlice.spares-sslice 𝓤 H A W (Referent.rtF (Referent.fInt Syntax.w32)) type·7 2, Shared.reads-sslice 𝓤 H A W (Referent.rtF (Referent.fInt Syntax.w32)) type·7 2, Path'.refl, (ShrSlice.spares-sslice 𝓤 H A W (Referent.rtF (Referent.fInt Syntax.w32)) type·8 3, Shared.reads-sslice 𝓤 H A W (Referent.rtF (Referent.fInt Syntax.w32)) type·8 3, Path'.refl, (Reads.as-is 𝓤 H A (Mut.mslice (Referent.rtF (Referent.fInt Syntax.w32)) type·0 7), Mut.reads-mslice 𝓤 H A W (Referent.rtF (Referent.fInt Syntax.w32)) type·0 7, Path'.refl, (Reads.as-is 𝓤 H A (Mut.mslice (Referent.rtF (Referent.fInt Syntax.w32)) type·0 8), Mut.reads-mslice 𝓤 H A W (Referent.rtF (Referent.fInt Syntax.w32)) type·0 8, Path'.refl, ((Yields.yields-copy 𝓤 H A W (λ ρ. Unit) (Declared.row Settings.the-type) Path'.refl (Copies.cStruct Settings.the-type Laws'.the-laws Laws'.the-copy .copy 𝓤 H A W) (Rows.whole (Declared.row Settings.the-type)) (λ x. x) (λ x. x) (λ ρ told. Local.mem-whole 𝓤 H A W (Declared.row Settings.the-type) ρ) λ ρ told. Local.whole-mem 𝓤 H A W (Declared.row Settings.the-type) ρ, Path'.refl), (Reads.as-is 𝓤 H A (Rows.mref RunRecordTy.R type·2 9), Reads.reads-mref 𝓤 H A W RunRecordTy.R type·2 9, Path'.refl, tt)))))))) (Reads.room-gone 𝓤 H A type·4) (tt, (tt, (tt, (tt, (tt, (tt, (tt, tt))))))) Path'.refl) d12

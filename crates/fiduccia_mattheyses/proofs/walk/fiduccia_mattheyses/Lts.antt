@@ -331,13 +331,13 @@ abbrev b6 : Syntax.Body
 b6 = Syntax.assign (Syntax.place 18 List.[]) (Syntax.aggregate (List._∷_ (Syntax.copy (Syntax.place 17 List.[])) (List._∷_ (Syntax.copy (Syntax.place 5 (List._∷_ (Syntax.field 1) List.[]))) List.[])))
 
 abbrev b7 : Syntax.Body
-b7 = Syntax.call "fiduccia_mattheyses::call_number" (List._∷_ (Syntax.copy (Syntax.place 1 List.[])) (List._∷_ (Syntax.copy (Syntax.place 2 List.[])) (List._∷_ (Syntax.copy (Syntax.place 3 List.[])) (List._∷_ (Syntax.copy (Syntax.place 4 List.[])) (List._∷_ (Syntax.copy (Syntax.place 18 List.[])) (List._∷_ (Syntax.copy (Syntax.place 11 List.[])) (List._∷_ (Syntax.copy (Syntax.place 10 List.[])) List.[]))))))) (Syntax.place 12 List.[])
+b7 = Syntax.call "fiduccia_mattheyses::number::call_number" (List._∷_ (Syntax.copy (Syntax.place 1 List.[])) (List._∷_ (Syntax.copy (Syntax.place 2 List.[])) (List._∷_ (Syntax.copy (Syntax.place 3 List.[])) (List._∷_ (Syntax.copy (Syntax.place 4 List.[])) (List._∷_ (Syntax.copy (Syntax.place 18 List.[])) (List._∷_ (Syntax.copy (Syntax.place 11 List.[])) (List._∷_ (Syntax.copy (Syntax.place 10 List.[])) List.[]))))))) (Syntax.place 12 List.[])
 
 abbrev b8 : Syntax.Body
 b8 = Syntax.assign (Syntax.place 19 List.[]) (Syntax.op2 Syntax.ne (Syntax.copy (Syntax.place 12 List.[])) (Syntax.int Syntax.w32 0))
 
 abbrev b9 : Syntax.Body
-b9 = Syntax.call "fiduccia_mattheyses::bare_report" (List._∷_ (Syntax.copy (Syntax.place 12 List.[])) (List._∷_ (Syntax.int Syntax.w32 0) List.[])) (Syntax.place 0 List.[])
+b9 = Syntax.call "fiduccia_mattheyses::answers::bare_report" (List._∷_ (Syntax.copy (Syntax.place 12 List.[])) (List._∷_ (Syntax.int Syntax.w32 0) List.[])) (Syntax.place 0 List.[])
 
 abbrev b10 : Syntax.Body
 b10 = Syntax.return
@@ -358,7 +358,7 @@ abbrev b15 : Syntax.Body
 b15 = Syntax.assign (Syntax.place 19 List.[]) (Syntax.op2 Syntax.eq (Syntax.copy (Syntax.place 13 List.[])) (Syntax.int Syntax.w64 0))
 
 abbrev b16 : Syntax.Body
-b16 = Syntax.call "fiduccia_mattheyses::bare_report" (List._∷_ (Syntax.int Syntax.w32 0) (List._∷_ (Syntax.int Syntax.w32 3) List.[])) (Syntax.place 0 List.[])
+b16 = Syntax.call "fiduccia_mattheyses::answers::bare_report" (List._∷_ (Syntax.int Syntax.w32 0) (List._∷_ (Syntax.int Syntax.w32 3) List.[])) (Syntax.place 0 List.[])
 
 abbrev b17 : Syntax.Body
 b17 = Syntax.return
@@ -1006,7 +1006,7 @@ module _ (claims· : Claims) where
   module _ (Pre· : (κs : Lifetimes.Lfts 9) → Kinds.Dens κs ps → Type 0) (Post· : (κs : Lifetimes.Lfts 9) → (a : Kinds.Dens κs ps) → Kinds.Plain 9 ps r κs) where
     module _ (M : Type 1) where
       abbrev pub Closed : Type 2
-      Closed = (𝓤 : URA.URA M) (H : Wp.Heap 𝓤) (A : Atoms.Atoms 𝓤) (W : Kit.Given 𝓤 H A) (𝓣 : Wp.Tables 𝓤 H) (known0 : Plain.Known 𝓤 H A W 𝓣 5 ps·0 r·0 (claims· .0) (claims· .1) "fiduccia_mattheyses::call_number") (known1 : Plain.Known 𝓤 H A W 𝓣 0 ps·1 r·1 (claims· .2) (claims· .3) "fiduccia_mattheyses::bare_report") (known2 : Plain.Known 𝓤 H A W 𝓣 9 ps·2 r·2 (claims· .4) (claims· .5) "fiduccia_mattheyses::refine") → Statement.Triple 𝓤 (Wp.WpFn 𝓤 H (𝓣 .C) (𝓣 .Λ) (Function.fnOf 9 ps r xs m hs body)) (Function.plainOf 𝓤 H A 9 ps r Pre· Post·)
+      Closed = (𝓤 : URA.URA M) (H : Wp.Heap 𝓤) (A : Atoms.Atoms 𝓤) (W : Kit.Given 𝓤 H A) (𝓣 : Wp.Tables 𝓤 H) (known0 : Plain.Known 𝓤 H A W 𝓣 5 ps·0 r·0 (claims· .0) (claims· .1) "fiduccia_mattheyses::number::call_number") (known1 : Plain.Known 𝓤 H A W 𝓣 0 ps·1 r·1 (claims· .2) (claims· .3) "fiduccia_mattheyses::answers::bare_report") (known2 : Plain.Known 𝓤 H A W 𝓣 9 ps·2 r·2 (claims· .4) (claims· .5) "fiduccia_mattheyses::refine") → Statement.Triple 𝓤 (Wp.WpFn 𝓤 H (𝓣 .C) (𝓣 .Λ) (Function.fnOf 9 ps r xs m hs body)) (Function.plainOf 𝓤 H A 9 ps r Pre· Post·)
 
     module _ where
       abbrev at0 : Typed.TF T33 O1
@@ -1269,7 +1269,7 @@ module _ (claims· : Claims) where
 
       module _ {M : Type 1} (𝓤 : URA.URA M) (H : Wp.Heap 𝓤) (A : Atoms.Atoms 𝓤) (W : Kit.Given 𝓤 H A) (𝓣 : Wp.Tables 𝓤 H) where
         abbrev Knowns : Type 1
-        Knowns = Plain.Known 𝓤 H A W 𝓣 5 ps·0 r·0 (claims· .0) (claims· .1) "fiduccia_mattheyses::call_number" × Plain.Known 𝓤 H A W 𝓣 0 ps·1 r·1 (claims· .2) (claims· .3) "fiduccia_mattheyses::bare_report" × Plain.Known 𝓤 H A W 𝓣 9 ps·2 r·2 (claims· .4) (claims· .5) "fiduccia_mattheyses::refine"
+        Knowns = Plain.Known 𝓤 H A W 𝓣 5 ps·0 r·0 (claims· .0) (claims· .1) "fiduccia_mattheyses::number::call_number" × Plain.Known 𝓤 H A W 𝓣 0 ps·1 r·1 (claims· .2) (claims· .3) "fiduccia_mattheyses::answers::bare_report" × Plain.Known 𝓤 H A W 𝓣 9 ps·2 r·2 (claims· .4) (claims· .5) "fiduccia_mattheyses::refine"
 
       module _ (κs : Lifetimes.Lfts 9) (qs : Lifetimes.Shares 9) where
         abbrev g11 : List.List Row.Entry
@@ -1610,7 +1610,7 @@ module _ (claims· : Claims) where
           d1 = Typed.g-pre 𝓤 H A W 𝓣 E G32 G33 b10 Δ1 (Typed.pass T32 T33 s30) at0 (Scalar.g-room 𝓤 H A W E G32 12 (Syntax.tyInt Syntax.w32) (Scalar.room-sc 𝓤 H A W (Row.sInt Syntax.w32))) d0
 
           d2 : Typed.Typed 𝓤 H A 𝓣 E G31 b11 Δ1 at2
-          d2 = Typed.s-seq 𝓤 H A W 𝓣 E G31 G32 b9 b10 Δ1 (Typed.both s29) at1 (Plain.t-call-plain 𝓤 H A W 𝓣 0 ps·1 r·1 (claims· .2) (claims· .3) "fiduccia_mattheyses::bare_report" (known .1) E (λ pos β. β) G31 (Num.vAt 12 λ x. x, (Num.vLit 0, tt)) 0 List.[] (Call.sub-id 𝓤 H A W (G31 .slots)) ((Scalar.reads-sc 𝓤 H A W (Row.sInt Syntax.w32), Path'.refl), (tt, tt)) (Reads.room-gone 𝓤 H A type·10) tt Path'.refl) d1
+          d2 = Typed.s-seq 𝓤 H A W 𝓣 E G31 G32 b9 b10 Δ1 (Typed.both s29) at1 (Plain.t-call-plain 𝓤 H A W 𝓣 0 ps·1 r·1 (claims· .2) (claims· .3) "fiduccia_mattheyses::answers::bare_report" (known .1) E (λ pos β. β) G31 (Num.vAt 12 λ x. x, (Num.vLit 0, tt)) 0 List.[] (Call.sub-id 𝓤 H A W (G31 .slots)) ((Scalar.reads-sc 𝓤 H A W (Row.sInt Syntax.w32), Path'.refl), (tt, tt)) (Reads.room-gone 𝓤 H A type·10) tt Path'.refl) d1
 
           d3 : Typed.Typed 𝓤 H A 𝓣 E G30 b11 Δ1 at3
           d3 = Typed.g-pre 𝓤 H A W 𝓣 E G30 G31 b11 Δ1 (Typed.pass T30 T31 s28) at2 (Scalar.g-room 𝓤 H A W E G30 19 Syntax.tyBool (Scalar.room-sc 𝓤 H A W Row.sBool)) d2
@@ -1634,7 +1634,7 @@ module _ (claims· : Claims) where
           d9 = Typed.g-pre 𝓤 H A W 𝓣 E G41 G42 b17 Δ2 (Typed.pass T41 T42 s38) at8 (Scalar.g-room 𝓤 H A W E G41 12 (Syntax.tyInt Syntax.w32) (Scalar.room-sc 𝓤 H A W (Row.sInt Syntax.w32))) d8
 
           d10 : Typed.Typed 𝓤 H A 𝓣 E G40 b18 Δ2 at10
-          d10 = Typed.s-seq 𝓤 H A W 𝓣 E G40 G41 b16 b17 Δ2 (Typed.both s37) at9 (Plain.t-call-plain 𝓤 H A W 𝓣 0 ps·1 r·1 (claims· .2) (claims· .3) "fiduccia_mattheyses::bare_report" (known .1) E (λ pos β. β) G40 (Num.vLit 0, (Num.vLit 3, tt)) 0 List.[] (Call.sub-id 𝓤 H A W (G40 .slots)) (tt, (tt, tt)) (Reads.room-gone 𝓤 H A type·10) tt Path'.refl) d9
+          d10 = Typed.s-seq 𝓤 H A W 𝓣 E G40 G41 b16 b17 Δ2 (Typed.both s37) at9 (Plain.t-call-plain 𝓤 H A W 𝓣 0 ps·1 r·1 (claims· .2) (claims· .3) "fiduccia_mattheyses::answers::bare_report" (known .1) E (λ pos β. β) G40 (Num.vLit 0, (Num.vLit 3, tt)) 0 List.[] (Call.sub-id 𝓤 H A W (G40 .slots)) (tt, (tt, tt)) (Reads.room-gone 𝓤 H A type·10) tt Path'.refl) d9
 
           d11 : Typed.Typed 𝓤 H A 𝓣 E G39 b18 Δ2 at11
           d11 = Typed.g-pre 𝓤 H A W 𝓣 E G39 G40 b18 Δ2 (Typed.pass T39 T40 s36) at10 (Scalar.g-room 𝓤 H A W E G39 19 Syntax.tyBool (Scalar.room-sc 𝓤 H A W Row.sBool)) d10
@@ -1796,7 +1796,7 @@ module _ (claims· : Claims) where
           d63 = Typed.g-pre 𝓤 H A W 𝓣 E G22 G23 b48 Δ0 (Typed.pass T22 T23 s21) at62 (Scalar.g-room 𝓤 H A W E G22 18 type·2 (Shared.room-sslice 𝓤 H A W (Referent.rtF (Referent.fInt Syntax.w32)) type·1 9)) d62
 
           d64 : Typed.Typed 𝓤 H A 𝓣 E G21 b49 Δ0 at64
-          d64 = Typed.s-seq 𝓤 H A W 𝓣 E G21 G22 b7 b48 Δ0 (Typed.both s20) at63 (Plain.t-call-plain 𝓤 H A W 𝓣 5 ps·0 r·0 (claims· .0) (claims· .1) "fiduccia_mattheyses::call_number" (known .0) E (λ pos β. β) G21 (record { pos = 1; ty = Syntax.tyRef (Syntax.named 0) Syntax.imm (Syntax.tyInt Syntax.w32); ref = λ x. x }, (record { pos = 2; ty = Syntax.tyRef (Syntax.named 1) Syntax.imm (Syntax.tyInt Syntax.w32); ref = λ x. x }, (record { pos = 3; ty = Syntax.tyRef (Syntax.named 2) Syntax.imm (Syntax.tyInt Syntax.w32); ref = λ x. x }, (record { pos = 4; ty = Syntax.tyRef (Syntax.named 3) Syntax.imm (Syntax.tyInt Syntax.w32); ref = λ x. x }, (record { pos = 18; ty = Syntax.tyRef Syntax.erased Syntax.imm (Syntax.tyInt Syntax.w32); ref = λ x. x }, (record { pos = 11; st = List.[]; d = 0; at = λ x. x }, (record { pos = 10; st = List.[]; d = 0; at = λ x. x }, tt))))))) 12 (List._∷_ 0 (List._∷_ 1 (List._∷_ 2 (List._∷_ 3 (List._∷_ 9 List.[]))))) (Call.sub-id 𝓤 H A W (G21 .slots)) (ShrSlice.spares-sslice 𝓤 H A W (Referent.rtF (Referent.fInt Syntax.w32)) type·11 0, Shared.reads-sslice 𝓤 H A W (Referent.rtF (Referent.fInt Syntax.w32)) type·11 0, Path'.refl, (ShrSlice.spares-sslice 𝓤 H A W (Referent.rtF (Referent.fInt Syntax.w32)) type·12 1, Shared.reads-sslice 𝓤 H A W (Referent.rtF (Referent.fInt Syntax.w32)) type·12 1, Path'.refl, (ShrSlice.spares-sslice 𝓤 H A W (Referent.rtF (Referent.fInt Syntax.w32)) type·13 2, Shared.reads-sslice 𝓤 H A W (Referent.rtF (Referent.fInt Syntax.w32)) type·13 2, Path'.refl, (ShrSlice.spares-sslice 𝓤 H A W (Referent.rtF (Referent.fInt Syntax.w32)) type·14 3, Shared.reads-sslice 𝓤 H A W (Referent.rtF (Referent.fInt Syntax.w32)) type·14 3, Path'.refl, (ShrSlice.spares-sslice 𝓤 H A W (Referent.rtF (Referent.fInt Syntax.w32)) type·1 9, Shared.reads-sslice 𝓤 H A W (Referent.rtF (Referent.fInt Syntax.w32)) type·1 9, Path'.refl, ((Yields.yields-copy 𝓤 H A W (λ ρ. Unit) (Declared.row Room.the-type) Path'.refl (Copies.cStruct Room.the-type Laws'.the-laws Laws'.the-copy .copy 𝓤 H A W) (Rows.whole (Declared.row Room.the-type)) (λ x. x) (λ x. x) (λ ρ told. Local.mem-whole 𝓤 H A W (Declared.row Room.the-type) ρ) λ ρ told. Local.whole-mem 𝓤 H A W (Declared.row Room.the-type) ρ, Path'.refl), ((Yields.yields-copy 𝓤 H A W (λ ρ. Unit) (Declared.row Settings.the-type) Path'.refl (Copies.cStruct Settings.the-type Laws''.the-laws Laws''.the-copy .copy 𝓤 H A W) (Rows.whole (Declared.row Settings.the-type)) (λ x. x) (λ x. x) (λ ρ told. Local.mem-whole 𝓤 H A W (Declared.row Settings.the-type) ρ) λ ρ told. Local.whole-mem 𝓤 H A W (Declared.row Settings.the-type) ρ, Path'.refl), tt))))))) (Reads.room-gone 𝓤 H A (Syntax.tyInt Syntax.w32)) (tt, (tt, (tt, (tt, (tt, tt))))) Path'.refl) d63
+          d64 = Typed.s-seq 𝓤 H A W 𝓣 E G21 G22 b7 b48 Δ0 (Typed.both s20) at63 (Plain.t-call-plain 𝓤 H A W 𝓣 5 ps·0 r·0 (claims· .0) (claims· .1) "fiduccia_mattheyses::number::call_number" (known .0) E (λ pos β. β) G21 (record { pos = 1; ty = Syntax.tyRef (Syntax.named 0) Syntax.imm (Syntax.tyInt Syntax.w32); ref = λ x. x }, (record { pos = 2; ty = Syntax.tyRef (Syntax.named 1) Syntax.imm (Syntax.tyInt Syntax.w32); ref = λ x. x }, (record { pos = 3; ty = Syntax.tyRef (Syntax.named 2) Syntax.imm (Syntax.tyInt Syntax.w32); ref = λ x. x }, (record { pos = 4; ty = Syntax.tyRef (Syntax.named 3) Syntax.imm (Syntax.tyInt Syntax.w32); ref = λ x. x }, (record { pos = 18; ty = Syntax.tyRef Syntax.erased Syntax.imm (Syntax.tyInt Syntax.w32); ref = λ x. x }, (record { pos = 11; st = List.[]; d = 0; at = λ x. x }, (record { pos = 10; st = List.[]; d = 0; at = λ x. x }, tt))))))) 12 (List._∷_ 0 (List._∷_ 1 (List._∷_ 2 (List._∷_ 3 (List._∷_ 9 List.[]))))) (Call.sub-id 𝓤 H A W (G21 .slots)) (ShrSlice.spares-sslice 𝓤 H A W (Referent.rtF (Referent.fInt Syntax.w32)) type·11 0, Shared.reads-sslice 𝓤 H A W (Referent.rtF (Referent.fInt Syntax.w32)) type·11 0, Path'.refl, (ShrSlice.spares-sslice 𝓤 H A W (Referent.rtF (Referent.fInt Syntax.w32)) type·12 1, Shared.reads-sslice 𝓤 H A W (Referent.rtF (Referent.fInt Syntax.w32)) type·12 1, Path'.refl, (ShrSlice.spares-sslice 𝓤 H A W (Referent.rtF (Referent.fInt Syntax.w32)) type·13 2, Shared.reads-sslice 𝓤 H A W (Referent.rtF (Referent.fInt Syntax.w32)) type·13 2, Path'.refl, (ShrSlice.spares-sslice 𝓤 H A W (Referent.rtF (Referent.fInt Syntax.w32)) type·14 3, Shared.reads-sslice 𝓤 H A W (Referent.rtF (Referent.fInt Syntax.w32)) type·14 3, Path'.refl, (ShrSlice.spares-sslice 𝓤 H A W (Referent.rtF (Referent.fInt Syntax.w32)) type·1 9, Shared.reads-sslice 𝓤 H A W (Referent.rtF (Referent.fInt Syntax.w32)) type·1 9, Path'.refl, ((Yields.yields-copy 𝓤 H A W (λ ρ. Unit) (Declared.row Room.the-type) Path'.refl (Copies.cStruct Room.the-type Laws'.the-laws Laws'.the-copy .copy 𝓤 H A W) (Rows.whole (Declared.row Room.the-type)) (λ x. x) (λ x. x) (λ ρ told. Local.mem-whole 𝓤 H A W (Declared.row Room.the-type) ρ) λ ρ told. Local.whole-mem 𝓤 H A W (Declared.row Room.the-type) ρ, Path'.refl), ((Yields.yields-copy 𝓤 H A W (λ ρ. Unit) (Declared.row Settings.the-type) Path'.refl (Copies.cStruct Settings.the-type Laws''.the-laws Laws''.the-copy .copy 𝓤 H A W) (Rows.whole (Declared.row Settings.the-type)) (λ x. x) (λ x. x) (λ ρ told. Local.mem-whole 𝓤 H A W (Declared.row Settings.the-type) ρ) λ ρ told. Local.whole-mem 𝓤 H A W (Declared.row Settings.the-type) ρ, Path'.refl), tt))))))) (Reads.room-gone 𝓤 H A (Syntax.tyInt Syntax.w32)) (tt, (tt, (tt, (tt, (tt, tt))))) Path'.refl) d63
 
           d65 : Typed.Typed 𝓤 H A 𝓣 E G20 b49 Δ0 at65
           d65 = Typed.g-pre 𝓤 H A W 𝓣 E G20 G21 b49 Δ0 (Typed.pass T20 T21 s19) at64 (AtSlots.g-as-by 𝓤 H A W E (λ ρ. Unit) G20 11 (Rows.whole (Declared.row Room.the-type)) (λ v. Room.struct .make v tt) (Own.told-none 𝓤 H A (G20 .slots)) λ ρ told v b. Apart.folds 𝓤 H A Room.the-type (Room.struct .Ghost) (Room.struct .make) (λ v g. Path'.refl) ρ v tt b) d64
@@ -2393,6 +2393,6 @@ module _ (claims· : Claims) where
           pub asked : (a : Kinds.Dens κs ps) → (good : Kinds.GoodsP κs ps a) → (pre : Pre· κs a) → (bs : List.List Nat.ℕ) → Φ (Any.wantQ 9 ps r xs m κs qs a (Post· κs a)) (Function.init 9 ps r xs m κs qs a)
           asked = λ a good pre bs. laid record { κs = κs; args = record { starts = a .0; neighbours = a .1 .0; arc-weights = a .1 .1 .0; weights = a .1 .1 .1 .0; labels = a .1 .1 .1 .1 .0; gains = a .1 .1 .1 .1 .1 .0; moves = a .1 .1 .1 .1 .1 .1 .0; rows-made = a .1 .1 .1 .1 .1 .1 .1 .0; rows-rewound = a .1 .1 .1 .1 .1 .1 .1 .1 .0; s = a .1 .1 .1 .1 .1 .1 .1 .1 .1 .0 }; good = good; pre = pre }
 
-        module _ {M : Type 1} (𝓤 : URA.URA M) (H : Wp.Heap 𝓤) (A : Atoms.Atoms 𝓤) (W : Kit.Given 𝓤 H A) (𝓣 : Wp.Tables 𝓤 H) (known0 : Plain.Known 𝓤 H A W 𝓣 5 ps·0 r·0 (claims· .0) (claims· .1) "fiduccia_mattheyses::call_number") (known1 : Plain.Known 𝓤 H A W 𝓣 0 ps·1 r·1 (claims· .2) (claims· .3) "fiduccia_mattheyses::bare_report") (known2 : Plain.Known 𝓤 H A W 𝓣 9 ps·2 r·2 (claims· .4) (claims· .5) "fiduccia_mattheyses::refine") where
+        module _ {M : Type 1} (𝓤 : URA.URA M) (H : Wp.Heap 𝓤) (A : Atoms.Atoms 𝓤) (W : Kit.Given 𝓤 H A) (𝓣 : Wp.Tables 𝓤 H) (known0 : Plain.Known 𝓤 H A W 𝓣 5 ps·0 r·0 (claims· .0) (claims· .1) "fiduccia_mattheyses::number::call_number") (known1 : Plain.Known 𝓤 H A W 𝓣 0 ps·1 r·1 (claims· .2) (claims· .3) "fiduccia_mattheyses::answers::bare_report") (known2 : Plain.Known 𝓤 H A W 𝓣 9 ps·2 r·2 (claims· .4) (claims· .5) "fiduccia_mattheyses::refine") where
           pub spec : Statement.Triple 𝓤 (Wp.WpFn 𝓤 H (𝓣 .C) (𝓣 .Λ) (Function.fnOf 9 ps r xs m hs body)) (Function.plainOf 𝓤 H A 9 ps r Pre· Post·)
           spec = Plain.t-fn-plain 𝓤 H A W 𝓣 9 ps r xs m hs body (λ κs qs bs. Φ) (λ κs qs bs bd. typed κs qs 𝓤 H A W 𝓣 (known0, known1, known2) bs bd) Pre· Post· asked

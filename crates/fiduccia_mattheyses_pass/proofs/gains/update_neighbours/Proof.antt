@@ -10,6 +10,7 @@ use Rattle.fiduccia_mattheyses_pass.specs.inner.Update.{updated}
 use Rattle.fiduccia_mattheyses_pass.proofs.Updates.{back, free-of}
 use Rattle.fiduccia_mattheyses_pass.proofs.Updates.{updated-none, mag-set, turn-passed, turn-updated}
 use borrow.Author.Needs.{needs}
+use Rattle.fiduccia_mattheyses_pass.specs.inner.Bounds.{mostTwice, lockSize}
 use Rattle.fiduccia_mattheyses_pass.proofs.gains.update_neighbours.Statement.{statement}
 use Rattle.fiduccia_mattheyses_pass.proofs.gains.update_neighbours.Tie as tie
 
@@ -19,7 +20,7 @@ Inv-loop neighbours arc-weights labels gains₀ old a b e₀ gains e =
     × (e ≤ b)
     × (length gains ≡ length gains₀)
     × (gains ≡ updated neighbours arc-weights labels old a (e - a) gains₀)
-    × ((x : ℕ) → mag (getD gains x (pos 0)) ≤ 4611686018427387904 + 8589934592 * (e - a))
+    × ((x : ℕ) → mag (getD gains x (pos 0)) ≤ lockSize + mostTwice * (e - a))
 
 abbrev μ-loop : tie.MeasureT-loop
 μ-loop neighbours arc-weights labels gains₀ old a b e₀ gains e = b - e
@@ -165,7 +166,7 @@ loop-again-2 c =
     let q : g ≡ z = free-of _ z g fs (after-g .g .given .1) .1 in
     let r = rw ge at (c .shifted .ensures) in
     let h = c .shifted .result in
-    let low : mag h ≤ 4611686018427387904 + 8589934592 * (entered .loop .e + 1 - x .a) = omega (arith, rw q at (r .1), entered .loop .inv .4 v) in
+    let low : mag h ≤ lockSize + mostTwice * (entered .loop .e + 1 - x .a) = omega (arith, rw q at (r .1), entered .loop .inv .4 v) in
     let hz = back h (omega arith) in (
       search needs,
       search needs,

@@ -9,14 +9,19 @@ use borrow.Author.Needs.{needs}
 use Rattle.fiduccia_mattheyses_pass.proofs.moves.make_move.Statement.{statement}
 use Rattle.fiduccia_mattheyses_pass.proofs.moves.make_move.Tie as tie
 
+mul-old : tie.Need-mul-old
+mul-old c = search needs
+
+slice-read-old : tie.Need-slice-read-old
+slice-read-old c = search needs
+
+sub-moved-loads : tie.Need-sub-moved-loads
+sub-moved-loads c =
+    let given : tie.Start = search needs in
+    omega (arith, given .pre .scanned .two (given .args .v))
+
 mul-moved-loads : tie.Need-mul-moved-loads
 mul-moved-loads c = search needs
-
-slice-read-moved-loads : tie.Need-slice-read-moved-loads
-slice-read-moved-loads c = search needs
-
-mul-moved-loads-2 : tie.Need-mul-moved-loads-2
-mul-moved-loads-2 c = search needs
 
 shared-slice-read-moved-loads : tie.Need-shared-slice-read-moved-loads
 shared-slice-read-moved-loads c = search needs
@@ -27,7 +32,7 @@ moved-loads-requires c κs =
     let q = given .pre in
     let v = given .args .v in
     let t = q .scanned .two v in
-    (t, q .scanned .sixteen, q .held, q .scanned .light _ (omega arith))
+    (omega arith, omega arith, q .scanned .sixteen, q .held, q .scanned .light _ (omega arith))
 
 move-vertex-requires : tie.Need-move-vertex-requires
 move-vertex-requires c κs =
@@ -61,9 +66,10 @@ pub make-move-spec : {M : Type 1} → statement M
 make-move-spec =
     tie.close
     (tie.spec
+    mul-old
+    slice-read-old
+    sub-moved-loads
     mul-moved-loads
-    slice-read-moved-loads
-    mul-moved-loads-2
     shared-slice-read-moved-loads
     moved-loads-requires
     move-vertex-requires

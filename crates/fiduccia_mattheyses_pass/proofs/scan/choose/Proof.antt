@@ -4,9 +4,10 @@ use native.Mathlib.Omega.{arith}
 use lib.ListN.{length, getD}
 use mir.Syntax.{w64}
 use mir.ValLaws.{toZ-ofZ}
-use Rattle.fiduccia_mattheyses_pass.specs.inner.Turn.{far, roomsOf, liftsOf, nobody, Sighted, Holds, Swept}
-use Rattle.fiduccia_mattheyses_pass.proofs.Scans.{startOf, swept-from, lesser-least, sighted, sample-near, scan-past, scan-found, scan-nobody}
+use Rattle.fiduccia_mattheyses_pass.specs.inner.Turn.{roomsOf, liftsOf, nobody, Sighted, Holds, Swept}
+use Rattle.fiduccia_mattheyses_pass.proofs.Scans.{startOf, swept-from, sighted, sample-near, scan-past, scan-found, scan-nobody}
 use borrow.Author.Needs.{needs}
+use Rattle.fiduccia_mattheyses_pass.specs.inner.Bounds.{pastWeights, far}
 use Rattle.fiduccia_mattheyses_pass.proofs.scan.choose.Statement.{statement}
 use Rattle.fiduccia_mattheyses_pass.proofs.scan.choose.Tie as tie
 
@@ -16,7 +17,7 @@ rooms-of-requires c κs = let q = c .before .before .pre in (q .0 .sixteen, q .1
 lifts-of-requires : tie.Need-lifts-of-requires
 lifts-of-requires c κs = search needs
 
-narrow : (c : tie.After-shared-slice-known2) (v : ℕ) → getD (c .before .before .args .weights .now) v 0 < 4294967296
+narrow : (c : tie.After-shared-slice-known2) (v : ℕ) → getD (c .before .before .args .weights .now) v 0 < pastWeights
 narrow c v = c .shared-slice-known2 .given v .fits
 
 -- what the scan asks
@@ -110,24 +111,6 @@ sub-t23 c =
     let after-sweep : tie.After-sweep = search needs in
     past-one after-sweep (c .before .if1 .taken)
 
-lesser-load-requires : tie.Need-lesser-load-requires
-lesser-load-requires c κs =
-    let given : tie.Start = search needs in
-    given .pre .0 .sixteen
-
--- the stations that lie far back, each from a nearer one
-abbrev start-of : tie.Then1 → tie.Start
-start-of c = search needs
-
-add-t25 : tie.Need-add-t25
-add-t25 c =
-    let then1 : tie.Then1 = search needs in
-    let given = start-of then1 in
-    let l = given .pre .0 .light 0 (omega arith) in
-    let m = lesser-least (given .args .loads .at) .0 in
-    let k = then1 .if1 .taken in
-    omega (arith, c .before .lesser-load .ensures)
-
 returns : tie.Need-returns
 returns c =
     let then1 : tie.Then1 = search needs in
@@ -140,8 +123,7 @@ returns c =
     let l = then1 .if1 .taken in
     let p = past-one after-sweep l in
     scan-found (x .gains .now) (x .labels .now) (x .weights .now) (x .loads .at) (x .ceilings .at) (given .pre .0)
-    (narrow after-shared-slice-known2) _ _ (found-is after-sample) (swept after-sweep) l _ _ _ (omega arith) y
-    (c .before .before .lesser-load .ensures)
+    (narrow after-shared-slice-known2) _ _ (found-is after-sample) (swept after-sweep) l _ _ (omega arith) y
 
 returns-2 : tie.Need-returns-2
 returns-2 c =
@@ -167,7 +149,5 @@ choose-spec =
     slice-aggregate-sweep-2
     sweep-requires
     sub-t23
-    lesser-load-requires
-    add-t25
     returns
     returns-2)

@@ -24,29 +24,35 @@ returns c = next-nobody _ _ _ _ (c .before .before .choose .ensures) (c .enum-to
 -- The ways past a test stand before the ways into it: where a test lets too little in, the first refusal is at the way that is then wrong.
 returns-4 : tie.Need-returns-4
 returns-4 c =
-    let after-choose : tie.After-choose = search needs in
-    let b = c .before .before .v .given in
-    let h = (toZ-ofZ w64 (b .0 .1 .0) (record { sfits = c .before .known-told .given .1 .0 .1 })) in
-    rw h (next-good _ _ _ _ (after-choose .choose .ensures) _ _ _ (b .1) (rw h at (c .if1 .left)))
+    let told : tie.After-known-told = search needs in
+    let found : tie.After-v = search needs in
+    let chosen : tie.After-choose = search needs in
+    let b = found .v .given in
+    let h = (toZ-ofZ w64 (b .0 .1 .0) (record { sfits = told .known-told .given .1 .0 .1 })) in
+    rw h (next-good _ _ _ _ (chosen .choose .ensures) _ _ (b .1) (rw h at (c .if1 .left)))
 
 add-t15 : tie.Need-add-t15
 add-t15 c = search needs
 
 returns-3 : tie.Need-returns-3
 returns-3 c =
-    let after-v : tie.After-v = search needs in
-    let after-choose : tie.After-choose = search needs in
-    let b = after-v .v .given in
-    let h = (toZ-ofZ w64 (b .0 .1 .0) (record { sfits = c .before .before .known-told .given .1 .0 .1 })) in
-    rw h (next-bad _ _ _ _ (after-choose .choose .ensures) _ _ _ (b .1) (rw h at (c .before .if1 .taken)) (c .if2 .left))
+    let told : tie.After-known-told = search needs in
+    let found : tie.After-v = search needs in
+    let chosen : tie.After-choose = search needs in
+    let not-good : tie.Then1 = search needs in
+    let b = found .v .given in
+    let h = (toZ-ofZ w64 (b .0 .1 .0) (record { sfits = told .known-told .given .1 .0 .1 })) in
+    rw h (next-bad _ _ _ _ (chosen .choose .ensures) _ _ (b .1) (rw h at (not-good .if1 .taken)) (c .if2 .left))
 
 returns-2 : tie.Need-returns-2
 returns-2 c =
-    let after-v : tie.After-v = search needs in
-    let after-choose : tie.After-choose = search needs in
-    let b = after-v .v .given in
-    let h = (toZ-ofZ w64 (b .0 .1 .0) (record { sfits = c .before .before .known-told .given .1 .0 .1 })) in
-    next-stop _ _ _ _ (after-choose .choose .ensures) _ _ _ (b .1) (rw h at (c .before .if1 .taken)) (c .if2 .taken)
+    let told : tie.After-known-told = search needs in
+    let found : tie.After-v = search needs in
+    let chosen : tie.After-choose = search needs in
+    let not-good : tie.Then1 = search needs in
+    let b = found .v .given in
+    let h = (toZ-ofZ w64 (b .0 .1 .0) (record { sfits = told .known-told .given .1 .0 .1 })) in
+    next-stop _ _ _ _ (chosen .choose .ensures) _ _ (b .1) (rw h at (not-good .if1 .taken)) (c .if2 .taken)
 
 pub next-move-spec : {M : Type 1} → statement M
 next-move-spec =

@@ -38,8 +38,8 @@ loop-less c = search needs
 
 loop-again : tie.Need-loop-again Inv-loop μ-loop
 loop-again c =
-    let at : tie.At-loop Inv-loop μ-loop = search needs in
-    (search needs, check-more _ _ _ _ (c .before .words-sum .ensures) (at .loop .inv .1) (c .if1 .left))
+    let so-far : tie.At-loop Inv-loop μ-loop = search needs in
+    (search needs, check-more _ _ _ _ (c .before .words-sum .ensures) (so-far .loop .inv .1) (c .if1 .left))
 
 returns-2 : tie.Need-returns-2 Inv-loop μ-loop
 returns-2 c = check-all _ _ _ (omega arith) (c .before .loop .inv .1)

@@ -18,8 +18,8 @@ returns c = blocks-differ _ _ _ _ (c .before .blocks-of .ensures) (c .if1 .taken
 
 later-laid-requires : tie.Need-later-laid-requires
 later-laid-requires c κs =
-    let start : tie.Start = search needs in
-    let i = numbers-in _ (start .pre .0) in
+    let given : tie.Start = search needs in
+    let i = numbers-in _ (given .pre .0) in
     (search needs, omega arith, omega arith, c .if1 .left ∙ c .before .blocks-of .ensures)
 
 returns-2 : tie.Need-returns-2

@@ -22,39 +22,39 @@ loop-holds c = record { within = search needs; degrees = sym (sum-none _); small
 
 place-requires : tie.Need-place-requires Inv-loop μ-loop
 place-requires c κs =
-    let start : tie.Start Inv-loop μ-loop = search needs in
-    let i = numbers-in _ (start .pre .0) in
+    let given : tie.Start Inv-loop μ-loop = search needs in
+    let i = numbers-in _ (given .pre .0) in
     omega arith
 
 add-word-at : tie.Need-add-word-at Inv-loop μ-loop
 add-word-at c =
-    let start : tie.Start Inv-loop μ-loop = search needs in
-    let i = numbers-in _ (start .pre .0) in
+    let given : tie.Start Inv-loop μ-loop = search needs in
+    let i = numbers-in _ (given .pre .0) in
     omega arith
 
 word-at-requires : tie.Need-word-at-requires Inv-loop μ-loop
 unfolding blocksOf blocksFor
 word-at-requires c κs =
-    let start : tie.Start Inv-loop μ-loop = search needs in
-    let p = start .pre .1 in
+    let given : tie.Start Inv-loop μ-loop = search needs in
+    let p = given .pre .1 in
     omega arith
 
 returns : tie.Need-returns Inv-loop μ-loop
 returns c =
     let placed : tie.After-place Inv-loop μ-loop = search needs in
-    let at : tie.At-loop Inv-loop μ-loop = search needs in
-    label-fails _ _ (at .loop .sum) _ _ _ (placed .place .ensures) (c .before .word-at .ensures) (placed .before .loop-test .taken) (search needs)
+    let so-far : tie.At-loop Inv-loop μ-loop = search needs in
+    label-fails _ _ (so-far .loop .sum) _ _ _ (placed .place .ensures) (c .before .word-at .ensures) (placed .before .loop-test .taken) (search needs)
 
 index-requires : tie.Need-index-requires Inv-loop μ-loop
 index-requires c κs = search needs
 
 add-sum : tie.Need-add-sum Inv-loop μ-loop
 add-sum c =
-    let start : tie.Start Inv-loop μ-loop = search needs in
-    let i = numbers-in _ (start .pre .0) in
-    let at : tie.At-loop Inv-loop μ-loop = search needs in
-    let s = at .loop .inv .small in
-    let w = at .loop .inv .within in
+    let given : tie.Start Inv-loop μ-loop = search needs in
+    let i = numbers-in _ (given .pre .0) in
+    let so-far : tie.At-loop Inv-loop μ-loop = search needs in
+    let s = so-far .loop .inv .small in
+    let w = so-far .loop .inv .within in
     omega arith
 
 add-v : tie.Need-add-v Inv-loop μ-loop
@@ -67,14 +67,14 @@ loop-again : tie.Need-loop-again Inv-loop μ-loop
 loop-again c =
     let placed : tie.After-place Inv-loop μ-loop = search needs in
     let read : tie.After-word-at Inv-loop μ-loop = search needs in
-    let at : tie.At-loop Inv-loop μ-loop = search needs in
-    let start : tie.Start Inv-loop μ-loop = search needs in
-    pass-more _ (start .args .header) _ _ _ _ (placed .place .ensures) (read .word-at .ensures) _ (c .index .ensures) (at .loop .inv) (placed .before .loop-test .taken) (search needs) (search needs)
+    let so-far : tie.At-loop Inv-loop μ-loop = search needs in
+    let given : tie.Start Inv-loop μ-loop = search needs in
+    pass-more _ (given .args .header) _ _ _ _ (placed .place .ensures) (read .word-at .ensures) _ (c .index .ensures) (so-far .loop .inv) (placed .before .loop-test .taken) (search needs) (search needs)
 
 returns-2 : tie.Need-returns-2 Inv-loop μ-loop
 returns-2 c =
-    let at : tie.At-loop Inv-loop μ-loop = search needs in
-    records-judged _ _ _ _ (let h = at .loop .inv .within in omega arith) (at .loop .inv)
+    let so-far : tie.At-loop Inv-loop μ-loop = search needs in
+    records-judged _ _ _ _ (let h = so-far .loop .inv .within in omega arith) (so-far .loop .inv)
 
 pub bad-records-spec : {M : Type 1} → statement M
 bad-records-spec =

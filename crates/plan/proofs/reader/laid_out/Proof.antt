@@ -37,7 +37,10 @@ add-if1-2 : tie.Need-add-if1-2 Inv-loop μ-loop
 add-if1-2 c = search needs
 
 returns : tie.Need-returns Inv-loop μ-loop
-returns c = first-differs _ _ _ _ _ _ _ (c .before .before .word-at .ensures) (c .before .index .ensures) (c .if1 .taken)
+returns c =
+    let read : tie.After-word-at Inv-loop μ-loop = search needs in
+    let opened : tie.After-index Inv-loop μ-loop = search needs in
+    first-differs _ _ _ _ _ _ _ (read .word-at .ensures) (opened .index .ensures) (c .if1 .taken)
 
 mul-j : tie.Need-mul-j Inv-loop μ-loop
 mul-j c = search needs
@@ -65,14 +68,15 @@ loop-less c = search needs
 
 loop-again : tie.Need-loop-again Inv-loop μ-loop
 loop-again c =
-    let at : tie.At-loop Inv-loop μ-loop = search needs in
-    (search needs, search needs, rest-more _ _ _ _ _ (search needs) (c .before .word-at2 .ensures) (c .if2 .left) (at .loop .inv .2))
+    let so-far : tie.At-loop Inv-loop μ-loop = search needs in
+    (search needs, search needs, rest-more _ _ _ _ _ (search needs) (c .before .word-at2 .ensures) (c .if2 .left) (so-far .loop .inv .2))
 
 returns-3 : tie.Need-returns-3 Inv-loop μ-loop
 returns-3 c =
-    let after-word-at : tie.After-word-at Inv-loop μ-loop = search needs in
-    let after-index : tie.After-index Inv-loop μ-loop = search needs in
-    laid-whole _ _ _ _ _ _ _ _ (after-word-at .word-at .ensures) (after-index .index .ensures) (c .before .before .if1 .left) (omega arith) (c .before .loop .inv .2)
+    let read : tie.After-word-at Inv-loop μ-loop = search needs in
+    let opened : tie.After-index Inv-loop μ-loop = search needs in
+    let right : tie.Else1 Inv-loop μ-loop = search needs in
+    laid-whole _ _ _ _ _ _ _ _ (read .word-at .ensures) (opened .index .ensures) (right .if1 .left) (omega arith) (c .before .loop .inv .2)
 
 pub laid-out-spec : {M : Type 1} → statement M
 laid-out-spec =

@@ -30,21 +30,23 @@ count-at-requires c κs = search needs
 
 laid-out-requires : tie.Need-laid-out-requires Inv-loop μ-loop
 laid-out-requires c κs =
-    let start : tie.Start Inv-loop μ-loop = search needs in
-    let at : tie.At-loop Inv-loop μ-loop = search needs in
-    let a = start .args in
-    let k = kind-most (a .n) (at .loop .b) in
-    let m = count-most (a .n) (a .a) (at .loop .b) in
+    let given : tie.Start Inv-loop μ-loop = search needs in
+    let so-far : tie.At-loop Inv-loop μ-loop = search needs in
+    let a = given .args in
+    let k = kind-most (a .n) (so-far .loop .b) in
+    let m = count-most (a .n) (a .a) (so-far .loop .b) in
     let e = c .before .kind-at .ensures in
     let f = c .count-at .ensures in
-    let p = start .pre in
-    let l = c .before .before .loop-test .taken in
+    let p = given .pre in
+    let entered : tie.In-loop Inv-loop μ-loop = search needs in
+    let l = entered .loop-test .taken in
     omega arith
 
 returns : tie.Need-returns Inv-loop μ-loop
 returns c =
-    let after-kind-at : tie.After-kind-at Inv-loop μ-loop = search needs in
-    later-fails _ _ _ _ _ _ _ _ (after-kind-at .kind-at .ensures) (c .before .before .count-at .ensures) (c .before .laid-out .ensures) (search needs) (search needs) (not-true _ (c .if1 .taken))
+    let kinded : tie.After-kind-at Inv-loop μ-loop = search needs in
+    let counted : tie.After-count-at Inv-loop μ-loop = search needs in
+    later-fails _ _ _ _ _ _ _ _ (kinded .kind-at .ensures) (counted .count-at .ensures) (c .before .laid-out .ensures) (search needs) (search needs) (not-true _ (c .if1 .taken))
 
 add-b : tie.Need-add-b Inv-loop μ-loop
 add-b c = search needs
@@ -54,9 +56,10 @@ loop-less c = search needs
 
 loop-again : tie.Need-loop-again Inv-loop μ-loop
 loop-again c =
-    let after-kind-at : tie.After-kind-at Inv-loop μ-loop = search needs in
-    let at : tie.At-loop Inv-loop μ-loop = search needs in
-    (search needs, search needs, later-more _ _ _ _ _ _ _ _ (after-kind-at .kind-at .ensures) (c .before .before .count-at .ensures) (c .before .laid-out .ensures) (search needs) (not-false _ (c .if1 .left)) (at .loop .inv .2))
+    let kinded : tie.After-kind-at Inv-loop μ-loop = search needs in
+    let counted : tie.After-count-at Inv-loop μ-loop = search needs in
+    let so-far : tie.At-loop Inv-loop μ-loop = search needs in
+    (search needs, search needs, later-more _ _ _ _ _ _ _ _ (kinded .kind-at .ensures) (counted .count-at .ensures) (c .before .laid-out .ensures) (search needs) (not-false _ (c .if1 .left)) (so-far .loop .inv .2))
 
 returns-2 : tie.Need-returns-2 Inv-loop μ-loop
 returns-2 c = later-all _ _ _ _ _ (omega arith) (c .before .loop .inv .2)

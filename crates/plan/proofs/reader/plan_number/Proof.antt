@@ -26,9 +26,9 @@ returns-2 c =
 
 bad-records-requires : tie.Need-bad-records-requires
 bad-records-requires c κs =
-    let start : tie.Start = search needs in
+    let given : tie.Start = search needs in
     let ranged : tie.Else1 = search needs in
-    let z = sized-by _ _ 0 (start .pre) (sym (c .before .bad-later .ensures) ∙ c .if2 .left) in
+    let z = sized-by _ _ 0 (given .pre) (sym (c .before .bad-later .ensures) ∙ c .if2 .left) in
     (sym (ranged .before .bad-numbers .ensures) ∙ ranged .if1 .left, omega arith)
 
 returns-3 : tie.Need-returns-3

@@ -16,24 +16,24 @@ abbrev μ-loop : tie.MeasureT-loop
 
 blocks-for-requires : tie.Need-blocks-for-requires Inv-loop μ-loop
 blocks-for-requires c κs =
-    let start : tie.Start Inv-loop μ-loop = search needs in
-    let f = fine _ (start .pre .0) in
-    let n = start .pre .1 in
+    let given : tie.Start Inv-loop μ-loop = search needs in
+    let f = fine _ (given .pre .0) in
+    let n = given .pre .1 in
     omega arith
 
 add-first : tie.Need-add-first Inv-loop μ-loop
 unfolding blocksFor
 add-first c =
-    let start : tie.Start Inv-loop μ-loop = search needs in
-    let f = fine _ (start .pre .0) in
-    let n = start .pre .1 in
+    let given : tie.Start Inv-loop μ-loop = search needs in
+    let f = fine _ (given .pre .0) in
+    let n = given .pre .1 in
     let g = c .blocks-for .ensures in
     omega arith
 
 loop-holds : tie.Need-loop-holds Inv-loop μ-loop
 loop-holds c =
-    let start : tie.Start Inv-loop μ-loop = search needs in
-    let p = start .pre in
+    let given : tie.Start Inv-loop μ-loop = search needs in
+    let p = given .pre in
     arcs-none _ _ _ _ _ (fine _ (p .0)) (p .2) (ap (λ (x : ℕ). 1 + x) (c .blocks-for .ensures ∙ ap blocksFor (p .1))) (p .3) (p .4)
 
 place-requires : tie.Need-place-requires Inv-loop μ-loop
@@ -46,8 +46,8 @@ place-requires c κs =
 word-at-requires : tie.Need-word-at-requires Inv-loop μ-loop
 unfolding blocksFor
 word-at-requires c κs =
-    let at : tie.At-loop Inv-loop μ-loop = search needs in
-    let h = at .loop .inv in
+    let so-far : tie.At-loop Inv-loop μ-loop = search needs in
+    let h = so-far .loop .inv in
     let f = h .file in
     let e = c .place .ensures in
     omega arith
@@ -57,15 +57,15 @@ mul-neighbours c = search needs
 
 slice-write-neighbours : tie.Need-slice-write-neighbours Inv-loop μ-loop
 slice-write-neighbours c =
-    let at : tie.At-loop Inv-loop μ-loop = search needs in
-    let h = at .loop .inv in
+    let so-far : tie.At-loop Inv-loop μ-loop = search needs in
+    let h = so-far .loop .inv in
     omega arith
 
 add-word-at : tie.Need-add-word-at Inv-loop μ-loop
 unfolding blocksFor
 add-word-at c =
-    let at : tie.At-loop Inv-loop μ-loop = search needs in
-    let h = at .loop .inv in
+    let so-far : tie.At-loop Inv-loop μ-loop = search needs in
+    let h = so-far .loop .inv in
     let f = h .file in
     let e = c .before .place .ensures in
     omega arith
@@ -73,8 +73,8 @@ add-word-at c =
 word-at-requires-2 : tie.Need-word-at-requires-2 Inv-loop μ-loop
 unfolding blocksFor
 word-at-requires-2 c κs =
-    let at : tie.At-loop Inv-loop μ-loop = search needs in
-    let h = at .loop .inv in
+    let so-far : tie.At-loop Inv-loop μ-loop = search needs in
+    let h = so-far .loop .inv in
     let f = h .file in
     let e = c .before .place .ensures in
     omega arith
@@ -84,8 +84,8 @@ mul-arc-weights c = search needs
 
 slice-write-arc-weights : tie.Need-slice-write-arc-weights Inv-loop μ-loop
 slice-write-arc-weights c =
-    let at : tie.At-loop Inv-loop μ-loop = search needs in
-    let h = at .loop .inv in
+    let so-far : tie.At-loop Inv-loop μ-loop = search needs in
+    let h = so-far .loop .inv in
     omega arith
 
 add-e : tie.Need-add-e Inv-loop μ-loop
@@ -97,8 +97,8 @@ loop-less c = search needs
 loop-again : tie.Need-loop-again Inv-loop μ-loop
 loop-again c =
     let placed : tie.After-place Inv-loop μ-loop = search needs in
-    let at : tie.At-loop Inv-loop μ-loop = search needs in
-    arcs-more _ _ _ _ _ _ _ _ (at .loop .inv) (placed .before .loop-test .taken) _ _ _ (placed .place .ensures) (c .before .word-at .ensures) (c .word-at2 .ensures)
+    let so-far : tie.At-loop Inv-loop μ-loop = search needs in
+    arcs-more _ _ _ _ _ _ _ _ (so-far .loop .inv) (placed .before .loop-test .taken) _ _ _ (placed .place .ensures) (c .before .word-at .ensures) (c .word-at2 .ensures)
 
 same-length : tie.Need-same-length Inv-loop μ-loop
 same-length c = c .before .loop .inv .longNeighbours

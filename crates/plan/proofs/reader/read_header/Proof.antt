@@ -17,17 +17,20 @@ narrow-requires-2 c κs =
     omega arith
 
 whole-of-requires : tie.Need-whole-of-requires
-whole-of-requires c κs = value-fits _ (c .before .before .pre)
+whole-of-requires c κs =
+    let given : tie.Start = search needs in
+    value-fits _ (given .pre)
 
 imbalance-of-requires : tie.Need-imbalance-of-requires
 imbalance-of-requires c κs =
-    let start : tie.Start = search needs in
-    value-fits _ (start .pre)
+    let given : tie.Start = search needs in
+    value-fits _ (given .pre)
 
 returns : tie.Need-returns
 returns c =
     let vertices : tie.After-narrow = search needs in
-    rw (vertices .narrow .ensures, c .before .before .narrow2 .ensures, c .before .whole-of .ensures, c .imbalance-of .ensures) refl
+    let arcs : tie.After-narrow2 = search needs in
+    rw (vertices .narrow .ensures, arcs .narrow2 .ensures, c .before .whole-of .ensures, c .imbalance-of .ensures) refl
 
 pub read-header-spec : {M : Type 1} → statement M
 read-header-spec =

@@ -15,8 +15,8 @@ abbrev μ-loop : tie.MeasureT-loop
 
 loop-holds : tie.Need-loop-holds Inv-loop μ-loop
 loop-holds c =
-    let start : tie.Start Inv-loop μ-loop = search needs in
-    let p = start .pre in
+    let given : tie.Start Inv-loop μ-loop = search needs in
+    let p = given .pre in
     vertices-none _ _ _ _ _ (fine _ (p .0)) (p .1) (p .2) (p .3) (p .4)
 
 place-requires : tie.Need-place-requires Inv-loop μ-loop
@@ -26,21 +26,21 @@ place-requires c κs =
 
 add-word-at : tie.Need-add-word-at Inv-loop μ-loop
 add-word-at c =
-    let at : tie.At-loop Inv-loop μ-loop = search needs in
-    let f = at .loop .inv .file in
+    let so-far : tie.At-loop Inv-loop μ-loop = search needs in
+    let f = so-far .loop .inv .file in
     omega arith
 
 word-at-requires : tie.Need-word-at-requires Inv-loop μ-loop
 word-at-requires c κs =
-    let at : tie.At-loop Inv-loop μ-loop = search needs in
-    let f = at .loop .inv .file in
+    let so-far : tie.At-loop Inv-loop μ-loop = search needs in
+    let f = so-far .loop .inv .file in
     let e = c .place .ensures in
     omega arith
 
 word-at-requires-2 : tie.Need-word-at-requires-2 Inv-loop μ-loop
 word-at-requires-2 c κs =
-    let at : tie.At-loop Inv-loop μ-loop = search needs in
-    let f = at .loop .inv .file in
+    let so-far : tie.At-loop Inv-loop μ-loop = search needs in
+    let f = so-far .loop .inv .file in
     let e = c .before .place .ensures in
     omega arith
 
@@ -49,8 +49,8 @@ mul-weights c = search needs
 
 slice-write-weights : tie.Need-slice-write-weights Inv-loop μ-loop
 slice-write-weights c =
-    let at : tie.At-loop Inv-loop μ-loop = search needs in
-    let h = at .loop .inv in
+    let so-far : tie.At-loop Inv-loop μ-loop = search needs in
+    let h = so-far .loop .inv in
     omega arith
 
 mul-labels : tie.Need-mul-labels Inv-loop μ-loop
@@ -58,8 +58,8 @@ mul-labels c = search needs
 
 slice-write-labels : tie.Need-slice-write-labels Inv-loop μ-loop
 slice-write-labels c =
-    let at : tie.At-loop Inv-loop μ-loop = search needs in
-    let h = at .loop .inv in
+    let so-far : tie.At-loop Inv-loop μ-loop = search needs in
+    let h = so-far .loop .inv in
     omega arith
 
 mul-starts : tie.Need-mul-starts Inv-loop μ-loop
@@ -67,15 +67,15 @@ mul-starts c = search needs
 
 slice-write-starts : tie.Need-slice-write-starts Inv-loop μ-loop
 slice-write-starts c =
-    let at : tie.At-loop Inv-loop μ-loop = search needs in
-    let h = at .loop .inv in
+    let so-far : tie.At-loop Inv-loop μ-loop = search needs in
+    let h = so-far .loop .inv in
     omega arith
 
 add-row : tie.Need-add-row Inv-loop μ-loop
 add-row c =
     let placed : tie.After-place Inv-loop μ-loop = search needs in
-    let at : tie.At-loop Inv-loop μ-loop = search needs in
-    let m = row-most _ _ _ _ _ _ _ _ _ _ (at .loop .inv) (placed .before .loop-test .taken) _ _ (placed .place .ensures) (c .before .word-at .ensures) in
+    let so-far : tie.At-loop Inv-loop μ-loop = search needs in
+    let m = row-most _ _ _ _ _ _ _ _ _ _ (so-far .loop .inv) (placed .before .loop-test .taken) _ _ (placed .place .ensures) (c .before .word-at .ensures) in
     omega arith
 
 add-v : tie.Need-add-v Inv-loop μ-loop
@@ -87,8 +87,8 @@ loop-less c = search needs
 loop-again : tie.Need-loop-again Inv-loop μ-loop
 loop-again c =
     let placed : tie.After-place Inv-loop μ-loop = search needs in
-    let at : tie.At-loop Inv-loop μ-loop = search needs in
-    vertices-more _ _ _ _ _ _ _ _ _ _ (at .loop .inv) (placed .before .loop-test .taken) _ _ _ (placed .place .ensures) (c .before .word-at .ensures) (c .word-at2 .ensures)
+    let so-far : tie.At-loop Inv-loop μ-loop = search needs in
+    vertices-more _ _ _ _ _ _ _ _ _ _ (so-far .loop .inv) (placed .before .loop-test .taken) _ _ _ (placed .place .ensures) (c .before .word-at .ensures) (c .word-at2 .ensures)
 
 mul-starts-2 : tie.Need-mul-starts-2 Inv-loop μ-loop
 mul-starts-2 c = search needs

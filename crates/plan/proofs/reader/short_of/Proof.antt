@@ -18,19 +18,26 @@ add-if3 c = search needs
 
 returns-3 : tie.Need-returns-3
 unfolding short
-returns-3 c = simp (le-ltb _ _ (c .before .before .if1 .left), le-ltb _ _ (c .before .if2 .left), lt-ltb _ _ (c .if3 .taken))
+returns-3 c =
+    let labelled : tie.Else1 = search needs in
+    let weighed : tie.Else2 = search needs in
+    simp (le-ltb _ _ (labelled .if1 .left), le-ltb _ _ (weighed .if2 .left), lt-ltb _ _ (c .if3 .taken))
 
 returns-4 : tie.Need-returns-4
 unfolding short
 returns-4 c =
-    let past-if1 : tie.Else1 = search needs in
-    simp (le-ltb _ _ (past-if1 .if1 .left), le-ltb _ _ (c .before .before .if2 .left), le-ltb _ _ (c .before .if3 .left), lt-ltb _ _ (c .if4 .taken))
+    let labelled : tie.Else1 = search needs in
+    let weighed : tie.Else2 = search needs in
+    let started : tie.Else3 = search needs in
+    simp (le-ltb _ _ (labelled .if1 .left), le-ltb _ _ (weighed .if2 .left), le-ltb _ _ (started .if3 .left), lt-ltb _ _ (c .if4 .taken))
 
 returns-5 : tie.Need-returns-5
 unfolding short
 returns-5 c =
-    let past-if1 : tie.Else1 = search needs in
-    simp (le-ltb _ _ (past-if1 .if1 .left), le-ltb _ _ (c .before .before .if2 .left), le-ltb _ _ (c .before .if3 .left), le-ltb _ _ (c .if4 .left))
+    let labelled : tie.Else1 = search needs in
+    let weighed : tie.Else2 = search needs in
+    let started : tie.Else3 = search needs in
+    simp (le-ltb _ _ (labelled .if1 .left), le-ltb _ _ (weighed .if2 .left), le-ltb _ _ (started .if3 .left), le-ltb _ _ (c .if4 .left))
 
 pub short-of-spec : {M : Type 1} → statement M
 short-of-spec = tie.close (tie.spec returns returns-2 add-if3 returns-3 returns-4 returns-5)

@@ -14,7 +14,9 @@ unfit-choice-requires : tie.Need-unfit-choice-requires
 unfit-choice-requires c κs = search needs
 
 returns-2 : tie.Need-returns-2
-returns-2 c = simp (sym (c .before .before .out-of-range .ensures) ∙ c .before .if1 .left) (c .unfit-choice .ensures)
+returns-2 c =
+    let ranged : tie.Else1 = search needs in
+    simp (sym (ranged .before .out-of-range .ensures) ∙ ranged .if1 .left) (c .unfit-choice .ensures)
 
 pub unfit-spec : {M : Type 1} → statement M
 unfit-spec = tie.close (tie.spec out-of-range-requires returns unfit-choice-requires returns-2)

@@ -20,21 +20,25 @@ legal-bits-requires c κs = search needs
 returns-3 : tie.Need-returns-3
 unfolding unfitValue
 returns-3 c =
-    let past-if1 : tie.Else1 = search needs in
-    let past-if2 : tie.Else2 = search needs in
-    simp (ne-eqb _ _ (past-if1 .if1 .left), ne-eqb _ _ (past-if2 .if2 .left), eq-eqb _ _ (c .before .before .if3 .taken), sym (c .before .legal-bits .ensures) ∙ c .if4 .taken)
+    let not-carried : tie.Else1 = search needs in
+    let not-whole : tie.Else2 = search needs in
+    let by-imbalance : tie.Then3 = search needs in
+    simp (ne-eqb _ _ (not-carried .if1 .left), ne-eqb _ _ (not-whole .if2 .left), eq-eqb _ _ (by-imbalance .if3 .taken), sym (c .before .legal-bits .ensures) ∙ c .if4 .taken)
 
 returns-4 : tie.Need-returns-4
 unfolding unfitValue
 returns-4 c =
-    let past-if1 : tie.Else1 = search needs in
-    let past-if2 : tie.Else2 = search needs in
-    simp (ne-eqb _ _ (past-if1 .if1 .left), ne-eqb _ _ (past-if2 .if2 .left), eq-eqb _ _ (c .before .before .if3 .taken), sym (c .before .legal-bits .ensures) ∙ c .if4 .left)
+    let not-carried : tie.Else1 = search needs in
+    let not-whole : tie.Else2 = search needs in
+    let by-imbalance : tie.Then3 = search needs in
+    simp (ne-eqb _ _ (not-carried .if1 .left), ne-eqb _ _ (not-whole .if2 .left), eq-eqb _ _ (by-imbalance .if3 .taken), sym (c .before .legal-bits .ensures) ∙ c .if4 .left)
 
 returns-5 : tie.Need-returns-5
 unfolding unfitValue
 returns-5 c =
-    simp (ne-eqb _ _ (c .before .before .if1 .left), ne-eqb _ _ (c .before .if2 .left), ne-eqb _ _ (c .if3 .left))
+    let not-carried : tie.Else1 = search needs in
+    let not-whole : tie.Else2 = search needs in
+    simp (ne-eqb _ _ (not-carried .if1 .left), ne-eqb _ _ (not-whole .if2 .left), ne-eqb _ _ (c .if3 .left))
 
 pub unfit-value-spec : {M : Type 1} → statement M
 unfit-value-spec =

@@ -12,18 +12,25 @@ wide-requires c κs = search needs
 
 returns : tie.Need-returns
 unfolding valueOf
-returns c = simp (eq-eqb _ _ (c .before .if1 .taken)) (c .wide .ensures)
+returns c = let whole : tie.Then1 = search needs in simp (eq-eqb _ _ (whole .if1 .taken)) (c .wide .ensures)
 
 bits-of-requires : tie.Need-bits-of-requires
-bits-of-requires c κs = let a = c .before .before .args in fit-legal (a .choice) (a .e) (c .before .before .pre) (λ z. let t = c .if2 .taken in omega arith) (c .before .if1 .left)
+bits-of-requires c κs =
+    let given : tie.Start = search needs in
+    let not-whole : tie.Else1 = search needs in
+    fit-legal (given .args .asked) (given .pre) (λ z. let t = c .if2 .taken in omega arith) (not-whole .if1 .left)
 
 returns-2 : tie.Need-returns-2
 unfolding valueOf
-returns-2 c = simp (ne-eqb _ _ (c .before .before .if1 .left), eq-eqb _ _ (c .before .if2 .taken)) (c .bits-of .ensures)
+returns-2 c =
+    let not-whole : tie.Else1 = search needs in
+    let bits : tie.Then2 = search needs in simp (ne-eqb _ _ (not-whole .if1 .left), eq-eqb _ _ (bits .if2 .taken)) (c .bits-of .ensures)
 
 returns-3 : tie.Need-returns-3
 unfolding valueOf
-returns-3 c = simp (ne-eqb _ _ (c .before .if1 .left), ne-eqb _ _ (c .if2 .left))
+returns-3 c =
+    let not-whole : tie.Else1 = search needs in
+    simp (ne-eqb _ _ (not-whole .if1 .left), ne-eqb _ _ (c .if2 .left))
 
 pub value-of-spec : {M : Type 1} → statement M
 value-of-spec = tie.close (tie.spec wide-requires returns bits-of-requires returns-2 returns-3)

@@ -37,7 +37,9 @@ returns c =
     let arcs : tie.After-index2 = search needs in
     let parts : tie.After-word-at3 = search needs in
     let choices : tie.After-word-at4 = search needs in
-    header-is _ (vertices .index .ensures) (vertices .before .word-at .ensures) (arcs .index2 .ensures) (arcs .before .word-at2 .ensures) (parts .word-at3 .ensures) (choices .word-at4 .ensures) (c .paired .ensures) (c .before .before .word-at5 .ensures) (c .before .word-at6 .ensures)
+    let low : tie.After-word-at5 = search needs in
+    let high : tie.After-word-at6 = search needs in
+    header-is _ (vertices .index .ensures) (vertices .before .word-at .ensures) (arcs .index2 .ensures) (arcs .before .word-at2 .ensures) (parts .word-at3 .ensures) (choices .word-at4 .ensures) (c .paired .ensures) (low .word-at5 .ensures) (high .word-at6 .ensures)
 
 pub header-of-spec : {M : Type 1} → statement M
 header-of-spec =

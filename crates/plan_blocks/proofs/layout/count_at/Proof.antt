@@ -24,8 +24,9 @@ held-by-requires c κs = search needs
 returns-2 : tie.Need-returns-2
 unfolding countAt
 returns-2 c =
-    let past-if1 : tie.Else1 = search needs in
-    simp (ne-eqb _ _ (past-if1 .if1 .left), le-leb _ _ (rw (c .before .before .blocks-for .ensures) at (c .before .if2 .taken))) (c .held-by .ensures)
+    let later : tie.Else1 = search needs in
+    let vertices : tie.After-blocks-for = search needs in
+    simp (ne-eqb _ _ (later .if1 .left), le-leb _ _ (rw (vertices .blocks-for .ensures) at (c .before .if2 .taken))) (c .held-by .ensures)
 
 sub-held-by-2 : tie.Need-sub-held-by-2
 sub-held-by-2 c = search needs
@@ -40,11 +41,12 @@ held-by-requires-2 c κs = search needs
 returns-3 : tie.Need-returns-3
 unfolding countAt
 returns-3 c =
-    let start : tie.Start = search needs in
-    let past-if1 : tie.Else1 = search needs in
-    let a = start .args in
-    simp (ne-eqb _ _ (past-if1 .if1 .left), lt-leb _ _ (rw (c .before .before .blocks-for .ensures) at (c .before .if2 .left)))
-    (c .held-by2 .ensures ∙ ap (λ (v : ℕ). heldBy (a .a) (a .b - 1 - v)) (c .before .before .blocks-for .ensures))
+    let given : tie.Start = search needs in
+    let later : tie.Else1 = search needs in
+    let vertices : tie.After-blocks-for = search needs in
+    let a = given .args in
+    simp (ne-eqb _ _ (later .if1 .left), lt-leb _ _ (rw (vertices .blocks-for .ensures) at (c .before .if2 .left)))
+    (c .held-by2 .ensures ∙ ap (λ (v : ℕ). heldBy (a .a) (a .b - 1 - v)) (vertices .blocks-for .ensures))
 
 pub count-at-spec : {M : Type 1} → statement M
 count-at-spec =

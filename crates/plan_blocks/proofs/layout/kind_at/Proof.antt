@@ -14,11 +14,15 @@ blocks-for-requires c κs = search needs
 
 returns-2 : tie.Need-returns-2
 unfolding kindAt
-returns-2 c = simp (ne-eqb _ _ (c .before .before .if1 .left), le-leb _ _ (rw (c .before .blocks-for .ensures) at (c .if2 .taken)))
+returns-2 c =
+    let later : tie.Else1 = search needs in
+    simp (ne-eqb _ _ (later .if1 .left), le-leb _ _ (rw (c .before .blocks-for .ensures) at (c .if2 .taken)))
 
 returns-3 : tie.Need-returns-3
 unfolding kindAt
-returns-3 c = simp (ne-eqb _ _ (c .before .before .if1 .left), lt-leb _ _ (rw (c .before .blocks-for .ensures) at (c .if2 .left)))
+returns-3 c =
+    let later : tie.Else1 = search needs in
+    simp (ne-eqb _ _ (later .if1 .left), lt-leb _ _ (rw (c .before .blocks-for .ensures) at (c .if2 .left)))
 
 pub kind-at-spec : {M : Type 1} → statement M
 kind-at-spec = tie.close (tie.spec returns blocks-for-requires returns-2 returns-3)

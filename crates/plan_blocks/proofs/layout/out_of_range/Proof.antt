@@ -15,19 +15,26 @@ returns-2 c = simp (ne-eqb _ _ (c .before .if1 .left), lt-ltb _ _ (c .if2 .taken
 
 returns-3 : tie.Need-returns-3
 unfolding outOfRange
-returns-3 c = simp (ne-eqb _ _ (c .before .before .if1 .left), le-ltb _ _ (c .before .if2 .left), lt-ltb _ _ (c .if3 .taken))
+returns-3 c =
+    let some : tie.Else1 = search needs in
+    let few : tie.Else2 = search needs in
+    simp (ne-eqb _ _ (some .if1 .left), le-ltb _ _ (few .if2 .left), lt-ltb _ _ (c .if3 .taken))
 
 returns-4 : tie.Need-returns-4
 unfolding outOfRange
 returns-4 c =
-    let past-if1 : tie.Else1 = search needs in
-    simp (ne-eqb _ _ (past-if1 .if1 .left), le-ltb _ _ (c .before .before .if2 .left), le-ltb _ _ (c .before .if3 .left), lt-ltb _ _ (c .if4 .taken))
+    let some : tie.Else1 = search needs in
+    let few : tie.Else2 = search needs in
+    let few-arcs : tie.Else3 = search needs in
+    simp (ne-eqb _ _ (some .if1 .left), le-ltb _ _ (few .if2 .left), le-ltb _ _ (few-arcs .if3 .left), lt-ltb _ _ (c .if4 .taken))
 
 returns-5 : tie.Need-returns-5
 unfolding outOfRange
 returns-5 c =
-    let past-if1 : tie.Else1 = search needs in
-    simp (ne-eqb _ _ (past-if1 .if1 .left), le-ltb _ _ (c .before .before .if2 .left), le-ltb _ _ (c .before .if3 .left), le-ltb _ _ (c .if4 .left))
+    let some : tie.Else1 = search needs in
+    let few : tie.Else2 = search needs in
+    let few-arcs : tie.Else3 = search needs in
+    simp (ne-eqb _ _ (some .if1 .left), le-ltb _ _ (few .if2 .left), le-ltb _ _ (few-arcs .if3 .left), le-ltb _ _ (c .if4 .left))
 
 pub out-of-range-spec : {M : Type 1} → statement M
 out-of-range-spec = tie.close (tie.spec returns returns-2 returns-3 returns-4 returns-5)

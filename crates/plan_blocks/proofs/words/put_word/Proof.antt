@@ -47,8 +47,10 @@ same-length c = search needs
 
 returns : tie.Need-returns
 returns c =
-    let after-low-byte : tie.After-low-byte = search needs in
-    stored _ _ _ _ _ _ _ (after-low-byte .low-byte .ensures) (c .before .before .low-byte2 .ensures) (c .before .low-byte3 .ensures) (c .low-byte4 .ensures)
+    let first : tie.After-low-byte = search needs in
+    let second : tie.After-low-byte2 = search needs in
+    let third : tie.After-low-byte3 = search needs in
+    stored _ _ _ _ _ _ _ (first .low-byte .ensures) (second .low-byte2 .ensures) (third .low-byte3 .ensures) (c .low-byte4 .ensures)
 
 pub put-word-spec : {M : Type 1} → statement M
 put-word-spec =

@@ -35,15 +35,15 @@ loop-less c = search needs
 
 loop-again : tie.Need-loop-again Inv-loop μ-loop
 loop-again c =
-    let at : tie.At-loop Inv-loop μ-loop = search needs in
-    (wrap-step _ _ _ _ _ (at .loop .inv .0) (c .before .word-at .ensures) (c .wrapping-add-u32 .ensures), search needs)
+    let so-far : tie.At-loop Inv-loop μ-loop = search needs in
+    (wrap-step _ _ _ _ _ (so-far .loop .inv .0) (c .before .word-at .ensures) (c .wrapping-add-u32 .ensures), search needs)
 
 returns : tie.Need-returns Inv-loop μ-loop
 returns c =
-    let at : tie.At-loop Inv-loop μ-loop = search needs in
-    let start : tie.Start Inv-loop μ-loop = search needs in
-    let e : at .loop .j ≡ start .args .count = omega arith in
-    rw e at (at .loop .inv .0)
+    let so-far : tie.At-loop Inv-loop μ-loop = search needs in
+    let given : tie.Start Inv-loop μ-loop = search needs in
+    let e : so-far .loop .j ≡ given .args .count = omega arith in
+    rw e at (so-far .loop .inv .0)
 
 pub words-sum-spec : {M : Type 1} → statement M
 words-sum-spec =

@@ -1,0 +1,11 @@
+use mathlib.Core.Path.{refl}
+use Rattle.lists.specs.Fill.{table}
+use Rattle.arc_swap.proofs.answers.bare_report.Statement.{statement}
+use Rattle.arc_swap.proofs.answers.bare_report.Tie as tie
+
+returns : tie.Need-returns
+unfolding table
+returns c = refl
+
+pub bare-report-spec : {M : Type 1} → statement M
+bare-report-spec = tie.close (tie.spec returns)

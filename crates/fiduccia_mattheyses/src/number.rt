@@ -1,0 +1,101 @@
+// The number of a call. Document 01, "Numbers a call gives back".
+ghost use mathlib.Core.Path.{_≡_};
+ghost use mathlib.Core.Bool.{cond};
+ghost use lib.ListN.{length};
+ghost use lib.Dec.{eqb};
+ghost use Rattle.topology.specs.Graph.{inRows};
+ghost use Rattle.fiduccia_mattheyses.specs.Entry.{askedCeiling, unfit, short, numberOf};
+use crate::Room;
+use crate::Settings;
+use imbalance::Ceiling;
+
+// What the settings ask of the ceiling.
+pub fn asked_ceiling(s: Settings) -> Ceiling
+    ensures { λ r. ⌜ r ≡ askedCeiling s ⌝ }
+{
+    Ceiling {
+        choice: s.choice,
+        whole: s.whole,
+        imbalance: s.imbalance,
+    }
+}
+
+// Number 7's test.
+fn unfit_settings(s: Settings) -> bool
+    ensures { λ r. ⌜ r ≡ unfit s ⌝ }
+{
+    let passes = s.passes;
+    if 1024 < passes {
+        return true;
+    }
+    let asked = asked_ceiling(s);
+    imbalance::unfit_choice(asked)
+}
+
+// Number 8's test.
+fn too_short(n: usize, passes: u32, room: Room) -> bool
+    ensures { λ r. ⌜ r ≡ short n passes room ⌝ }
+{
+    if room.gains < n {
+        return true;
+    }
+    if room.moves < n {
+        return true;
+    }
+    let rows = lists::index(passes);
+    if room.made < rows {
+        return true;
+    }
+    room.rewound < rows
+}
+
+// The number of a call.
+fn number_of(
+    starts: &[u32],
+    neighbours: &[u32],
+    arc_weights: &[u32],
+    weights: &[u32],
+    labels: &[u32],
+    room: Room,
+    s: Settings,
+) -> u32
+    ensures { λ r. ⌜ r ≡ numberOf (inRows (now (starts .entry)) (now (neighbours .entry)) (now («arc_weights» .entry))) (now (weights .entry)) (now (labels .entry)) room s ⌝ }
+{
+    let n = labels.len();
+    let number = topology::graph_number(starts, neighbours, arc_weights, weights, n);
+    if number != 0 {
+        return number;
+    }
+    if imbalance::label_above(labels, 1) {
+        return 6;
+    }
+    let unfit = unfit_settings(s);
+    let passes = s.passes;
+    let short = too_short(n, passes, room);
+    if unfit {
+        return 7;
+    }
+    if short {
+        return 8;
+    }
+    0
+}
+
+// The number of a call: without vertices it is done, whatever else is wrong.
+pub fn call_number(
+    starts: &[u32],
+    neighbours: &[u32],
+    arc_weights: &[u32],
+    weights: &[u32],
+    labels: &[u32],
+    room: Room,
+    s: Settings,
+) -> u32
+    ensures { λ r. ⌜ r ≡ cond (eqb (length (now (labels .entry))) 0) 0 (numberOf (inRows (now (starts .entry)) (now (neighbours .entry)) (now («arc_weights» .entry))) (now (weights .entry)) (now (labels .entry)) room s) ⌝ }
+{
+    let n = labels.len();
+    if n == 0 {
+        return 0;
+    }
+    number_of(starts, neighbours, arc_weights, weights, labels, room, s)
+}
