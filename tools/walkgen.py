@@ -34,11 +34,11 @@ PAST = {'RunRecord': 'record { attempts = 0; moves = 0; «no_gain» = 0; «bad_b
 CONF = {
     'fiduccia_mattheyses': dict(
         own=['put_move', 'move_at', 'clear'],
-        walked=['walk_moves', 'rewind', 'pass', 'make_passes', 'refine', 'fiduccia_mattheyses']),
-    'fiduccia_mattheyses_moves': dict(own=[], walked=['with_8_moves', 'with_512_moves'], alike={'with_moves': ['with_8_moves', 'with_512_moves']}),
+        walked=['walk_moves', 'rewind', 'make_pass', 'make_passes', 'refine', 'fiduccia_mattheyses']),
+    'fiduccia_mattheyses_records': dict(own=[], walked=['with_8_moves', 'with_512_moves'], alike={'with_moves': ['with_8_moves', 'with_512_moves']}),
     'arc_swap': dict(
         own=['note', 'zero_run'],
-        walked=['drain_stack', 'sweep_all', 'run_passes', 'swap_all', 'arc_swap', 'arc_swap_counted'],
+        walked=['drain_stack', 'make_pass', 'make_passes', 'refine', 'arc_swap', 'arc_swap_counted'],
         lends={'RunRecord': ['arc_swap_counted']}),
     'daunsrevit': dict(own=[], walked=['daunsrevit_fiduccia_mattheyses', 'daunsrevit_arc_swap']),
 }

@@ -21,14 +21,14 @@ use Rattle.arc_swap_attempt.specs.declared.Trial.{Trial}
 use Rattle.arc_swap_attempt.specs.declared.Trial.the-variants.{NoGain, BadBalance, Goes}
 use Rattle.arc_swap_attempt.proofs.Tried.{Goal}
 use Rattle.arc_swap.specs.declared.RunRecord.{RunRecord}
-use Rattle.arc_swap.specs.Run.{Setting, noted, run, Summed}
+use Rattle.arc_swap.specs.Run.{Terms, noted, run, Summed}
 use Rattle.arc_swap.specs.Entry.{begin}
-use Rattle.arc_swap.specs.inner.Steps.{nobody}
+use Rattle.arc_swap.specs.inner.Steps.{no-vertex}
 use Rattle.arc_swap.specs.Demand.{gained, NoPartAbove}
 use Rattle.arc_swap.proofs.Drains.{noted-summed}
 use Rattle.arc_swap.proofs.Keeps.{holds-run}
 
-module _ (s : Setting) (p₀ : List ℕ) (symmetric : Symmetric (length p₀) (s .graph)) (ok : Named (s .graph) (s .parts) p₀) where
+module _ (s : Terms) (p₀ : List ℕ) (symmetric : Symmetric (length p₀) (s .graph)) (ok : Named (s .graph) (s .parts) p₀) where
   -- a move lowers the cut by its gain
   pub falls : (p : List ℕ) (v t x : ℕ) → length p ≡ length p₀ → v < length p₀ → Goal (s .graph) (s .parts) (s .weights) (s .ceilings) p v t x → cut (s .graph) (set p v t) + x ≡ cut (s .graph) p
   falls p v t x e l g =
@@ -87,7 +87,7 @@ module _ (s : Setting) (p₀ : List ℕ) (symmetric : Symmetric (length p₀) (s
   kept f i = holds-run s (length p₀) Kept stay go f i (begin p₀) (record {
     long = refl;
     ok = ok;
-    inside = nobody;
+    inside = no-vertex;
     kept = record {
       lower = omega arith;
       sums = D.same (cut (s .graph) p₀) (cut (s .graph) p₀) 0 0 (omega arith);

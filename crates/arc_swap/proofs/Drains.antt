@@ -13,21 +13,21 @@ use Rattle.topology.specs.Graph.{first, past, gain}
 use Rattle.topology.specs.Cut.{cut}
 use Rattle.topology.proofs.Moves.{cut-move}
 use Rattle.arc_swap_attempt.specs.Trial.{trial}
-use Rattle.arc_swap_attempt.specs.inner.Steps.{held, fresh, Tryable, MoveAsked, MoveDone}
+use Rattle.arc_swap_attempt.specs.inner.Steps.{stacked, pushedBy, Tryable, MoveAsked, MoveDone}
 use Rattle.arc_swap_attempt.specs.declared.Standing.{Standing}
 use Rattle.arc_swap_attempt.specs.declared.Trial.{Trial}
 use Rattle.arc_swap_attempt.specs.declared.Trial.the-variants.{NoGain, BadBalance, Goes}
-use Rattle.arc_swap_attempt.proofs.Stacks.{length-held, held-pop, held-none}
+use Rattle.arc_swap_attempt.proofs.Stacks.{length-stacked, stacked-pop, stacked-none}
 use Rattle.arc_swap_attempt.proofs.Tried.{Goal, goal, aim-in}
 use Rattle.arc_swap_attempt.proofs.Moving.{named-move}
 use Rattle.arc_swap.specs.declared.RunRecord.{RunRecord}
 use Rattle.arc_swap.specs.declared.Attempted.{Attempted}
-use Rattle.arc_swap.specs.Run.{Setting, noted, after, attempt, drain, Summed}
-use Rattle.arc_swap.specs.inner.Steps.{Fixed, Inside, Ready, at, standing, spent, most, Asked, Done, AttemptAsked, AttemptDone}
+use Rattle.arc_swap.specs.Run.{Terms, noted, after, attempt, drain, Summed}
+use Rattle.arc_swap.specs.inner.Steps.{Fixed, Inside, Ordered, at, standing, spent, most, Asked, Done, AttemptAsked, AttemptDone}
 use Rattle.arc_swap.proofs.Spreads.{inside-both, inside-top, inside-rest, pushed-few, pushed-inside, row-few}
 
 -- ---- the definition, step by step
-module _ (s : Setting) where
+module _ (s : Terms) where
   pub drain-full : (f : ℕ) (p l : List ℕ) (c : RunRecord) (gs : List ℤ) → drain s f (at p l c gs true) ≡ at p l c gs true
   unfolding drain
   drain-full zero p l c gs = refl
@@ -61,12 +61,12 @@ noted-more BadBalance c = refl
 noted-more (Goes t x) c = refl
 
 -- ---- one attempt: what its parts ask
-module _ (s : Setting) (p stack : List ℕ) (c : Standing) (ask : AttemptAsked s p stack c) (v : ℕ) (v-is : v ≡ getD stack (c .top - 1) 0) where
+module _ (s : Terms) (p stack : List ℕ) (c : Standing) (ask : AttemptAsked s p stack c) (v : ℕ) (v-is : v ≡ getD stack (c .top - 1) 0) where
   top-is : c .top ≡ c .top - 1 + 1
   top-is = omega (arith, ask .some)
 
-  pub popped : held stack (c .top) ≡ v ∷ held stack (c .top - 1)
-  popped = held-pop stack (c .top - 1) (c .top) top-is ∙ ap (λ (x : ℕ). x ∷ held stack (c .top - 1)) (sym v-is)
+  pub popped : stacked stack (c .top) ≡ v ∷ stacked stack (c .top - 1)
+  popped = stacked-pop stack (c .top - 1) (c .top) top-is ∙ ap (λ (x : ℕ). x ∷ stacked stack (c .top - 1)) (sym v-is)
 
   pub here : v < length p
   here = inside-top (rw popped at (ask .inside))
@@ -92,7 +92,7 @@ module _ (s : Setting) (p stack : List ℕ) (c : Standing) (ask : AttemptAsked s
         weighed = ask .fixed .weighed;
         light = ask .fixed .light;
         stood = ask .stood;
-        room = (let a = ask .within in omega arith);
+        places = (let a = ask .within in omega arith);
         here = here;
         target = i .0;
         apart = λ e. i .1 (sym e);
@@ -124,48 +124,48 @@ module _ (s : Setting) (p stack : List ℕ) (c : Standing) (ask : AttemptAsked s
       same : (u y : ℕ) → Goes t x ≡ Goes u y → t ≡ u
       same u y e = ap target e
 
-abbrev fuel : Setting → List ℕ → ℕ
-fuel s p = (cut (s .graph) p + 1) * (s .room + 1)
+abbrev fuel : Terms → List ℕ → ℕ
+fuel s p = (cut (s .graph) p + 1) * (s .places + 1)
 
 -- where the emptying stands
-pub record Draining (s : Setting) (p₀ stack₀ : List ℕ) (c₀ : Standing) (counts₀ : RunRecord) (p stack : List ℕ) (c : Standing) (counts : RunRecord) : Type 0 where
-  pub ready : Ready s (length p₀) p stack (c .top) (c .cut) (c .loads .at) counts
+pub record Draining (s : Terms) (p₀ stack₀ : List ℕ) (c₀ : Standing) (counts₀ : RunRecord) (p stack : List ℕ) (c : Standing) (counts : RunRecord) : Type 0 where
+  pub ordered : Ordered s (length p₀) p stack (c .top) (c .cut) (c .loads .at) counts
   pub bounded : spent counts (c .top) (c .cut) ≤ spent counts₀ (c₀ .top) (c₀ .cut) + 0
-  pub none : c .fits ≡ false → c .top ≡ 0
-  pub rest : (gs : List ℤ) → (hs : List ℤ) × (f : ℕ) × (drain s (fuel s p₀) (at p₀ (held stack₀ (c₀ .top)) counts₀ gs (not (c₀ .fits))) ≡ drain s f (at p (held stack (c .top)) counts hs (not (c .fits)))) × (c .cut * (s .room + 1) + c .top ≤ f)
+  pub empty : c .fits ≡ false → c .top ≡ 0
+  pub rest : (gs : List ℤ) → (hs : List ℤ) × (f : ℕ) × (drain s (fuel s p₀) (at p₀ (stacked stack₀ (c₀ .top)) counts₀ gs (not (c₀ .fits))) ≡ drain s f (at p (stacked stack (c .top)) counts hs (not (c .fits)))) × (c .cut * (s .places + 1) + c .top ≤ f)
 
-module _ (s : Setting) (anyone : s .movable ≡ (λ v. true)) (p₀ stack₀ : List ℕ) (c₀ : Standing) (counts₀ : RunRecord) (ask : Asked s p₀ stack₀ (c₀ .top) (c₀ .cut) (c₀ .loads .at) counts₀ 0) where
+module _ (s : Terms) (all-movable : s .movable ≡ (λ v. true)) (p₀ stack₀ : List ℕ) (c₀ : Standing) (counts₀ : RunRecord) (ask : Asked s p₀ stack₀ (c₀ .top) (c₀ .cut) (c₀ .loads .at) counts₀ 0) where
   pub draining : (c₀ .fits ≡ false → c₀ .top ≡ 0) → Draining s p₀ stack₀ c₀ counts₀ p₀ stack₀ c₀ counts₀
   draining none₀ = record {
-    ready = ask .ready;
+    ordered = ask .ordered;
     bounded = omega arith;
-    none = none₀;
+    empty = none₀;
     rest = λ gs. (gs, fuel s p₀, refl, lasts);
   }
     where
-      lasts : c₀ .cut * (s .room + 1) + c₀ .top ≤ fuel s p₀
+      lasts : c₀ .cut * (s .places + 1) + c₀ .top ≤ fuel s p₀
       lasts =
-          let a = ask .ready .stood .cut-is in
-          let b = ask .ready .within in
-          let c = ask .ready .room in
-          let d = add-mul (cut (s .graph) p₀) 1 (s .room + 1) in
-          let e = one-mul (s .room + 1) in
-          let h = ap (λ (x : ℕ). x * (s .room + 1)) a in
+          let a = ask .ordered .stood .cut-is in
+          let b = ask .ordered .within in
+          let c = ask .ordered .places in
+          let d = add-mul (cut (s .graph) p₀) 1 (s .places + 1) in
+          let e = one-mul (s .places + 1) in
+          let h = ap (λ (x : ℕ). x * (s .places + 1)) a in
           omega arith
 
   module _ (p stack : List ℕ) (c : Standing) (counts : RunRecord) (inv : Draining s p₀ stack₀ c₀ counts₀ p stack c counts) where
     -- the counts are far from the ends of their types
     pub modest : (Summed counts) × (counts .attempts ≤ most)
-    modest = (inv .ready .summed, (let a = inv .bounded in let b = ask .modest in omega arith))
+    modest = (inv .ordered .summed, (let a = inv .bounded in let b = ask .modest in omega arith))
 
     -- nothing is held any more
     pub emptied : c .top ≤ 0 → Done (λ x. drain s (fuel s p₀) (standing (c₀ .fits) x)) s p₀ stack₀ (c₀ .top) (c₀ .cut) counts₀ 0 p stack counts c
     emptied l =
         let z : c .top ≡ 0 = omega arith in
         record {
-          leads = λ gs. (let a = inv .rest gs in (a .0, a .2 ∙ over (a .1) (a .0) (c .fits) (held stack (c .top)) (ap (held stack) z ∙ held-none stack)));
+          leads = λ gs. (let a = inv .rest gs in (a .0, a .2 ∙ over (a .1) (a .0) (c .fits) (stacked stack (c .top)) (ap (stacked stack) z ∙ stacked-none stack)));
           emptied = λ e. z;
-          ready = inv .ready;
+          ordered = inv .ordered;
           bounded = inv .bounded;
         }
       where
@@ -180,39 +180,39 @@ module _ (s : Setting) (anyone : s .movable ≡ (λ v. true)) (p₀ stack₀ : L
         where
           by : (b : Bool) → c .fits ≡ b → b ≡ true
           by true e = refl
-          by false e = absurd (let z = inv .none e in omega arith)
+          by false e = absurd (let z = inv .empty e in omega arith)
 
       pub attempt-asked : AttemptAsked s p stack c
       attempt-asked = record {
-        fixed = rw (inv .ready .long) (ask .fixed);
-        ok = inv .ready .ok;
+        fixed = rw (inv .ordered .long) (ask .fixed);
+        ok = inv .ordered .ok;
         some = l;
-        within = inv .ready .within;
-        inside = rw (inv .ready .long) (inv .ready .inside);
-        stood = inv .ready .stood;
+        within = inv .ordered .within;
+        inside = rw (inv .ordered .long) (inv .ordered .inside);
+        stood = inv .ordered .stood;
       }
 
       abbrev v : ℕ
       v = getD stack (c .top - 1) 0
 
-      on-top : held stack (c .top) ≡ v ∷ held stack (c .top - 1)
+      on-top : stacked stack (c .top) ≡ v ∷ stacked stack (c .top - 1)
       on-top = popped s p stack c attempt-asked v refl
 
-      left-inside : Inside (length p₀) (held stack (c .top - 1))
-      left-inside = inside-rest (rw on-top at (inv .ready .inside))
+      left-inside : Inside (length p₀) (stacked stack (c .top - 1))
+      left-inside = inside-rest (rw on-top at (inv .ordered .inside))
 
       fixed′ : Fixed s (length p)
-      fixed′ = rw (inv .ready .long) (ask .fixed)
+      fixed′ = rw (inv .ordered .long) (ask .fixed)
 
       module _ (tr : Trial) (tr-is : tr ≡ trial (s .graph) (s .parts) (s .weights) (s .ceilings) p v) (counts′ : RunRecord) (counts-are : counts′ ≡ noted tr counts) where
         summed′ : Summed counts′
-        summed′ = rw counts-are (noted-summed tr counts (inv .ready .summed))
+        summed′ = rw counts-are (noted-summed tr counts (inv .ordered .summed))
 
         more′ : counts′ .attempts ≡ counts .attempts + 1
         more′ = rw counts-are (noted-more tr counts)
 
         -- the definition's step, one attempt on
-        next : (gs : List ℤ) → (hs : List ℤ) × (f : ℕ) × (drain s (fuel s p₀) (at p₀ (held stack₀ (c₀ .top)) counts₀ gs (not (c₀ .fits))) ≡ drain s f (after s tr (at p (v ∷ held stack (c .top - 1)) counts hs false) (held stack (c .top - 1)) v)) × (c .cut * (s .room + 1) + c .top ≤ suc f)
+        next : (gs : List ℤ) → (hs : List ℤ) × (f : ℕ) × (drain s (fuel s p₀) (at p₀ (stacked stack₀ (c₀ .top)) counts₀ gs (not (c₀ .fits))) ≡ drain s f (after s tr (at p (v ∷ stacked stack (c .top - 1)) counts hs false) (stacked stack (c .top - 1)) v)) × (c .cut * (s .places + 1) + c .top ≤ suc f)
         next gs =
             let a = inv .rest gs in
             let m = a .3 in
@@ -220,32 +220,32 @@ module _ (s : Setting) (anyone : s .movable ≡ (λ v. true)) (p₀ stack₀ : L
               a .0,
               a .1 - 1,
               a .2
-                  ∙ ap (λ (b : Bool). drain s (a .1) (at p (held stack (c .top)) counts (a .0) (not b))) fits-is
+                  ∙ ap (λ (b : Bool). drain s (a .1) (at p (stacked stack (c .top)) counts (a .0) (not b))) fits-is
                   ∙ ap₂ (λ (n : ℕ) (k : List ℕ). drain s n (at p k counts (a .0) false)) q on-top
-                  ∙ drain-step s (a .1 - 1) p (held stack (c .top - 1)) v counts (a .0) tr tr-is,
+                  ∙ drain-step s (a .1 - 1) p (stacked stack (c .top - 1)) v counts (a .0) tr tr-is,
               omega arith,
             )
 
         -- it stays
         turn-stays : ((t x : ℕ) → tr ≡ Goes t x → ⊥) → Draining s p₀ stack₀ c₀ counts₀ p stack (record { fits = c .fits; top = c .top - 1; cut = c .cut; loads = c .loads }) counts′
         turn-stays stays = record {
-          ready = record {
-            long = inv .ready .long;
-            ok = inv .ready .ok;
-            room = inv .ready .room;
-            within = (let a = inv .ready .within in omega arith);
+          ordered = record {
+            long = inv .ordered .long;
+            ok = inv .ordered .ok;
+            places = inv .ordered .places;
+            within = (let a = inv .ordered .within in omega arith);
             inside = left-inside;
-            stood = inv .ready .stood;
+            stood = inv .ordered .stood;
             summed = summed′;
           };
           bounded = (let a = inv .bounded in let b = more′ in omega arith);
-          none = λ e. (let z = inv .none e in omega arith);
+          empty = λ e. (let z = inv .empty e in omega arith);
           rest = λ gs. (let a = next gs in let m = a .3 in (
             a .0,
             a .1,
             a .2
-                ∙ ap (drain s (a .1)) (stayed s tr stays p (held stack (c .top - 1)) v counts (a .0) ∙ ap (λ (r : RunRecord). at p (held stack (c .top - 1)) r (a .0) false) (sym counts-are))
-                ∙ ap (λ (b : Bool). drain s (a .1) (at p (held stack (c .top - 1)) counts′ (a .0) (not b))) (sym fits-is),
+                ∙ ap (drain s (a .1)) (stayed s tr stays p (stacked stack (c .top - 1)) v counts (a .0) ∙ ap (λ (r : RunRecord). at p (stacked stack (c .top - 1)) r (a .0) false) (sym counts-are))
+                ∙ ap (λ (b : Bool). drain s (a .1) (at p (stacked stack (c .top - 1)) counts′ (a .0) (not b))) (sym fits-is),
             omega arith,
           ));
         }
@@ -260,47 +260,47 @@ module _ (s : Setting) (anyone : s .movable ≡ (λ v. true)) (p₀ stack₀ : L
 
           module _ (p′ stack′ : List ℕ) (d : Standing) (long′ : length stack′ ≡ length stack) (done : MoveDone (s .graph) (s .parts) (s .weights) p stack (c .top - 1) v t p′ stack′ d) where
             abbrev new : List ℕ
-            new = fresh (s .graph) (s .parts) p′ v
+            new = pushedBy (s .graph) (s .parts) p′ v
 
             -- the cut falls by x, which is above 0
             falls : d .cut + x ≡ c .cut
             falls =
                 let a = cut-move (s .graph) p v t (fixed′ .symmetric) (asked′ .here) in
                 let b = goal′ .sums in
-                let g = inv .ready .stood .cut-is in
+                let g = inv .ordered .stood .cut-is in
                 let e = done .stood .cut-is in
                 let f = ap (cut (s .graph)) (done .labelled) in
                 omega arith
 
             few : length new ≤ mostArcs
-            few = omega (arith, pushed-few (s .graph) (s .parts) (λ u. true) p′ v (past (s .graph) v - first (s .graph) v), row-few (s .graph) (s .parts) (λ u. true) p′ v (length p) (inv .ready .ok .rows) (asked′ .here))
+            few = omega (arith, pushed-few (s .graph) (s .parts) (λ u. true) p′ v (past (s .graph) v - first (s .graph) v), row-few (s .graph) (s .parts) (λ u. true) p′ v (length p) (inv .ordered .ok .rows) (asked′ .here))
 
-            held-size : length (held stack (c .top - 1)) ≡ c .top - 1
-            held-size = length-held stack (c .top - 1)
+            stacked-size : length (stacked stack (c .top - 1)) ≡ c .top - 1
+            stacked-size = length-stacked stack (c .top - 1)
 
             -- what is held after it
             top-by : (b : Bool) → d .fits ≡ b → d .top ≤ length new + (c .top - 1)
             top-by b e =
-                let h = ap length (done .pushes .held-is) in
+                let h = ap length (done .pushes .stacked-is) in
                 go b e (rw e at h)
               where
-                go : (b : Bool) → d .fits ≡ b → length (held stack′ (d .top)) ≡ length (cond b (new ++ held stack (c .top - 1)) (held stack (c .top - 1))) → d .top ≤ length new + (c .top - 1)
-                go true e h = omega (arith, h, length-held stack′ (d .top), held-size, length-append new (held stack (c .top - 1)))
-                go false e h = omega (arith, h, length-held stack′ (d .top), held-size)
+                go : (b : Bool) → d .fits ≡ b → length (stacked stack′ (d .top)) ≡ length (cond b (new ++ stacked stack (c .top - 1)) (stacked stack (c .top - 1))) → d .top ≤ length new + (c .top - 1)
+                go true e h = omega (arith, h, length-stacked stack′ (d .top), stacked-size, length-append new (stacked stack (c .top - 1)))
+                go false e h = omega (arith, h, length-stacked stack′ (d .top), stacked-size)
 
-            inside-by : (b : Bool) → Inside (length p₀) (cond b (new ++ held stack (c .top - 1)) (held stack (c .top - 1)))
-            inside-by true = inside-both (rw (inv .ready .long) at (pushed-inside (s .graph) (s .parts) (λ u. true) p′ v (length p) (inv .ready .ok .rows) (asked′ .here) (past (s .graph) v - first (s .graph) v) (omega arith))) left-inside
+            inside-by : (b : Bool) → Inside (length p₀) (cond b (new ++ stacked stack (c .top - 1)) (stacked stack (c .top - 1)))
+            inside-by true = inside-both (rw (inv .ordered .long) at (pushed-inside (s .graph) (s .parts) (λ u. true) p′ v (length p) (inv .ordered .ok .rows) (asked′ .here) (past (s .graph) v - first (s .graph) v) (omega arith))) left-inside
             inside-by false = left-inside
 
-            ready′ : Ready s (length p₀) p′ stack′ (d .top) (d .cut) (d .loads .at) counts′
+            ready′ : Ordered s (length p₀) p′ stack′ (d .top) (d .cut) (d .loads .at) counts′
             ready′ =
-                let ok′ = named-move (s .graph) (s .parts) p v t (inv .ready .ok) (asked′ .here) (asked′ .target) in
+                let ok′ = named-move (s .graph) (s .parts) p v t (inv .ordered .ok) (asked′ .here) (asked′ .target) in
                 record {
-                  long = ap length (done .labelled) ∙ length-set p v t ∙ inv .ready .long;
+                  long = ap length (done .labelled) ∙ length-set p v t ∙ inv .ordered .long;
                   ok = rw (done .labelled) ok′;
-                  room = long′ ∙ inv .ready .room;
+                  places = long′ ∙ inv .ordered .places;
                   within = (let a = done .pushes .within in omega arith);
-                  inside = rw (done .pushes .held-is) (inside-by (d .fits));
+                  inside = rw (done .pushes .stacked-is) (inside-by (d .fits));
                   stood = done .stood;
                   summed = summed′;
                 }
@@ -309,25 +309,25 @@ module _ (s : Setting) (anyone : s .movable ≡ (λ v. true)) (p₀ stack₀ : L
             bounded′ = omega (arith, inv .bounded, more′, falls, few, top-by (d .fits) refl, goal′ .positive)
 
             -- the definition moves it too
-            moved : (hs : List ℤ) → after s tr (at p (v ∷ held stack (c .top - 1)) counts hs false) (held stack (c .top - 1)) v ≡ at p′ (held stack′ (d .top)) counts′ (gain (s .graph) p v t ∷ hs) (not (d .fits))
+            moved : (hs : List ℤ) → after s tr (at p (v ∷ stacked stack (c .top - 1)) counts hs false) (stacked stack (c .top - 1)) v ≡ at p′ (stacked stack′ (d .top)) counts′ (gain (s .graph) p v t ∷ hs) (not (d .fits))
             unfolding after
             moved hs =
-                let fit : leb (length new + length (held stack (c .top - 1))) (s .room) ≡ d .fits =
-                ap₂ (λ (a b : ℕ). leb (length new + a) b) held-size (sym (inv .ready .room)) ∙ sym (done .pushes .fits-is) in
-                rw (goes, anyone, ← done .labelled, fit, done .pushes .held-is, counts-are, goes)
+                let fit : leb (length new + length (stacked stack (c .top - 1))) (s .places) ≡ d .fits =
+                ap₂ (λ (a b : ℕ). leb (length new + a) b) stacked-size (sym (inv .ordered .places)) ∙ sym (done .pushes .fits-is) in
+                rw (goes, all-movable, ← done .labelled, fit, done .pushes .stacked-is, counts-are, goes)
 
-            less : d .cut * (s .room + 1) + d .top + 1 ≤ c .cut * (s .room + 1) + c .top
+            less : d .cut * (s .places + 1) + d .top + 1 ≤ c .cut * (s .places + 1) + c .top
             less =
                 let a = falls in
                 let g = goal′ .positive in
-                let m = mul-le-mul-right (s .room + 1) (let q : d .cut + 1 ≤ c .cut = omega arith in q) in
-                let h = add-mul (d .cut) 1 (s .room + 1) in
-                let e = one-mul (s .room + 1) in
+                let m = mul-le-mul-right (s .places + 1) (let q : d .cut + 1 ≤ c .cut = omega arith in q) in
+                let h = add-mul (d .cut) 1 (s .places + 1) in
+                let e = one-mul (s .places + 1) in
                 let w = done .pushes .within in
-                let r = inv .ready .room in
+                let r = inv .ordered .places in
                 omega arith
 
-            next′ : (gs : List ℤ) → (hs : List ℤ) × (f : ℕ) × (drain s (fuel s p₀) (at p₀ (held stack₀ (c₀ .top)) counts₀ gs (not (c₀ .fits))) ≡ drain s f (at p′ (held stack′ (d .top)) counts′ hs (not (d .fits)))) × (d .cut * (s .room + 1) + d .top ≤ f)
+            next′ : (gs : List ℤ) → (hs : List ℤ) × (f : ℕ) × (drain s (fuel s p₀) (at p₀ (stacked stack₀ (c₀ .top)) counts₀ gs (not (c₀ .fits))) ≡ drain s f (at p′ (stacked stack′ (d .top)) counts′ hs (not (d .fits)))) × (d .cut * (s .places + 1) + d .top ≤ f)
             next′ gs =
                 let a = next gs in
                 let m = a .3 in
@@ -337,18 +337,18 @@ module _ (s : Setting) (anyone : s .movable ≡ (λ v. true)) (p₀ stack₀ : L
             -- its pushes fit
             turn-goes : d .fits ≡ true → Draining s p₀ stack₀ c₀ counts₀ p′ stack′ d counts′
             turn-goes e = record {
-              ready = ready′;
+              ordered = ready′;
               bounded = bounded′;
-              none = λ f. (let o : _≡_ {A = ℕ} 0 1 = cc in absurd (omega arith));
+              empty = λ f. (let o : _≡_ {A = ℕ} 0 1 = cc in absurd (omega arith));
               rest = next′;
             }
 
             -- they do not
             turn-full : d .fits ≡ false → Done (λ x. drain s (fuel s p₀) (standing (c₀ .fits) x)) s p₀ stack₀ (c₀ .top) (c₀ .cut) counts₀ 0 p′ stack′ counts′ d
             turn-full e = record {
-              leads = λ gs. (let a = next′ gs in (a .0, a .2 ∙ ap (λ (b : Bool). drain s (a .1) (at p′ (held stack′ (d .top)) counts′ (a .0) (not b))) e ∙ drain-full s (a .1) p′ (held stack′ (d .top)) counts′ (a .0) ∙ ap (λ (b : Bool). at p′ (held stack′ (d .top)) counts′ (a .0) (not b)) (sym e)));
+              leads = λ gs. (let a = next′ gs in (a .0, a .2 ∙ ap (λ (b : Bool). drain s (a .1) (at p′ (stacked stack′ (d .top)) counts′ (a .0) (not b))) e ∙ drain-full s (a .1) p′ (stacked stack′ (d .top)) counts′ (a .0) ∙ ap (λ (b : Bool). at p′ (stacked stack′ (d .top)) counts′ (a .0) (not b)) (sym e)));
               emptied = λ q. (let o : _≡_ {A = ℕ} 0 1 = cc in absurd (omega arith));
-              ready = ready′;
+              ordered = ready′;
               bounded = bounded′;
             }
 
@@ -377,7 +377,7 @@ module _ (s : Setting) (anyone : s .movable ≡ (λ v. true)) (p₀ stack₀ : L
             (λ t x g. turn-full (r .trial) (done .tried) counts′ counts-are t x g p′ stack′ (r .st) long′ (done .goes t x g) e)
 
         -- and the measure falls
-        pub lessens : r .st .cut * (s .room + 1) + r .st .top < c .cut * (s .room + 1) + c .top
-        lessens = cases (r .st .cut * (s .room + 1) + r .st .top < c .cut * (s .room + 1) + c .top)
+        pub lessens : r .st .cut * (s .places + 1) + r .st .top < c .cut * (s .places + 1) + c .top
+        lessens = cases (r .st .cut * (s .places + 1) + r .st .top < c .cut * (s .places + 1) + c .top)
             (λ h. (let q = done .stays h in rw (q .2) (omega (arith, l))))
             (λ t x g. (let a = less (r .trial) (done .tried) counts′ counts-are t x g p′ stack′ (r .st) long′ (done .goes t x g) in omega arith))

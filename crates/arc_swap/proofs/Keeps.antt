@@ -17,11 +17,11 @@ use Rattle.arc_swap_attempt.specs.declared.Trial.the-variants.{NoGain, BadBalan
 use Rattle.arc_swap_attempt.proofs.Tried.{Goal, goal, aim-in}
 use Rattle.arc_swap_attempt.proofs.Moving.{named-move}
 use Rattle.arc_swap.specs.declared.RunRecord.{RunRecord}
-use Rattle.arc_swap.specs.Run.{Setting, State, noted, after, attempt, drain, enough, onCut, firstPush, turn, sweep, run}
-use Rattle.arc_swap.specs.inner.Steps.{Inside, nobody, also}
+use Rattle.arc_swap.specs.Run.{Terms, State, noted, after, attempt, drain, enough, onCut, firstPush, turn, sweep, run}
+use Rattle.arc_swap.specs.inner.Steps.{Inside, no-vertex, also}
 use Rattle.arc_swap.proofs.Spreads.{inside-both, inside-top, inside-rest, pushed-inside}
 
-module _ (s : Setting) (n : ℕ) (P : List ℕ → RunRecord → List ℤ → Type 0)
+module _ (s : Terms) (n : ℕ) (P : List ℕ → RunRecord → List ℤ → Type 0)
     (stay : (p : List ℕ) (c : RunRecord) (gs : List ℤ) (tr : Trial) → ((t x : ℕ) → tr ≡ Goes t x → ⊥) → P p c gs → P p (noted tr c) gs)
     (go : (p : List ℕ) (c : RunRecord) (gs : List ℤ) (v t x : ℕ) → length p ≡ n → v < n → Goal (s .graph) (s .parts) (s .weights) (s .ceilings) p v t x → P p c gs → P (set p v t) (noted (Goes t x) c) (gain (s .graph) p v t ∷ gs)) where
   -- labels in order, vertices on the stack, and what is kept
@@ -46,7 +46,7 @@ module _ (s : Setting) (n : ℕ) (P : List ℕ → RunRecord → List ℤ → Ty
         record {
           long = l ∙ h .long;
           ok = named-move (s .graph) (s .parts) (st .labels) v t (h .ok) here (aim-in (s .graph) (s .parts) (st .labels) v t (g .aim-is) .0);
-          inside = by (leb (length new + length rest) (s .room));
+          inside = by (leb (length new + length rest) (s .places));
           kept = go (st .labels) (st .counts) (st .gains) v t x (h .long) (inside-top in-n) g (h .kept);
         }
       where
@@ -76,11 +76,11 @@ module _ (s : Setting) (n : ℕ) (P : List ℕ → RunRecord → List ℤ → Ty
 
   pub holds-first : (st : State) (v : ℕ) → v < n → Holds st → Holds (firstPush s st v)
   unfolding firstPush
-  holds-first st v l h = by (eqb (s .room) 0)
+  holds-first st v l h = by (eqb (s .places) 0)
     where
       by : (b : Bool) → Holds (cond b (record { labels = st .labels; stack = []; counts = st .counts; gains = st .gains; full = true }) (record { labels = st .labels; stack = v ∷ []; counts = st .counts; gains = st .gains; full = false }))
-      by true = record { long = h .long; ok = h .ok; inside = nobody; kept = h .kept }
-      by false = record { long = h .long; ok = h .ok; inside = also l nobody; kept = h .kept }
+      by true = record { long = h .long; ok = h .ok; inside = no-vertex; kept = h .kept }
+      by false = record { long = h .long; ok = h .ok; inside = also l no-vertex; kept = h .kept }
 
   pub holds-turn : (st : State) (v : ℕ) → v < n → Holds st → Holds (turn s st v)
   unfolding turn

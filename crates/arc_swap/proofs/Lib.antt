@@ -3,11 +3,11 @@ pub mod ShortStacks
 pub mod Spreads
 pub mod Drains
 pub mod Taken
-pub mod Sweeping
+pub mod Passing
 pub mod Running
 pub mod Parts
 pub mod Lights
-pub mod Calls
+pub mod Entering
 pub mod Unique
 pub mod Keeps
 pub mod Demands

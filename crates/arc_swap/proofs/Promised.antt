@@ -10,19 +10,20 @@ use Rattle.arc_swap_attempt.specs.inner.Steps.{Named}
 use Rattle.arc_swap.specs.Run.{Summed}
 use Rattle.arc_swap.specs.declared.Report.{Report}
 use Rattle.arc_swap.specs.declared.RunRecord.{RunRecord}
-use Rattle.arc_swap.specs.Entry.{Plan, Lent, graphOf, number, settingOf, runOf, reportOf, leftBy, answer, left, Swapped}
-use Rattle.arc_swap.specs.inner.Steps.{InOrder}
+use Rattle.topology.specs.Given.{graphOf}
+use Rattle.arc_swap.specs.Entry.{Given, Lent, number, termsOf, runOf, reportOf, leftBy, answer, left, Refined}
+use Rattle.arc_swap.specs.inner.Steps.{Ready}
 use Rattle.arc_swap.specs.Demand.{gained, NoPartAbove, NoSingleBlock}
-use Rattle.arc_swap.proofs.Calls.{in-order}
+use Rattle.arc_swap.proofs.Entering.{ready}
 use Rattle.arc_swap.proofs.Parts.{parts-named, parts-few}
 use Rattle.arc_swap.proofs.Demands.{Kept, kept}
 use Rattle.arc_swap.proofs.Quiet.{no-single-block}
 
-module _ (p : Plan) (l : Lent) (r : Report) (k : Lent) (some : length (l .labels) ≡ 0 → ⊥) (zero : number p (l .labels) ≡ 0) (done : Swapped p l r k) where
-  ok : InOrder p (l .labels)
-  ok = in-order p (l .labels) 0 (sym zero) refl
+module _ (p : Given) (l : Lent) (r : Report) (k : Lent) (some : length (l .labels) ≡ 0 → ⊥) (zero : number p (l .labels) ≡ 0) (done : Refined p l r k) where
+  ok : Ready p (l .labels)
+  ok = ready p (l .labels) 0 (sym zero) refl
 
-  named : Named (graphOf p) (settingOf p l .parts) (l .labels)
+  named : Named (graphOf p) (termsOf p l .parts) (l .labels)
   named = record { rows = ok .sound .rows; few = parts-few (l .labels) (ok .named) .1; named = parts-named (l .labels) }
 
   report-is : r ≡ reportOf p l
@@ -37,8 +38,8 @@ module _ (p : Plan) (l : Lent) (r : Report) (k : Lent) (some : length (l .labels
   unfolding left leftBy
   run-is = done .run ∙ rw (ne-eqb (length (l .labels)) 0 some, eq-eqb (number p (l .labels)) 0 zero)
 
-  all-kept : Kept (settingOf p l) (l .labels) (ok .sound .symmetric) named (runOf p l .state .labels) (runOf p l .state .counts) (runOf p l .state .gains)
-  all-kept = kept (settingOf p l) (l .labels) (ok .sound .symmetric) named (cut (graphOf p) (l .labels) + 1) 0
+  all-kept : Kept (termsOf p l) (l .labels) (ok .sound .symmetric) named (runOf p l .state .labels) (runOf p l .state .counts) (runOf p l .state .gains)
+  all-kept = kept (termsOf p l) (l .labels) (ok .sound .symmetric) named (cut (graphOf p) (l .labels) + 1) 0
 
   -- last cut at most first cut
   pub no-worse : r .last ≤ r .first
@@ -59,12 +60,12 @@ module _ (p : Plan) (l : Lent) (r : Report) (k : Lent) (some : length (l .labels
   counts-sum = rw run-is (all-kept .summed)
 
   -- no part ends above the larger of its ceiling and its starting load
-  pub no-part-above : NoPartAbove (settingOf p l) (l .labels) (k .labels)
+  pub no-part-above : NoPartAbove (termsOf p l) (l .labels) (k .labels)
   no-part-above = rw labels-are (all-kept .loads)
 
   -- after end 1 no single block whose best part has room would lower the cut by going there
-  pub no-single-block-left : r .end ≡ 1 → NoSingleBlock (settingOf p l) (k .labels)
+  pub no-single-block-left : r .end ≡ 1 → NoSingleBlock (termsOf p l) (k .labels)
   unfolding reportOf
   no-single-block-left e =
       let q : runOf p l .end ≡ 1 = sym (ap (λ (x : Report). x .end) report-is) ∙ e in
-      rw labels-are (no-single-block (settingOf p l) (length (l .labels)) (ok .sound .symmetric) (l .labels) refl named (cut (graphOf p) (l .labels) + 1) (omega arith) q)
+      rw labels-are (no-single-block (termsOf p l) (length (l .labels)) (ok .sound .symmetric) (l .labels) refl named (cut (graphOf p) (l .labels) + 1) (omega arith) q)

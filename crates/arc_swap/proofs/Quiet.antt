@@ -11,8 +11,8 @@ use lib.Dec.{ltb, eqb}
 use lib.IntN.{ℤ}
 use borrow.Author.Tests.{ne-eqb, eqb-true, eqb-false, ltb-true, ltb-false, not-false}
 use Rattle.lists.specs.Sum.{between, weigh}
-use Rattle.lists.specs.All.{someFrom}
-use Rattle.lists.proofs.Alls.{some-at}
+use Rattle.lists.specs.All.{anyFrom}
+use Rattle.lists.proofs.Alls.{any-at}
 use Rattle.lists.proofs.Totals.{sum-ext, sum-zero}
 use Rattle.imbalance.specs.Load.{part}
 use Rattle.topology.specs.Graph.{Graph, first, past, neighbour, weight, arcs, into, gain}
@@ -25,9 +25,9 @@ use Rattle.arc_swap_attempt.specs.declared.Trial.{Trial}
 use Rattle.arc_swap_attempt.specs.declared.Trial.the-variants.{NoGain, BadBalance, Goes}
 use Rattle.arc_swap_attempt.proofs.Tried.{Goal, goal, aim-in, not-goes}
 use Rattle.arc_swap.specs.declared.RunRecord.{RunRecord}
-use Rattle.arc_swap.specs.Run.{Setting, State, Run, noted, after, attempt, drain, enough, onCut, firstPush, turn, sweep, run}
+use Rattle.arc_swap.specs.Run.{Terms, State, Run, noted, after, attempt, drain, enough, onCut, firstPush, turn, sweep, run}
 use Rattle.arc_swap.specs.Entry.{begin}
-use Rattle.arc_swap.specs.inner.Steps.{nobody, also, at}
+use Rattle.arc_swap.specs.inner.Steps.{no-vertex, also, at}
 use Rattle.arc_swap.specs.Demand.{NoSingleBlock}
 use Rattle.arc_swap.proofs.Keeps.{Holds, holds-after, holds-drain, holds-turn, holds-sweep}
 use Rattle.arc_swap.proofs.Drains.{drain-full, drain-empty}
@@ -35,17 +35,17 @@ use Rattle.arc_swap.proofs.Spreads.{inside-top}
 
 -- a vertex with no neighbour in another part has no arc into one
 into-none : (g : Graph) (p : List ℕ) (v t : ℕ) → onCut g p v ≡ false → (t ≡ part p v → ⊥) → into g p v t ≡ 0
-unfolding onCut someFrom into arcs between
+unfolding onCut anyFrom into arcs between
 into-none g p v t e ne =
     sum-ext (past g v - first g v) (λ i. weigh (eqb (part p (neighbour g (first g v + i))) t) (weight g (first g v + i))) (λ i. 0) (λ i l. at i l) ∙ sum-zero (past g v - first g v)
   where
     at : (i : ℕ) → i < past g v - first g v → weigh (eqb (part p (neighbour g (first g v + i))) t) (weight g (first g v + i)) ≡ 0
     at i l =
-        let a = some-at (past g v - first g v) i (λ j. not (eqb (part p (neighbour g (first g v + j))) (part p v))) e l in
+        let a = any-at (past g v - first g v) i (λ j. not (eqb (part p (neighbour g (first g v + j))) (part p v))) e l in
         let q = eqb-true (part p (neighbour g (first g v + i))) (part p v) (not-false (eqb (part p (neighbour g (first g v + i))) (part p v)) a) in
         rw (ne-eqb (part p (neighbour g (first g v + i))) t (λ r. ne (sym r ∙ q)))
 
-module _ (s : Setting) (n : ℕ) (symmetric : Symmetric n (s .graph)) where
+module _ (s : Terms) (n : ℕ) (symmetric : Symmetric n (s .graph)) where
   -- v's trial does not go
   abbrev Stays : List ℕ → ℕ → Type 0
   Stays p v = (t x : ℕ) → trial (s .graph) (s .parts) (s .weights) (s .ceilings) p v ≡ Goes t x → ⊥
@@ -109,16 +109,16 @@ module _ (s : Setting) (n : ℕ) (symmetric : Symmetric n (s .graph)) where
 
   turned : (st : State) (v : ℕ) → v < n → Below (cut (s .graph) (st .labels)) st → Turned st v (turn s st v)
   unfolding turn firstPush
-  turned st v l h = by (s .movable v && onCut (s .graph) (st .labels) v) refl (eqb (s .room) 0)
+  turned st v l h = by (s .movable v && onCut (s .graph) (st .labels) v) refl (eqb (s .places) 0)
     where
       size : enough s st ≡ suc (enough s st - 1)
       size =
-          let a = add-mul (cut (s .graph) (st .labels)) 1 (s .room + 1) in
-          let b = one-mul (s .room + 1) in
+          let a = add-mul (cut (s .graph) (st .labels)) 1 (s .places + 1) in
+          let b = one-mul (s .places + 1) in
           omega arith
 
       one : Below (cut (s .graph) (st .labels)) (at (st .labels) (v ∷ []) (st .counts) (st .gains) false)
-      one = record { long = h .long; ok = h .ok; inside = also l nobody; kept = h .kept }
+      one = record { long = h .long; ok = h .ok; inside = also l no-vertex; kept = h .kept }
 
       off : (b : Bool) → s .movable v && b ≡ false → s .movable v ≡ true → b ≡ false
       off true e m = let o : _≡_ {A = ℕ} 0 1 = cc (rw m at e) in absurd (omega arith)
@@ -211,4 +211,4 @@ module _ (s : Setting) (n : ℕ) (symmetric : Symmetric n (s .graph)) where
 
   -- after end 1, where the passes last
   pub no-single-block : (p : List ℕ) → length p ≡ n → Named (s .graph) (s .parts) p → (f : ℕ) → cut (s .graph) p < f → run s f 0 (begin p) .end ≡ 1 → NoSingleBlock s (run s f 0 (begin p) .state .labels)
-  no-single-block p e ok f l q = single-from f 0 (begin p) (record { long = e; ok = ok; inside = nobody; kept = omega arith }) l q
+  no-single-block p e ok f l q = single-from f 0 (begin p) (record { long = e; ok = ok; inside = no-vertex; kept = omega arith }) l q

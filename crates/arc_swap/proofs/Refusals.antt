@@ -17,12 +17,13 @@ use Rattle.topology.specs.Rule.{graphNumber}
 use Rattle.topology.specs.Rules.{graphRules}
 use Rattle.topology.proofs.Refusals.{graph-first}
 use Rattle.arc_swap.specs.declared.Report.{Report}
-use Rattle.arc_swap.specs.Entry.{Plan, Lent, graphOf, number, noCounts, empty, reportOf, refused, answer, Swapped}
+use Rattle.topology.specs.Given.{graphOf}
+use Rattle.arc_swap.specs.Entry.{Given, Lent, number, noCounts, empty, reportOf, refused, answer, Refined}
 use Rattle.arc_swap.specs.Rules.{rules}
-use Rattle.arc_swap.proofs.Calls.{at-empty}
+use Rattle.arc_swap.proofs.Entering.{at-empty}
 use Rattle.arc_swap.proofs.Unique.{unique}
 
-pub number-smallest : (p : Plan) (labels : List ℕ) → Smallest (rules p labels) (number p labels)
+pub number-smallest : (p : Given) (labels : List ℕ) → Smallest (rules p labels) (number p labels)
 unfolding number
 number-smallest p labels =
     let n = length labels in
@@ -37,11 +38,11 @@ number-smallest p labels =
     (passed (rules p labels) 8))))
 
 -- "FM and arc-swap with n = 0 come before all checks: done, end 3, all else zero, nothing written but the zeroed run record."
-pub empty-call : (p : Plan) (l : Lent) (r : Report) (k : Lent) → Swapped p l r k → length (l .labels) ≡ 0 → (r ≡ empty) × (k ≡ record { labels = l .labels; stack = l .stack; run = noCounts })
+pub empty-call : (p : Given) (l : Lent) (r : Report) (k : Lent) → Refined p l r k → length (l .labels) ≡ 0 → (r ≡ empty) × (k ≡ record { labels = l .labels; stack = l .stack; run = noCounts })
 empty-call p l r k d z = unique p l r empty k (record { labels = l .labels; stack = l .stack; run = noCounts }) d (at-empty p l empty noCounts z refl refl)
 
 -- "The smallest number that applies is given; 0 only if none does": of every call of arc-swap with a vertex.
-pub refusal : (p : Plan) (l : Lent) (r : Report) (k : Lent) → Swapped p l r k → (length (l .labels) ≡ 0 → ⊥) → Smallest (rules p (l .labels)) (r .number)
+pub refusal : (p : Given) (l : Lent) (r : Report) (k : Lent) → Refined p l r k → (length (l .labels) ≡ 0 → ⊥) → Smallest (rules p (l .labels)) (r .number)
 unfolding answer reportOf
 refusal p l r k d ne = rw (d .answered, ne-eqb (length (l .labels)) 0 ne) (given (eqb (number p (l .labels)) 0) refl)
   where

@@ -6,7 +6,7 @@ use Prim.Native.Nat.{ℕ}
 use lib.IntN.{pos, negsuc}
 use lib.Ieee.{fin, add, div, ofInt, mul}
 use Rattle.lists.specs.Sum.{sum, between, total}
-use Rattle.lists.specs.All.{some, someFrom}
+use Rattle.lists.specs.All.{any, anyFrom}
 use Rattle.lists.specs.Best.{best}
 use Rattle.lists.specs.Fill.{table}
 use Rattle.imbalance.specs.Load.{load}
@@ -14,12 +14,12 @@ use Rattle.imbalance.specs.Ceiling.{ceilings, ceiling, ceilingOf, limitOf, larg
 use Rattle.topology.specs.Graph.{arcs, into, gain}
 use Rattle.topology.specs.Cut.{cut}
 use Rattle.topology.specs.EightBlockGrid.{grid, ones, A}
-use Rattle.arc_swap_attempt.specs.Trial.{aim, gladly, pushed, trial}
+use Rattle.arc_swap_attempt.specs.Trial.{aim, hasGain, pushed, trial}
 use Rattle.arc_swap.specs.Run.{after, attempt, drain, onCut, firstPush, turn, sweep, run}
-use Rattle.arc_swap.specs.Entry.{Plan, Lent, partsOf, noCounts, runOf}
+use Rattle.arc_swap.specs.Entry.{Given, Lent, partsOf, noCounts, runOf}
 
 -- arc-swap on the grid, the ceiling by e = 0.25
-abbrev plan : Plan
+abbrev plan : Given
 plan =
     record {
       starts = grid .starts;
@@ -41,7 +41,7 @@ pub no-place :
       passes = 1;
       state = record { labels = A; stack = []; counts = noCounts; gains = []; full = true };
     }
-unfolding run sweep turn firstPush onCut drain attempt after trial pushed gladly aim best cut gain load into arcs between sum someFrom some table total partsOf ceilings ceiling largest ceilingOf limitOf add div ofInt mul
+unfolding run sweep turn firstPush onCut drain attempt after trial pushed hasGain aim best cut gain load into arcs between sum anyFrom any table total partsOf ceilings ceiling largest ceilingOf limitOf add div ofInt mul
 no-place = refl
 
 -- A stack of length 1: the second move's pushes do not fit, it stands and is counted, and so is the pass begun.
@@ -52,5 +52,5 @@ pub one-place :
       passes = 1;
       state = record { labels = 0 ∷ 1 ∷ 1 ∷ 1 ∷ 0 ∷ 0 ∷ 0 ∷ 1 ∷ []; stack = []; counts = record { attempts = 2; moves = 2; «no_gain» = 0; «bad_balance» = 0 }; gains = pos 1 ∷ pos 1 ∷ []; full = true };
     }
-unfolding run sweep turn firstPush onCut drain attempt after trial pushed gladly aim best cut gain load into arcs between sum someFrom some table total partsOf ceilings ceiling largest ceilingOf limitOf add div ofInt mul
+unfolding run sweep turn firstPush onCut drain attempt after trial pushed hasGain aim best cut gain load into arcs between sum anyFrom any table total partsOf ceilings ceiling largest ceilingOf limitOf add div ofInt mul
 one-place = refl

@@ -11,12 +11,13 @@ use Rattle.imbalance.proofs.Unused.{same-outcome, same-fit, same-ceilings}
 use Rattle.topology.specs.Cut.{cut}
 use Rattle.arc_swap.specs.declared.Settings.{Settings}
 use Rattle.arc_swap.specs.declared.Report.{Report}
-use Rattle.arc_swap.specs.Run.{Setting, Run, run}
-use Rattle.arc_swap.specs.Entry.{Plan, Lent, graphOf, number, partsOf, settingOf, noCounts, begin, runOf, empty, refused, reportOf, leftBy, answer, left}
+use Rattle.arc_swap.specs.Run.{Terms, Run, run}
+use Rattle.topology.specs.Given.{graphOf}
+use Rattle.arc_swap.specs.Entry.{Given, Lent, number, partsOf, termsOf, noCounts, begin, runOf, empty, refused, reportOf, leftBy, answer, left}
 use Rattle.arc_swap.specs.Used.{SameSettings, withSettings}
 use Rattle.arc_swap.proofs.Refusals.{number-smallest}
 
-module _ (p : Plan) (s : Settings) (l : Lent) (same : SameSettings (p .settings) s) where
+module _ (p : Given) (s : Settings) (l : Lent) (same : SameSettings (p .settings) s) where
   same-number : number p (l .labels) ≡ number (withSettings p s) (l .labels)
   unfolding number
   same-number = rw (same-fit (p .settings .ceiling) (s .ceiling) same)
@@ -26,8 +27,8 @@ module _ (p : Plan) (s : Settings) (l : Lent) (same : SameSettings (p .settings)
   same-run z =
       let known = number-smallest p (l .labels) .kept z 7 .known in
       let c = same-ceilings (p .settings .ceiling) (s .ceiling) same (table 16 (load (p .weights) (l .labels))) (total (p .weights)) (partsOf (l .labels)) known in
-      let t : settingOf p l ≡ settingOf (withSettings p s) l = λ i. record { graph = graphOf p; weights = p .weights; ceilings = c i; movable = λ v. true; parts = partsOf (l .labels); room = length (l .stack) } in
-      ap (λ (x : Setting). run x (cut (graphOf p) (l .labels) + 1) 0 (begin (l .labels))) t
+      let t : termsOf p l ≡ termsOf (withSettings p s) l = λ i. record { graph = graphOf p; weights = p .weights; ceilings = c i; movable = λ v. true; parts = partsOf (l .labels); places = length (l .stack) } in
+      ap (λ (x : Terms). run x (cut (graphOf p) (l .labels) + 1) 0 (begin (l .labels))) t
 
   same-report : number p (l .labels) ≡ 0 → reportOf p l ≡ reportOf (withSettings p s) l
   unfolding reportOf

@@ -9,14 +9,14 @@ use lib.IntN.{ℤ, pos, _+ℤ_}
 use Rattle.imbalance.specs.Load.{load}
 use Rattle.topology.specs.Cut.{cut}
 use Rattle.arc_swap_attempt.specs.Trial.{aim}
-use Rattle.arc_swap.specs.Run.{Setting}
+use Rattle.arc_swap.specs.Run.{Terms}
 
 -- the gains of the moves made, summed
 unfoldable pub gained : List ℤ → ℤ
 gained [] = pos 0
 gained (g ∷ gs) = g +ℤ gained gs
 
-module _ (s : Setting) where
+module _ (s : Terms) where
   -- no part ends above the larger of its ceiling and its starting load
   abbrev pub NoPartAbove : List ℕ → List ℕ → Type 0
   NoPartAbove p left = (t : ℕ) → load (s .weights) left t ≤ max (getD (s .ceilings) t 0) (load (s .weights) p t)

@@ -12,21 +12,17 @@ use Rattle.imbalance.specs.Limit.{labelAbove}
 use Rattle.imbalance.specs.Load.{part, load, loadsOf}
 use Rattle.imbalance.specs.Ceiling.{unfitChoice, largest, ceilings}
 use Rattle.imbalance.specs.Number.{noLoads}
-use Rattle.topology.specs.Graph.{Graph, inRows}
+use Rattle.topology.specs.Given.{GivenWith, graphOf}
 use Rattle.topology.specs.Rule.{graphNumber}
 use Rattle.topology.specs.Cut.{cut}
 use Rattle.arc_swap.specs.declared.RunRecord.{RunRecord}
 use Rattle.arc_swap.specs.declared.Settings.{Settings}
 use Rattle.arc_swap.specs.declared.Report.{Report}
-use Rattle.arc_swap.specs.Run.{Setting, State, Run, run}
+use Rattle.arc_swap.specs.Run.{Terms, State, Run, run}
 
 -- what is only read
-pub record Plan : Type 0 where
-  pub starts : List ℕ
-  pub neighbours : List ℕ
-  pub arcs : List ℕ
-  pub weights : List ℕ
-  pub settings : Settings
+abbrev pub Given : Type 0
+Given = GivenWith Settings
 
 -- what is lent: the labels, the stack and the run record
 pub record Lent : Type 0 where
@@ -34,11 +30,8 @@ pub record Lent : Type 0 where
   pub stack : List ℕ
   pub run : RunRecord
 
-abbrev pub graphOf : Plan → Graph
-graphOf p = inRows (p .starts) (p .neighbours) (p .arcs)
-
 -- "The smallest number that applies is given; 0 only if none does." 6: a label above 15. 7: "choice 2 with e NaN, below 0 or above 64, or choice above 2". The stack "never gives 8".
-unfoldable pub number : Plan → List ℕ → ℕ
+unfoldable pub number : Given → List ℕ → ℕ
 number p labels =
     orElse (graphNumber (length labels) (p .weights) (graphOf p))
     (cond (labelAbove 15 labels) 6
@@ -51,15 +44,15 @@ partsOf labels =
     cond (ltb k 2) 2 k
 
 -- what stands still during the run: k and the ceilings are worked out once, from the starting labels; every vertex may move
-abbrev pub settingOf : Plan → Lent → Setting
-settingOf p l =
+abbrev pub termsOf : Given → Lent → Terms
+termsOf p l =
     record {
       graph = graphOf p;
       weights = p .weights;
       ceilings = ceilings (table 16 (load (p .weights) (l .labels))) (total (p .weights)) (partsOf (l .labels)) (p .settings .ceiling);
       movable = λ v. true;
       parts = partsOf (l .labels);
-      room = length (l .stack);
+      places = length (l .stack);
     }
 
 -- "The run record .. is lent and first zeroed"
@@ -70,8 +63,8 @@ abbrev pub begin : List ℕ → State
 begin labels = record { labels = labels; stack = []; counts = noCounts; gains = []; full = false }
 
 -- the run that the call makes: passes enough, as each but the last lowers the cut
-abbrev pub runOf : Plan → Lent → Run
-runOf p l = run (settingOf p l) (cut (graphOf p) (l .labels) + 1) 0 (begin (l .labels))
+abbrev pub runOf : Given → Lent → Run
+runOf p l = run (termsOf p l) (cut (graphOf p) (l .labels) + 1) 0 (begin (l .labels))
 
 -- a refusal: the number, and zero in every other field
 abbrev pub refused : ℕ → Report
@@ -82,7 +75,7 @@ abbrev pub empty : Report
 empty = record { number = 0; end = 3; passes = 0; first = 0; last = 0; loads = noLoads }
 
 -- "Report: end, passes, first and last cut, loads of the k parts."
-unfoldable pub reportOf : Plan → Lent → Report
+unfoldable pub reportOf : Given → Lent → Report
 reportOf p l =
     record {
       number = 0;
@@ -94,7 +87,7 @@ reportOf p l =
     }
 
 -- the stack "is zeroed whole"
-unfoldable pub leftBy : Plan → Lent → Lent
+unfoldable pub leftBy : Given → Lent → Lent
 leftBy p l =
     record {
       labels = runOf p l .state .labels;
@@ -103,21 +96,21 @@ leftBy p l =
     }
 
 -- THE ANSWER
-unfoldable pub answer : Plan → Lent → Report
+unfoldable pub answer : Given → Lent → Report
 answer p l =
     cond (eqb (length (l .labels)) 0) empty
     (cond (eqb (number p (l .labels)) 0) (reportOf p l)
     (refused (number p (l .labels))))
 
 -- WHAT IS LEFT: with n = 0 "nothing written but the zeroed run record"; "A refusal writes nothing anywhere"
-unfoldable pub left : Plan → Lent → Lent
+unfoldable pub left : Given → Lent → Lent
 left p l =
     cond (eqb (length (l .labels)) 0) (record { labels = l .labels; stack = l .stack; run = noCounts })
     (cond (eqb (number p (l .labels)) 0) (leftBy p l)
     l)
 
--- THE PROMISE: of a plan p, what is lent at entry l, a report r and what is lent at exit k
-pub record Swapped (p : Plan) (l : Lent) (r : Report) (k : Lent) : Type 0 where
+-- THE PROMISE: of what is given p, what is lent at entry l, a report r and what is lent at exit k
+pub record Refined (p : Given) (l : Lent) (r : Report) (k : Lent) : Type 0 where
   pub answered : r ≡ answer p l
   pub labels : k .labels ≡ left p l .labels
   pub stack : k .stack ≡ left p l .stack

@@ -6,7 +6,7 @@ use Prim.Native.Nat.{ℕ, zero, suc, _+_, _-_, _*_}
 use lib.ListN.{length, set}
 use lib.Dec.{ltb, leb, eqb}
 use lib.IntN.{ℤ}
-use Rattle.lists.specs.All.{someFrom}
+use Rattle.lists.specs.All.{anyFrom}
 use Rattle.imbalance.specs.Load.{part}
 use Rattle.topology.specs.Graph.{Graph, first, past, neighbour, gain}
 use Rattle.topology.specs.Cut.{cut}
@@ -16,13 +16,13 @@ use Rattle.arc_swap_attempt.specs.declared.Trial.the-variants.{NoGain, BadBalan
 use Rattle.arc_swap.specs.declared.RunRecord.{RunRecord}
 
 -- What stands still during a run: the graph, the vertex weights, the ceiling of each part, the vertices that may move, the number of parts k, and the length of the lent stack.
-pub record Setting : Type 0 where
+pub record Terms : Type 0 where
   pub graph : Graph
   pub weights : List ℕ
   pub ceilings : List ℕ
   pub movable : ℕ → Bool
   pub parts : ℕ
-  pub room : ℕ
+  pub places : ℕ
 
 -- Where a run stands: the labels, the stack, its top first, the counts, the gains of the moves made, the last first, and whether pushes did not fit.
 pub record State : Type 0 where
@@ -50,9 +50,9 @@ Summed r = r .attempts ≡ r .moves + r .«no_gain» + r .«bad_balance»
 
 -- v has "a neighbour in another part"
 unfoldable pub onCut : Graph → List ℕ → ℕ → Bool
-onCut g p v = someFrom (first g v) (past g v) (λ e. not (eqb (part p (neighbour g e)) (part p v)))
+onCut g p v = anyFrom (first g v) (past g v) (λ e. not (eqb (part p (neighbour g e)) (part p v)))
 
-module _ (s : Setting) where
+module _ (s : Terms) where
   -- v was popped and `rest` is left: "If the pushes of one move .. do not all fit, none is pushed and the run ends with 2; the move stands"
   unfoldable pub after : Trial → State → List ℕ → ℕ → State
   after NoGain st rest v = record { labels = st .labels; stack = rest; counts = noted NoGain (st .counts); gains = st .gains; full = false }
@@ -60,7 +60,7 @@ module _ (s : Setting) where
   after (Goes t x) st rest v =
       let p = set (st .labels) v t in
       let new = pushed (s .graph) (s .parts) (s .movable) p v (past (s .graph) v - first (s .graph) v) in
-      let fits = leb (length new + length rest) (s .room) in
+      let fits = leb (length new + length rest) (s .places) in
       record {
         labels = p;
         stack = cond fits (new ++ rest) rest;
@@ -83,12 +83,12 @@ module _ (s : Setting) where
 
   -- attempts enough to empty the stack: each takes one vertex off it or lowers the cut
   abbrev pub enough : State → ℕ
-  enough st = (cut (s .graph) (st .labels) + 1) * (s .room + 1)
+  enough st = (cut (s .graph) (st .labels) + 1) * (s .places + 1)
 
   -- v alone on the stack, or where that has no place "the run ends with 2"
   unfoldable pub firstPush : State → ℕ → State
   firstPush st v =
-      cond (eqb (s .room) 0)
+      cond (eqb (s .places) 0)
       (record { labels = st .labels; stack = []; counts = st .counts; gains = st .gains; full = true })
       (record { labels = st .labels; stack = v ∷ []; counts = st .counts; gains = st .gains; full = false })
 

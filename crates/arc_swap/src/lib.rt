@@ -3,14 +3,13 @@ ghost use mathlib.Core.Path.{_≡_};
 ghost use mathlib.Core.Bool.{false};
 ghost use mathlib.Core.List.{[], _∷_};
 ghost use Prim.Native.Nat.{ℕ, _+_, _*_, _≤_};
-ghost use lib.ListN.{length, getD};
-ghost use Rattle.imbalance.specs.Limit.{mostWeight, labelAbove};
-ghost use Rattle.imbalance.specs.Number.{noLoads};
+ghost use lib.ListN.{length};
+ghost use Rattle.imbalance.specs.Limit.{mostWeight};
 ghost use Rattle.topology.specs.Cut.{cut};
 ghost use Rattle.topology.specs.Graph.{inRows};
 ghost use Rattle.arc_swap.specs.Run.{noted, drain, sweep, Summed};
-ghost use Rattle.arc_swap.specs.Entry.{number, partsOf, noCounts, Swapped};
-ghost use Rattle.arc_swap.specs.inner.Steps.{settingBy, standing, most, Asked, TurnAsked, Done, endBy, PassesDone, InOrder, Begins, Ran};
+ghost use Rattle.arc_swap.specs.Entry.{number, noCounts, Refined};
+ghost use Rattle.arc_swap.specs.inner.Steps.{termsBy, standing, most, Asked, TurnAsked, Done, PassesDone, Ready, Ran};
 
 mod answers;
 mod number;
@@ -109,8 +108,8 @@ fn drain_stack(
     first: Standing,
     run: &mut RunRecord,
 ) -> Standing
-    requires { ⌜ Asked (settingBy (now starts) (now neighbours) (now «arc_weights») (now weights) (ceilings .at) parts (length (now stack))) (now labels) (now stack) (first .top) (first .cut) (first .loads .at) (now run) 0 × (first .fits ≡ false → _≡_ {A = ℕ} (first .top) 0) ⌝ }
-    ensures { λ r. ⌜ (let s = settingBy (now (starts .entry)) (now (neighbours .entry)) (now («arc_weights» .entry)) (now (weights .entry)) (ceilings .at) parts (length (now (stack .entry))) in Done
+    requires { ⌜ Asked (termsBy (now starts) (now neighbours) (now «arc_weights») (now weights) (ceilings .at) parts (length (now stack))) (now labels) (now stack) (first .top) (first .cut) (first .loads .at) (now run) 0 × (first .fits ≡ false → _≡_ {A = ℕ} (first .top) 0) ⌝ }
+    ensures { λ r. ⌜ (let s = termsBy (now (starts .entry)) (now (neighbours .entry)) (now («arc_weights» .entry)) (now (weights .entry)) (ceilings .at) parts (length (now (stack .entry))) in Done
         (λ x. drain s ((cut (inRows (now (starts .entry)) (now (neighbours .entry)) (now («arc_weights» .entry))) (now (labels .entry)) + 1) * (length (now (stack .entry)) + 1)) (standing (first .fits) x)) s
         (now (labels .entry)) (now (stack .entry)) (first .top) (first .cut) (now (run .entry)) 0
         (now (labels .exit)) (now (stack .exit)) (now (run .exit)) r) ⌝ }
@@ -139,7 +138,7 @@ fn drain_stack(
 }
 
 // A pass: every vertex in order has its turn, unless pushes do not fit. In its turn it is pushed where it has a neighbour in another part, and the stack is emptied.
-fn sweep_all(
+fn make_pass(
     starts: &[u32],
     neighbours: &[u32],
     arc_weights: &[u32],
@@ -151,8 +150,8 @@ fn sweep_all(
     first: Standing,
     run: &mut RunRecord,
 ) -> Standing
-    requires { ⌜ TurnAsked (settingBy (now starts) (now neighbours) (now «arc_weights») (now weights) (ceilings .at) parts (length (now stack))) (now labels) (now stack) first (now run) (length (now labels)) ⌝ }
-    ensures { λ r. ⌜ (let s = settingBy (now (starts .entry)) (now (neighbours .entry)) (now («arc_weights» .entry)) (now (weights .entry)) (ceilings .at) parts (length (now (stack .entry))) in Done
+    requires { ⌜ TurnAsked (termsBy (now starts) (now neighbours) (now «arc_weights») (now weights) (ceilings .at) parts (length (now stack))) (now labels) (now stack) first (now run) (length (now labels)) ⌝ }
+    ensures { λ r. ⌜ (let s = termsBy (now (starts .entry)) (now (neighbours .entry)) (now («arc_weights» .entry)) (now (weights .entry)) (ceilings .at) parts (length (now (stack .entry))) in Done
         (sweep s (length (now (labels .entry)))) s
         (now (labels .entry)) (now (stack .entry)) 0 (first .cut) (now (run .entry)) (length (now (labels .entry)))
         (now (labels .exit)) (now (stack .exit)) (now (run .exit)) r) ⌝ }
@@ -182,7 +181,7 @@ fn sweep_all(
 }
 
 // Pass after pass, until one has no gain or pushes do not fit.
-fn run_passes(
+fn make_passes(
     starts: &[u32],
     neighbours: &[u32],
     arc_weights: &[u32],
@@ -194,16 +193,16 @@ fn run_passes(
     first: Standing,
     run: &mut RunRecord,
 ) -> Ended
-    requires { ⌜ TurnAsked (settingBy (now starts) (now neighbours) (now «arc_weights») (now weights) (ceilings .at) parts (length (now stack))) (now labels) (now stack) first (now run) 0 × (now run ≡ noCounts) × (first .cut ≤ mostWeight) ⌝ }
+    requires { ⌜ TurnAsked (termsBy (now starts) (now neighbours) (now «arc_weights») (now weights) (ceilings .at) parts (length (now stack))) (now labels) (now stack) first (now run) 0 × (now run ≡ noCounts) × (first .cut ≤ mostWeight) ⌝ }
     ensures { λ r. ⌜ PassesDone
-        (settingBy (now (starts .entry)) (now (neighbours .entry)) (now («arc_weights» .entry)) (now (weights .entry)) (ceilings .at) parts (length (now (stack .entry))))
+        (termsBy (now (starts .entry)) (now (neighbours .entry)) (now («arc_weights» .entry)) (now (weights .entry)) (ceilings .at) parts (length (now (stack .entry))))
         (now (labels .entry)) (now (labels .exit)) (now (stack .exit)) (now (run .exit)) r ⌝ }
 {
     let mut st = first;
     let mut passes: u32 = 0;
     loop {
         let before = st.cut;
-        st = sweep_all(
+        st = make_pass(
             starts,
             neighbours,
             arc_weights,
@@ -224,7 +223,7 @@ fn run_passes(
 }
 
 // The run of a call to which no number applies: the counts are first zeroed, and afterwards the stack is zeroed whole.
-fn swap_all(
+fn refine(
     starts: &[u32],
     neighbours: &[u32],
     arc_weights: &[u32],
@@ -234,7 +233,7 @@ fn swap_all(
     settings: Settings,
     run: &mut RunRecord,
 ) -> Report
-    requires { ⌜ InOrder (record { starts = now starts; neighbours = now neighbours; arcs = now «arc_weights»; weights = now weights; settings = settings }) (now labels) ⌝ }
+    requires { ⌜ Ready (record { starts = now starts; neighbours = now neighbours; arcs = now «arc_weights»; weights = now weights; settings = settings }) (now labels) ⌝ }
     ensures { λ r. ⌜ Ran
         (record { starts = now (starts .entry); neighbours = now (neighbours .entry); arcs = now («arc_weights» .entry); weights = now (weights .entry); settings = settings })
         (record { labels = now (labels .entry); stack = now (stack .entry); run = now (run .entry) })
@@ -244,7 +243,7 @@ fn swap_all(
     let begun = steps::begin_run(starts, neighbours, arc_weights, weights, labels, settings);
     zero_run(run);
     let st = begun.st;
-    let e = run_passes(
+    let e = make_passes(
         starts,
         neighbours,
         arc_weights,
@@ -271,7 +270,7 @@ pub fn arc_swap(
     settings: Settings,
     run: &mut RunRecord,
 ) -> Report
-    ensures { λ r. ⌜ Swapped
+    ensures { λ r. ⌜ Refined
         (record { starts = now (starts .entry); neighbours = now (neighbours .entry); arcs = now («arc_weights» .entry); weights = now (weights .entry); settings = settings })
         (record { labels = now (labels .entry); stack = now (stack .entry); run = now (run .entry) })
         r
@@ -285,7 +284,7 @@ pub fn arc_swap(
     if number != 0 {
         return answers::bare_report(number, 0);
     }
-    swap_all(
+    refine(
         starts,
         neighbours,
         arc_weights,
@@ -319,7 +318,7 @@ pub fn arc_swap_counted(
     stack: &mut [u32],
     settings: Settings,
 ) -> Answered
-    ensures { λ r. ⌜ Swapped
+    ensures { λ r. ⌜ Refined
         (record { starts = now (starts .entry); neighbours = now (neighbours .entry); arcs = now («arc_weights» .entry); weights = now (weights .entry); settings = settings })
         (record { labels = now (labels .entry); stack = now (stack .entry); run = noCounts })
         (r .report)

@@ -2,7 +2,7 @@
 ghost use mathlib.Core.Path.{_≡_};
 ghost use Prim.Native.Nat.{_≤_};
 ghost use Rattle.arc_swap.specs.Run.{noted, Summed};
-ghost use Rattle.arc_swap.specs.inner.Steps.{most, endBy, InOrder, Begins};
+ghost use Rattle.arc_swap.specs.inner.Steps.{most, endBy, Ready, Begins};
 use crate::Begun;
 use crate::RunRecord;
 use crate::Settings;
@@ -59,7 +59,7 @@ pub fn begin_run(
     labels: &[u32],
     settings: Settings,
 ) -> Begun
-    requires { ⌜ InOrder (record { starts = now starts; neighbours = now neighbours; arcs = now «arc_weights»; weights = now weights; settings = settings }) (now labels) ⌝ }
+    requires { ⌜ Ready (record { starts = now starts; neighbours = now neighbours; arcs = now «arc_weights»; weights = now weights; settings = settings }) (now labels) ⌝ }
     ensures { λ r. ⌜ Begins
         (record { starts = now (starts .entry); neighbours = now (neighbours .entry); arcs = now («arc_weights» .entry); weights = now (weights .entry); settings = settings })
         (now (labels .entry)) r ⌝ }

@@ -7,7 +7,7 @@ ghost use Rattle.imbalance.specs.Limit.{mostVertices};
 ghost use Rattle.topology.specs.Graph.{inRows};
 ghost use Rattle.topology.specs.inner.Row.{RowsAlone};
 ghost use Rattle.arc_swap.specs.Run.{onCut};
-ghost use Rattle.arc_swap.specs.inner.Steps.{settingBy, AttemptAsked, AttemptDone, FirstDone};
+ghost use Rattle.arc_swap.specs.inner.Steps.{termsBy, AttemptAsked, AttemptDone, FirstDone};
 use crate::Attempted;
 use arc_swap_attempt::Standing;
 use arc_swap_attempt::Trial;
@@ -25,9 +25,9 @@ pub fn attempt(
     parts: usize,
     st: Standing,
 ) -> Attempted
-    requires { ⌜ AttemptAsked (settingBy (now starts) (now neighbours) (now «arc_weights») (now weights) (ceilings .at) parts (length (now stack))) (now labels) (now stack) st ⌝ }
+    requires { ⌜ AttemptAsked (termsBy (now starts) (now neighbours) (now «arc_weights») (now weights) (ceilings .at) parts (length (now stack))) (now labels) (now stack) st ⌝ }
     ensures { λ r. ⌜ AttemptDone
-        (settingBy (now (starts .entry)) (now (neighbours .entry)) (now («arc_weights» .entry)) (now (weights .entry)) (ceilings .at) parts (length (now (stack .entry))))
+        (termsBy (now (starts .entry)) (now (neighbours .entry)) (now («arc_weights» .entry)) (now (weights .entry)) (ceilings .at) parts (length (now (stack .entry))))
         (now (labels .entry)) (now (stack .entry)) st (now (labels .exit)) (now (stack .exit)) r ⌝ }
 {
     let top = st.top - 1;

@@ -18,7 +18,7 @@ use Rattle.lists.proofs.Tables.{table-at}
 use Rattle.lists.proofs.Differences.{at-most, at-most-none}
 use Rattle.imbalance.specs.Load.{part}
 use Rattle.topology.specs.Graph.{Graph, into, gain}
-use Rattle.arc_swap_attempt.specs.Trial.{aim, gladly}
+use Rattle.arc_swap_attempt.specs.Trial.{aim, hasGain}
 use Rattle.arc_swap_attempt.specs.inner.Steps.{picked, bestBy}
 use Rattle.arc_swap_attempt.specs.declared.Target.{Target}
 
@@ -99,9 +99,9 @@ module _ (g : Graph) (k : ℕ) (p : List ℕ) (v : ℕ) where
           rw (← same, q) (ap (λ (x : ℕ). record { part = t; sum = x }) (each t (l .0)))
 
   -- "whose largest gain is now positive", by the sums
-  pub glad-is : (c : Target) → c ≡ picked (part p v) (into g p v) (aim g k p v) → ltb (into g p v (part p v)) (c .sum) ≡ gladly g k p v
-  unfolding gladly
-  glad-is c h = go (aim g k p v) refl
+  pub has-gain-is : (c : Target) → c ≡ picked (part p v) (into g p v) (aim g k p v) → ltb (into g p v (part p v)) (c .sum) ≡ hasGain g k p v
+  unfolding hasGain
+  has-gain-is c h = go (aim g k p v) refl
     where
       turn : (a b : ℕ) → ltb b a ≡ not (leb a b)
       turn a b = by (leb a b) refl

@@ -16,7 +16,7 @@ use Rattle.imbalance.proofs.PartLoads.{load-within}
 use Rattle.topology.specs.Graph.{Graph}
 use Rattle.topology.specs.Cut.{cut}
 use Rattle.topology.proofs.Moves.{cut-move, load-holds, loads-move}
-use Rattle.arc_swap_attempt.specs.inner.Steps.{Named, MoveAsked, MoveDone, PushDone, fresh}
+use Rattle.arc_swap_attempt.specs.inner.Steps.{Named, MoveAsked, MoveDone, PushDone, pushedBy}
 
 -- the labels stay below k
 pub named-move : (g : Graph) (k : ℕ) (p : List ℕ) (v t : ℕ) → Named g k p → v < length p → t < k → Named g k (set p v t)
@@ -64,7 +64,7 @@ module _ (g : Graph) (k : ℕ) (ws p s₀ : List ℕ) (n cut₀ : ℕ) (loads : 
   pub moved :
       (loads′ s : List ℕ) (fits : Bool) (top : ℕ)
       → loads′ ≡ loadsMoved loads (part p v) t (getD ws v 0)
-      → PushDone (fresh g k (set p v t) v) s₀ n s fits top
+      → PushDone (pushedBy g k (set p v t) v) s₀ n s fits top
       → MoveDone g k ws p s₀ n v t (set p v t) s (record { fits = fits; top = top; cut = cut₀ - x; loads = record { at = loads′ } })
   moved loads′ s fits top e d = record {
     labelled = refl;

@@ -8,10 +8,10 @@ use lib.ListN.{length, set, length-set}
 use borrow.Author.Tests.{le-leb, lt-leb}
 use Rattle.topology.specs.Graph.{Graph, first, past, neighbour}
 use Rattle.topology.specs.Rule.{Rows}
-use Rattle.topology.proofs.RowWalks.{Walk, row-of, enters, further, over}
-use Rattle.arc_swap_attempt.specs.Trial.{gladly, pushed}
-use Rattle.arc_swap_attempt.specs.inner.Steps.{held, fresh, PushDone}
-use Rattle.arc_swap_attempt.proofs.Stacks.{held-above, held-push}
+use Rattle.topology.proofs.RowWalks.{Walk, row-of, enters, further, at-end}
+use Rattle.arc_swap_attempt.specs.Trial.{hasGain, pushed}
+use Rattle.arc_swap_attempt.specs.inner.Steps.{stacked, pushedBy, PushDone}
+use Rattle.arc_swap_attempt.proofs.Stacks.{stacked-above, stacked-push}
 
 -- of v's first n arcs, those to vertices that gain by a move
 abbrev news : Graph → ℕ → List ℕ → ℕ → ℕ → List ℕ
@@ -21,7 +21,7 @@ news g k p v n = pushed g k (λ u. true) p v n
 news-grow : (g : Graph) (k : ℕ) (p : List ℕ) (v m d : ℕ) → length (news g k p v m) ≤ length (news g k p v (d + m))
 unfolding pushed
 news-grow g k p v m zero = let e : 0 + m ≡ m = omega arith in rw e (omega arith)
-news-grow g k p v m (suc d) = let e : suc d + m ≡ suc (d + m) = omega arith in rw e (go (gladly g k p (neighbour g (first g v + (d + m)))) (news-grow g k p v m d))
+news-grow g k p v m (suc d) = let e : suc d + m ≡ suc (d + m) = omega arith in rw e (go (hasGain g k p (neighbour g (first g v + (d + m)))) (news-grow g k p v m d))
   where
     go : (b : Bool) → length (news g k p v m) ≤ length (news g k p v (d + m)) → length (news g k p v m) ≤ length (cond b (neighbour g (first g v + (d + m)) ∷ news g k p v (d + m)) (news g k p v (d + m)))
     go true h = omega arith
@@ -34,10 +34,10 @@ pub record Pushing (g : Graph) (k : ℕ) (p : List ℕ) (v : ℕ) (s₀ : List �
   pub long : length s ≡ length s₀
   pub within : top ≤ length s₀
   pub top-is : top ≡ length (news g k p v (e - first g v)) + n
-  pub held-is : held s top ≡ news g k p v (e - first g v) ++ held s₀ n
-  pub kept : held s n ≡ held s₀ n
+  pub stacked-is : stacked s top ≡ news g k p v (e - first g v) ++ stacked s₀ n
+  pub kept : stacked s n ≡ stacked s₀ n
 
-module _ (g : Graph) (k : ℕ) (p : List ℕ) (v : ℕ) (s₀ : List ℕ) (n : ℕ) (room : n ≤ length s₀) where
+module _ (g : Graph) (k : ℕ) (p : List ℕ) (v : ℕ) (s₀ : List ℕ) (n : ℕ) (places : n ≤ length s₀) where
   pub begins : Rows (length p) g → v < length p → (end e : ℕ) → end ≡ past g v → e ≡ first g v → Pushing g k p v s₀ n end e s₀ n
   unfolding pushed
   begins ok here end e q r =
@@ -46,9 +46,9 @@ module _ (g : Graph) (k : ℕ) (p : List ℕ) (v : ℕ) (s₀ : List ℕ) (n : �
         end-is = q;
         walk = rw r (enters (row-of ok v (first g v) end here refl q));
         long = refl;
-        within = room;
+        within = places;
         top-is = rw z (omega arith);
-        held-is = rw z;
+        stacked-is = rw z;
         kept = refl;
       }
 
@@ -64,11 +64,11 @@ module _ (g : Graph) (k : ℕ) (p : List ℕ) (v : ℕ) (s₀ : List ℕ) (n : �
       at-arc : neighbour g (first g v + i) ≡ u
       at-arc = let f = inv .walk .from in let q : first g v + i ≡ e = omega arith in rw q (sym u-is)
 
-      more : news g k p v (e + 1 - first g v) ≡ cond (gladly g k p u) (u ∷ news g k p v i) (news g k p v i)
+      more : news g k p v (e + 1 - first g v) ≡ cond (hasGain g k p u) (u ∷ news g k p v i) (news g k p v i)
       unfolding pushed
       more = ap (news g k p v) next ∙ rw at-arc
 
-      pub passed-by : (b : Bool) → b ≡ gladly g k p u → b ≡ false → Pushing g k p v s₀ n end (e + 1) s top
+      pub passed-by : (b : Bool) → b ≡ hasGain g k p u → b ≡ false → Pushing g k p v s₀ n end (e + 1) s top
       passed-by b q f =
           let a : news g k p v (e + 1 - first g v) ≡ news g k p v i = more ∙ rw (← q, f) in
           record {
@@ -77,11 +77,11 @@ module _ (g : Graph) (k : ℕ) (p : List ℕ) (v : ℕ) (s₀ : List ℕ) (n : �
             long = inv .long;
             within = inv .within;
             top-is = rw a (inv .top-is);
-            held-is = rw a (inv .held-is);
+            stacked-is = rw a (inv .stacked-is);
             kept = inv .kept;
           }
 
-      module _ (b : Bool) (q : b ≡ gladly g k p u) (t : b ≡ true) where
+      module _ (b : Bool) (q : b ≡ hasGain g k p u) (t : b ≡ true) where
         one : news g k p v (e + 1 - first g v) ≡ u ∷ news g k p v i
         one = more ∙ rw (← q, t)
 
@@ -95,22 +95,22 @@ module _ (g : Graph) (k : ℕ) (p : List ℕ) (v : ℕ) (s₀ : List ℕ) (n : �
               long = length-set s top u ∙ inv .long;
               within = omega arith;
               top-is = rw one (omega arith);
-              held-is = held-push s top u (omega arith) ∙ rw one (ap (λ (ys : List ℕ). u ∷ ys) (inv .held-is));
-              kept = held-above s top u n (omega arith) ∙ inv .kept;
+              stacked-is = stacked-push s top u (omega arith) ∙ rw one (ap (λ (ys : List ℕ). u ∷ ys) (inv .stacked-is));
+              kept = stacked-above s top u n (omega arith) ∙ inv .kept;
             }
 
         -- this one does not fit: none is pushed
-        pub no-room : top ≡ length s₀ → PushDone (fresh g k p v) s₀ n s false n
+        pub no-room : top ≡ length s₀ → PushDone (pushedBy g k p v) s₀ n s false n
         no-room h =
             let x = inv .top-is in
-            let z : suc (length (news g k p v i)) ≤ length (fresh g k p v) = grown in
+            let z : suc (length (news g k p v i)) ≤ length (pushedBy g k p v) = grown in
             record {
-              fits-is = sym (lt-leb (length (fresh g k p v) + n) (length s₀) (omega arith));
-              held-is = inv .kept;
-              within = room;
+              fits-is = sym (lt-leb (length (pushedBy g k p v) + n) (length s₀) (omega arith));
+              stacked-is = inv .kept;
+              within = places;
             }
           where
-            grown : suc (length (news g k p v i)) ≤ length (fresh g k p v)
+            grown : suc (length (news g k p v i)) ≤ length (pushedBy g k p v)
             grown =
                 let m = e + 1 - first g v in
                 let f = inv .walk .from in
@@ -119,13 +119,13 @@ module _ (g : Graph) (k : ℕ) (p : List ℕ) (v : ℕ) (s₀ : List ℕ) (n : �
                 let c = ap length one in
                 rw d (omega arith)
 
-    pub all-fit : end ≤ e → PushDone (fresh g k p v) s₀ n s true top
+    pub all-fit : end ≤ e → PushDone (pushedBy g k p v) s₀ n s true top
     all-fit l =
-        let q : i ≡ past g v - first g v = omega (arith, over (inv .walk) l, inv .end-is) in
-        let x : top ≡ length (fresh g k p v) + n = rw q at (inv .top-is) in
+        let q : i ≡ past g v - first g v = omega (arith, at-end (inv .walk) l, inv .end-is) in
+        let x : top ≡ length (pushedBy g k p v) + n = rw q at (inv .top-is) in
         let y = inv .within in
         record {
-          fits-is = sym (le-leb (length (fresh g k p v) + n) (length s₀) (omega arith));
-          held-is = rw q at (inv .held-is);
+          fits-is = sym (le-leb (length (pushedBy g k p v) + n) (length s₀) (omega arith));
+          stacked-is = rw q at (inv .stacked-is);
           within = inv .within;
         }

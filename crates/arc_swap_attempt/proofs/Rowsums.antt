@@ -14,7 +14,7 @@ use Rattle.imbalance.specs.Load.{part}
 use Rattle.topology.specs.Graph.{Graph, first, past, neighbour, weight, into}
 use Rattle.topology.specs.Rule.{Rows}
 use Rattle.topology.specs.inner.Row.{wordBound, rowBound}
-use Rattle.topology.proofs.RowWalks.{Walk, Summed, row-of, enters, further, over, none-summed, one-summed, passed-over, all-summed, summed-small}
+use Rattle.topology.proofs.RowWalks.{Walk, Summed, row-of, enters, further, at-end, none-summed, one-summed, passed-over, all-summed, summed-small}
 
 -- u is of part t
 abbrev inPart : List ℕ → ℕ → ℕ → Bool
@@ -35,8 +35,8 @@ begins ok v a b here q r = record {
 
 module _ {g : Graph} {p : List ℕ} {a b e : ℕ} {at : List ℕ} (inv : Passed g p a b e at) where
   -- no sum wraps
-  pub room : (t : ℕ) → t < 16 → getD at t 0 ≤ rowBound
-  room t l = summed-small (inv .sums t l) (inv .walk)
+  pub places : (t : ℕ) → t < 16 → getD at t 0 ≤ rowBound
+  places t l = summed-small (inv .sums t l) (inv .walk)
 
   -- arc e goes to u, of part t, and weighs w
   pub turn : e < b → (u t w : ℕ) → u ≡ neighbour g e → t ≡ part p u → t < 16 → w ≡ weight g e → w < wordBound → Passed g p a b (e + 1) (set at t (getD at t 0 + w))
@@ -59,4 +59,4 @@ module _ {g : Graph} {p : List ℕ} {a b e : ℕ} {at : List ℕ} (inv : Passed 
   unfolding into
   ended v q r l =
       table-of 16 0 at (inv .sized)
-      ∙ table-ext 16 (λ t. getD at t 0) (into g p v) (λ t k. all-summed (inv .sums t k) v q (over (inv .walk) l ∙ r))
+      ∙ table-ext 16 (λ t. getD at t 0) (into g p v) (λ t k. all-summed (inv .sums t k) v q (at-end (inv .walk) l ∙ r))

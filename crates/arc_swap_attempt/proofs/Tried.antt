@@ -16,11 +16,11 @@ use Rattle.imbalance.specs.Limit.{mostWeight}
 use Rattle.imbalance.specs.Load.{part, load}
 use Rattle.imbalance.proofs.PartLoads.{load-within}
 use Rattle.topology.specs.Graph.{Graph, into, gain}
-use Rattle.arc_swap_attempt.specs.Trial.{aim, gladly, trial}
+use Rattle.arc_swap_attempt.specs.Trial.{aim, hasGain, trial}
 use Rattle.arc_swap_attempt.specs.inner.Steps.{picked, bestBy, Named, Tryable}
 use Rattle.arc_swap_attempt.specs.declared.Target.{Target}
 use Rattle.arc_swap_attempt.specs.declared.Trial.the-variants.{NoGain, BadBalance, Goes}
-use Rattle.arc_swap_attempt.proofs.Aims.{target-is, gain-none, glad-is}
+use Rattle.arc_swap_attempt.proofs.Aims.{target-is, gain-none, has-gain-is}
 
 -- what is aimed at is another of the k parts
 pub aim-in : (g : Graph) (k : ℕ) (p : List ℕ) (v t : ℕ) → aim g k p v ≡ some t → (t < k) × (t ≡ part p v → ⊥)
@@ -108,8 +108,8 @@ module _ (g : Graph) (k : ℕ) (p : List ℕ) (v : ℕ) (ok : Named g k p) (here
   aimed = target-is g k p v at c (ok .few) at-is (rw own-is at best-is)
 
   -- "whose largest gain is now positive", as the sums tell it
-  pub glad-by : ltb (getD at own 0) (c .sum) ≡ gladly g k p v
-  glad-by = ap (λ (x : ℕ). ltb x (c .sum)) own-sum ∙ glad-is g k p v c aimed
+  pub has-gain-by : ltb (getD at own 0) (c .sum) ≡ hasGain g k p v
+  has-gain-by = ap (λ (x : ℕ). ltb x (c .sum)) own-sum ∙ has-gain-is g k p v c aimed
 
   -- a positive gain: the best part and its sum
   gains-to : getD at own 0 < c .sum → (aim g k p v ≡ some (c .part)) × (c .sum ≡ into g p v (c .part))

@@ -20,15 +20,15 @@ module _ (g : Graph) (k : ℕ) where
   aim p v = best (λ t. not (eqb t (part p v))) (λ t u. leZ (gain g p v u) (gain g p v t)) k
 
   -- u's "largest gain is now positive"
-  unfoldable pub gladly : List ℕ → ℕ → Bool
-  gladly p u = elim (aim p u) [ none ↦ false | some t ↦ not (leZ (gain g p u t) (pos 0)) ]
+  unfoldable pub hasGain : List ℕ → ℕ → Bool
+  hasGain p u = elim (aim p u) [ none ↦ false | some t ↦ not (leZ (gain g p u t) (pos 0)) ]
 
   -- "its neighbours whose largest gain is now positive are pushed in row order, repeats kept": of the first n of v's row, the last of them on top; only vertices that may move
   unfoldable pub pushed : (ℕ → Bool) → List ℕ → ℕ → ℕ → List ℕ
   pushed movable p v zero = []
   pushed movable p v (suc n) =
       let u = neighbour g (first g v + n) in
-      cond (movable u && gladly p u) (u ∷ pushed movable p v n) (pushed movable p v n)
+      cond (movable u && hasGain p u) (u ∷ pushed movable p v n) (pushed movable p v n)
 
   -- "Gain 0 or less: no-gain count. Else target load above the ceiling: bad-balance count. Else it moves": to part t, with its gain, which is then above 0
   unfoldable pub trial : List ℕ → List ℕ → List ℕ → ℕ → Trial

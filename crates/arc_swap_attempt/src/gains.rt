@@ -6,7 +6,7 @@ ghost use Rattle.lists.specs.Fill.{table};
 ghost use Rattle.imbalance.specs.Load.{part};
 ghost use Rattle.topology.specs.Graph.{inRows, into};
 ghost use Rattle.topology.specs.Rule.{Rows};
-ghost use Rattle.arc_swap_attempt.specs.Trial.{gladly};
+ghost use Rattle.arc_swap_attempt.specs.Trial.{hasGain};
 ghost use Rattle.arc_swap_attempt.specs.inner.Steps.{picked, bestBy, Named};
 use crate::Sums;
 use crate::Target;
@@ -56,7 +56,7 @@ pub fn best_part(sums: Sums, own: usize, parts: usize) -> Target
 }
 
 // Whether u's largest gain is positive.
-pub fn glad(
+pub fn has_gain(
     starts: &[u32],
     neighbours: &[u32],
     arc_weights: &[u32],
@@ -65,7 +65,7 @@ pub fn glad(
     u: usize,
 ) -> bool
     requires { ⌜ Named (inRows (now starts) (now neighbours) (now «arc_weights»)) parts (now labels) × (u < length (now labels)) ⌝ }
-    ensures { λ r. ⌜ r ≡ gladly (inRows (now (starts .entry)) (now (neighbours .entry)) (now («arc_weights» .entry))) parts (now (labels .entry)) u ⌝ }
+    ensures { λ r. ⌜ r ≡ hasGain (inRows (now (starts .entry)) (now (neighbours .entry)) (now («arc_weights» .entry))) parts (now (labels .entry)) u ⌝ }
 {
     let own = lists::index(labels[u]);
     let sums = sums_of(starts, neighbours, arc_weights, labels, u);

@@ -2,7 +2,7 @@
 ghost use Prim.Native.Nat.{_≤_, _<_};
 ghost use lib.ListN.{length};
 ghost use Rattle.topology.specs.Graph.{inRows};
-ghost use Rattle.arc_swap_attempt.specs.inner.Steps.{Named, fresh, PushDone, MoveAsked, MoveDone};
+ghost use Rattle.arc_swap_attempt.specs.inner.Steps.{Named, pushedBy, PushDone, MoveAsked, MoveDone};
 use crate::Pushed;
 use crate::Standing;
 
@@ -14,18 +14,18 @@ fn push_neighbours(
     labels: &[u32],
     stack: &mut [u32],
     parts: usize,
-    held: usize,
+    used: usize,
     v: usize,
 ) -> Pushed
-    requires { ⌜ Named (inRows (now starts) (now neighbours) (now «arc_weights»)) parts (now labels) × (v < length (now labels)) × (held ≤ length (now stack)) ⌝ }
-    ensures { λ r. ⌜ PushDone (fresh (inRows (now (starts .entry)) (now (neighbours .entry)) (now («arc_weights» .entry))) parts (now (labels .entry)) v) (now (stack .entry)) held (now (stack .exit)) (r .fits) (r .top) ⌝ }
+    requires { ⌜ Named (inRows (now starts) (now neighbours) (now «arc_weights»)) parts (now labels) × (v < length (now labels)) × (used ≤ length (now stack)) ⌝ }
+    ensures { λ r. ⌜ PushDone (pushedBy (inRows (now (starts .entry)) (now (neighbours .entry)) (now («arc_weights» .entry))) parts (now (labels .entry)) v) (now (stack .entry)) used (now (stack .exit)) (r .fits) (r .top) ⌝ }
 {
     let end = lists::index(starts[v + 1]);
     let mut e = lists::index(starts[v]);
-    let mut top = held;
+    let mut top = used;
     while e < end {
         let u = neighbours[e];
-        if crate::gains::glad(
+        if crate::gains::has_gain(
             starts,
             neighbours,
             arc_weights,
@@ -36,7 +36,7 @@ fn push_neighbours(
             if top == stack.len() {
                 return Pushed {
                     fits: false,
-                    top: held,
+                    top: used,
                 };
             }
             stack[top] = u;
@@ -57,13 +57,13 @@ pub fn move_vertex(
     stack: &mut [u32],
     st: Standing,
     parts: usize,
-    held: usize,
+    used: usize,
     v: usize,
     t: u32,
     gain: u64,
 ) -> Standing
-    requires { ⌜ MoveAsked (inRows (now starts) (now neighbours) (now «arc_weights»)) parts (now weights) (now labels) (now stack) held (st .cut) (st .loads .at) v t gain ⌝ }
-    ensures { λ r. ⌜ MoveDone (inRows (now (starts .entry)) (now (neighbours .entry)) (now («arc_weights» .entry))) parts (now (weights .entry)) (now (labels .entry)) (now (stack .entry)) held v t (now (labels .exit)) (now (stack .exit)) r ⌝ }
+    requires { ⌜ MoveAsked (inRows (now starts) (now neighbours) (now «arc_weights»)) parts (now weights) (now labels) (now stack) used (st .cut) (st .loads .at) v t gain ⌝ }
+    ensures { λ r. ⌜ MoveDone (inRows (now (starts .entry)) (now (neighbours .entry)) (now («arc_weights» .entry))) parts (now (weights .entry)) (now (labels .entry)) (now (stack .entry)) used v t (now (labels .exit)) (now (stack .exit)) r ⌝ }
 {
     let before = st.loads;
     let loads = imbalance::moved_loads(before, labels[v], t, weights[v]);
@@ -75,7 +75,7 @@ pub fn move_vertex(
         labels,
         stack,
         parts,
-        held,
+        used,
         v,
     );
     Standing {

@@ -5,7 +5,7 @@ ghost use Rattle.topology.specs.Graph.{inRows};
 ghost use Rattle.topology.specs.Number.{edgeCutAnswer, lambdaCutAnswer};
 ghost use Rattle.fiduccia_mattheyses.specs.Entry.{Refined};
 ghost use Rattle.kernighan_lin.specs.Entry as KL;
-ghost use Rattle.arc_swap.specs.Entry.{Swapped};
+ghost use Rattle.arc_swap.specs.Entry.{Refined as SwapRefined};
 ghost use Rattle.plan.specs.Read.{Read};
 ghost use Rattle.plan.specs.Write.{Written};
 ghost use Rattle.eight_block_grid.specs.SelfTest.{Tested};
@@ -132,7 +132,7 @@ pub extern "C" fn daunsrevit_arc_swap(
     settings: arc_swap::Settings,
     run: &mut RunRecord,
 ) -> arc_swap::Report
-    ensures { λ r. ⌜ Swapped
+    ensures { λ r. ⌜ SwapRefined
         (record { starts = now (starts .entry); neighbours = now (neighbours .entry); arcs = now («arc_weights» .entry); weights = now (weights .entry); settings = settings })
         (record { labels = now (labels .entry); stack = now (stack .entry); run = now (run .entry) })
         r

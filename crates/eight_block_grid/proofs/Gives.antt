@@ -9,7 +9,7 @@ use lib.Dec.{T, ltb}
 use lib.ListN.{getD, List·getD-eq-default}
 use borrow.Author.Tests.{ltb-true, ltb-false}
 use Rattle.lists.specs.Sum.{sum, total}
-use Rattle.lists.specs.All.{all, allFrom, some, someFrom}
+use Rattle.lists.specs.All.{all, allFrom, any, anyFrom}
 use Rattle.lists.specs.Fill.{written, table}
 use Rattle.imbalance.specs.Limit.{heavy, labelAbove}
 use Rattle.imbalance.specs.Load.{part, load}
@@ -29,7 +29,7 @@ use Rattle.topology.specs.EightBlockGrid.{grid, ones, A}
 use Rattle.fiduccia_mattheyses.specs.Run.{run}
 use Rattle.fiduccia_mattheyses.specs.Entry as FM
 use Rattle.fiduccia_mattheyses.specs.declared.Report as FMReport
-use Rattle.fiduccia_mattheyses_moves.specs.Own.{Lists, RefinedWith}
+use Rattle.fiduccia_mattheyses_records.specs.Own.{Lists, RefinedWith}
 use Rattle.kernighan_lin.specs.Entry as KL
 use Rattle.kernighan_lin.specs.declared.Report as KLReport
 use Rattle.arc_swap.specs.Entry as Swap
@@ -47,7 +47,7 @@ pub grid-rows : Rows 8 grid
 grid-rows = Numbers.sound 8 ones grid Cuts.sound .rows
 
 pub two-parts : (v : ℕ) → part A v < 2
-unfolding labelAbove some
+unfolding labelAbove any
 two-parts v = go (ltb v 8) refl
   where
     go : (t : Bool) → ltb v 8 ≡ t → part A v < 2
@@ -72,7 +72,7 @@ loads-give numbers r b e s = s ∙ ap (λ (x : LoadsAnswer). same (loadsSeen x) 
 
 -- the totals are 5 and 75
 pub totals-are : totals .loads .at ≡ 5 ∷ 75 ∷ zeros 14
-unfolding FM.answer FM.reportOf FM.numberOf FM.unfit FM.short unfitChoice labelAbove graphNumber rowsNumber misfit oversize rowsOk startsOk arcOk hasArc answered heavy all allFrom some someFrom run load sum table total
+unfolding FM.answer FM.reportOf FM.numberOf FM.unfit FM.short unfitChoice labelAbove graphNumber rowsNumber misfit oversize rowsOk startsOk arcOk hasArc answered heavy all allFrom any anyFrom run load sum table total
 totals-are = refl
 
 -- 0.0, as the code has it
@@ -100,7 +100,7 @@ rounded r x y z b e p q s t =
     t ∙ ap (λ (ns : List ℕ). same ns (4 ∷ 122 ∷ 5 ∷ [])) ((λ i. p i ∷ q i ∷ s i ∷ []) ∙ ap ceilingsSeen e)
 
 -- FM's plan with the imbalance e
-abbrev fmPlanBy : ℕ → ℕ → Float → FM.Plan
+abbrev fmPlanBy : ℕ → ℕ → Float → FM.Given
 fmPlanBy choice bad e =
     record {
       starts = grid .starts;
@@ -138,7 +138,7 @@ kl-gives start swaps bad labels numbers r k x y b g s t j =
     (t ∙ ap (λ (z : KLReport.Report). same (klSeen z) numbers) (g .answered))
 
 -- arc-swap's plan with the imbalance e
-abbrev swapPlanBy : Float → Swap.Plan
+abbrev swapPlanBy : Float → Swap.Given
 swapPlanBy e =
     record {
       starts = grid .starts;
@@ -149,11 +149,11 @@ swapPlanBy e =
     }
 
 pub swap-gives : (labels numbers : List ℕ) (e : Float) (r : SwapReport.Report) (k : Swap.Lent) (x y b : Bool) →
-    e ≡ quarter → Swap.Swapped (swapPlanBy e) swapLent r k → x ≡ same (k .labels) labels → y ≡ same (swapSeen r k) numbers →
+    e ≡ quarter → Swap.Refined (swapPlanBy e) swapLent r k → x ≡ same (k .labels) labels → y ≡ same (swapSeen r k) numbers →
     b ≡ (x && y) → b ≡ swapGives labels numbers
 unfolding swapGives
 swap-gives labels numbers e r k x y b q h s t j =
-    let g : Swap.Swapped swapPlan swapLent r k = subst (λ (z : Float). Swap.Swapped (swapPlanBy z) swapLent r k) q h in
+    let g : Swap.Refined swapPlan swapLent r k = subst (λ (z : Float). Swap.Refined (swapPlanBy z) swapLent r k) q h in
     j
     ∙ ap₂ _&&_
     (s ∙ ap (λ (ls : List ℕ). same ls labels) (g .labels))

@@ -7,7 +7,7 @@ use lib.ListN.{replicate}
 use lib.Ieee.{Float, fin}
 use Rattle.topology.specs.EightBlockGrid.{grid, ones, A}
 use Rattle.fiduccia_mattheyses.specs.Entry as FM
-use Rattle.fiduccia_mattheyses_moves.specs.Own.{Lists, lentWith}
+use Rattle.fiduccia_mattheyses_records.specs.Own.{Lists, lentWith}
 use Rattle.kernighan_lin.specs.Entry as KL
 use Rattle.arc_swap.specs.Entry as Swap
 
@@ -23,7 +23,7 @@ abbrev pub quarter : Float
 quarter = fin false 1 (negsuc 1)
 
 -- FM: "P = 64, moves 8", by the ceiling's choice and the bad limit
-abbrev pub fmPlan : ℕ → ℕ → FM.Plan
+abbrev pub fmPlan : ℕ → ℕ → FM.Given
 fmPlan choice bad =
     record {
       starts = grid .starts;
@@ -41,7 +41,7 @@ abbrev pub fmLent : FM.Lent
 fmLent = lentWith 8 fmLists
 
 -- Two totals as the loads of two parts: block 0 weighs 5, block 1 75 and no other anything, and no pass is allowed
-abbrev pub totalsPlan : Float → FM.Plan
+abbrev pub totalsPlan : Float → FM.Given
 totalsPlan e =
     record {
       starts = grid .starts;
@@ -55,7 +55,7 @@ abbrev pub totalsLists : Lists
 totalsLists = record { labels = 0 ∷ 1 ∷ zeros 6; gains = noGains 8; made = zeros 1; rewound = zeros 1 }
 
 -- KL: "P 1", by the swap limit and the bad limit
-abbrev pub klPlan : ℕ → ℕ → KL.Plan
+abbrev pub klPlan : ℕ → ℕ → KL.Given
 klPlan swaps bad =
     record {
       starts = grid .starts;
@@ -70,7 +70,7 @@ abbrev pub klLent : List ℕ → KL.Lent
 klLent labels = record { labels = labels; gains = noGains 8; locks = zeros 8; swaps = zeros 4 }
 
 -- "Arc-swap on A, e = 0.25, stack 8"
-abbrev pub swapPlan : Swap.Plan
+abbrev pub swapPlan : Swap.Given
 swapPlan =
     record {
       starts = grid .starts;

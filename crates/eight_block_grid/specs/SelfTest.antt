@@ -17,7 +17,7 @@ use Rattle.topology.specs.declared.CutAnswer.{CutAnswer}
 use Rattle.topology.specs.EightBlockGrid.{grid, ones, A, B}
 use Rattle.fiduccia_mattheyses.specs.Entry as FM
 use Rattle.fiduccia_mattheyses.specs.declared.Report as FMReport
-use Rattle.fiduccia_mattheyses_moves.specs.Own.{lentWith}
+use Rattle.fiduccia_mattheyses_records.specs.Own.{lentWith}
 use Rattle.kernighan_lin.specs.Entry as KL
 use Rattle.kernighan_lin.specs.declared.Report as KLReport
 use Rattle.arc_swap.specs.Entry as Swap

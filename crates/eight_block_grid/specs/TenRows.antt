@@ -12,7 +12,7 @@ use Rattle.topology.specs.Graph.{gain}
 use Rattle.topology.specs.Number.{edgeCutAnswer, lambdaCutAnswer}
 use Rattle.topology.specs.EightBlockGrid.{grid, ones, A, B}
 use Rattle.fiduccia_mattheyses.specs.Entry as FM
-use Rattle.fiduccia_mattheyses_moves.specs.Own.{blank}
+use Rattle.fiduccia_mattheyses_records.specs.Own.{blank}
 use Rattle.kernighan_lin.specs.Entry as KL
 use Rattle.arc_swap.specs.Entry as Swap
 use Rattle.eight_block_grid.specs.Inputs.{zeros, noGains, fmPlan, fmLent, klPlan, klLent, swapPlan, swapLent}
@@ -46,7 +46,7 @@ pub record TenRows : Type 0 where
   -- "3. Gains in A: -2, 1, 1, -2, 0, 3, 3, 0."
   pub row-3 : gainsInA ≡ eightGains
   -- "4. FM on A, e = 0.25 (ceiling 5), bad limit 0, P = 64, moves 8: B, rows 2/0 and 0/0, end 1."
-  pub row-4 : (FM.settingOf (fmPlan 2 0) fmLent .ceilings ≡ replicate 16 5) × (FM.answer (fmPlan 2 0) fmLent ≡ record { number = 0; end = 1; passes = 2; first = 6; last = 2; loads = fourFour }) × (FM.left (fmPlan 2 0) fmLent ≡ fmLeft B (2 ∷ 0 ∷ []) (0 ∷ 0 ∷ []))
+  pub row-4 : (FM.termsOf (fmPlan 2 0) fmLent .ceilings ≡ replicate 16 5) × (FM.answer (fmPlan 2 0) fmLent ≡ record { number = 0; end = 1; passes = 2; first = 6; last = 2; loads = fourFour }) × (FM.left (fmPlan 2 0) fmLent ≡ fmLeft B (2 ∷ 0 ∷ []) (0 ∷ 0 ∷ []))
   -- "5. Same, bad limit 1: B, rows 3/1 and 1/1."
   pub row-5 : (FM.answer (fmPlan 2 1) fmLent ≡ record { number = 0; end = 1; passes = 2; first = 6; last = 2; loads = fourFour }) × (FM.left (fmPlan 2 1) fmLent ≡ fmLeft B (3 ∷ 1 ∷ []) (1 ∷ 1 ∷ []))
   -- "6. Carried ceiling: A, row 0/0."

@@ -169,7 +169,7 @@ fn fm_gives(choice: u32, bad: u32, labels: &[u32], numbers: &[u64]) -> bool
         whole: 0,
         imbalance: 0.25,
     };
-    let r = fiduccia_mattheyses_moves::with_8_moves(
+    let r = fiduccia_mattheyses_records::with_8_moves(
         &STARTS,
         &NEIGHBOURS,
         &ARC_WEIGHTS,
@@ -358,7 +358,7 @@ fn rounds_well() -> bool
         whole: 0,
         imbalance: 0.0,
     };
-    let r = fiduccia_mattheyses_moves::with_8_moves(
+    let r = fiduccia_mattheyses_records::with_8_moves(
         &STARTS,
         &NEIGHBOURS,
         &ARC_WEIGHTS,

@@ -12,7 +12,7 @@ use Rattle.lists.specs.Sum.{weigh}
 use Rattle.imbalance.specs.Load.{part, load}
 use Rattle.topology.specs.Cut.{cut}
 use Rattle.topology.proofs.Moves.{load-move}
-use Rattle.fiduccia_mattheyses_pass.specs.Choice.{Setting, other, flip, after, fits, choice}
+use Rattle.fiduccia_mattheyses_pass.specs.Choice.{Terms, other, flip, after, fits, choice}
 use Rattle.fiduccia_mattheyses_pass.specs.Pass.{State, start, moveOn, flips, pass}
 use Rattle.fiduccia_mattheyses_pass.proofs.Chosen.{allowed-is, chosen}
 use Rattle.fiduccia_mattheyses_pass.proofs.Keeps.{Keeps, keeps-start, keeps-move, walk-keeps}
@@ -22,7 +22,7 @@ use Rattle.fiduccia_mattheyses.proofs.Running.{run-last, run-more}
 use Rattle.fiduccia_mattheyses.proofs.Least.{kept-labels, kept-move}
 
 -- a vertex that fits raises no part's load above its ceiling, and raises no other load
-fitting : (s : Setting) (p : List ℕ) (v t : ℕ) → v < length p → fits s p v ≡ true → load (s .weights) (flip p v) t ≤ max (getD (s .ceilings) t 0) (load (s .weights) p t)
+fitting : (s : Terms) (p : List ℕ) (v t : ℕ) → v < length p → fits s p v ≡ true → load (s .weights) (flip p v) t ≤ max (getD (s .ceilings) t 0) (load (s .weights) p t)
 unfolding flip fits after
 fitting s p v t l f = go (eqb (other (part p v)) t) refl
   where
@@ -37,19 +37,19 @@ fitting s p v t l f = go (eqb (other (part p v)) t) refl
         omega arith
     go false e = let m : load (s .weights) (flip p v) t + weigh (eqb (part p v) t) (getD (s .weights) v 0) ≡ load (s .weights) p t + 0 = rw e at moved in omega arith
 
-module _ (s : Setting) (p : List ℕ) where
+module _ (s : Terms) (p : List ℕ) where
   -- labels whose loads are within the larger of the ceiling and the loads of p
   abbrev Within : List ℕ → Type 0
   Within q = (t : ℕ) → t < 2 → load (s .weights) q t ≤ max (getD (s .ceilings) t 0) (load (s .weights) p t)
 
-  record Held (st : State) : Type 0 where
+  record Bounded (st : State) : Type 0 where
     keeps : Keeps s p st
     now : Within (st .labels)
     back : Within (kept-labels p st)
 
-  held-move : (st : State) (v : ℕ) → choice s (st .labels) (st .moved) ≡ some v → Held st → Held (moveOn s st v)
+  bounded-move : (st : State) (v : ℕ) → choice s (st .labels) (st .moved) ≡ some v → Bounded st → Bounded (moveOn s st v)
   unfolding moveOn
-  held-move st v c h = record {
+  bounded-move st v c h = record {
     keeps = keeps-move s p st v (h .keeps);
     now = here;
     back = λ t lt. rw (kept-move s p st v (h .keeps)) (pick (ltb (cut (s .graph) (flip (st .labels) v)) (st .least)) t lt);
@@ -68,10 +68,10 @@ module _ (s : Setting) (p : List ℕ) where
 
   pass-within : Within (pass s p .labels)
   unfolding pass flips
-  pass-within = walk-keeps s p Held held-move (s .moveLimit) (start s p) (record { keeps = keeps-start s p; now = λ t lt. omega arith; back = λ t lt. omega arith }) .back
+  pass-within = walk-keeps s p Bounded bounded-move (s .moveLimit) (start s p) (record { keeps = keeps-start s p; now = λ t lt. omega arith; back = λ t lt. omega arith }) .back
 
 -- "No board ends above the larger of the ceiling and its starting load."
-pub no-board-above : (s : Setting) (k : ℕ) (p : List ℕ) → NoBoardAbove s p (run s k p .labels)
+pub no-board-above : (s : Terms) (k : ℕ) (p : List ℕ) → NoBoardAbove s p (run s k p .labels)
 unfolding run
 no-board-above s zero p t lt = omega arith
 no-board-above s (suc k) p t lt = go (ltb (pass s p .least) (cut (s .graph) p)) refl (no-board-above s k (pass s p .labels) t lt)

@@ -9,7 +9,7 @@ use lib.ListN.{length, getD}
 use borrow.Author.Tests.{ltb-true, leb-true, le-leb}
 use Rattle.lists.proofs.Bools.{and-left, and-right}
 use Rattle.topology.specs.Cut.{cut}
-use Rattle.fiduccia_mattheyses_pass.specs.Choice.{Setting}
+use Rattle.fiduccia_mattheyses_pass.specs.Choice.{Terms}
 use Rattle.fiduccia_mattheyses_pass.specs.Pass.{Pass, pass}
 use Rattle.fiduccia_mattheyses_pass.proofs.Keeps.{keeps-walk}
 use Rattle.fiduccia_mattheyses_pass.proofs.MoveLimits.{few-moves}
@@ -18,18 +18,18 @@ use Rattle.fiduccia_mattheyses.specs.Counts.{counted}
 use Rattle.fiduccia_mattheyses.proofs.Running.{mades, rewounds, run-last, run-more}
 use Rattle.fiduccia_mattheyses.proofs.Single.{pass-long}
 
-pass-counts : (s : Setting) (p : List ℕ) → (pass s p .made ≤ length p) × (pass s p .rewound ≤ pass s p .made)
+pass-counts : (s : Terms) (p : List ℕ) → (pass s p .made ≤ length p) × (pass s p .rewound ≤ pass s p .made)
 unfolding pass
 pass-counts s p = (few-moves s p, omega arith)
 
-pass-counted : (s : Setting) (p : List ℕ) (n : ℕ) (rows : List Pass) → length p ≡ n → counted n rows ≡ true → counted n (pass s p ∷ rows) ≡ true
+pass-counted : (s : Terms) (p : List ℕ) (n : ℕ) (rows : List Pass) → length p ≡ n → counted n rows ≡ true → counted n (pass s p ∷ rows) ≡ true
 unfolding counted
 pass-counted s p n rows e h =
     let c = pass-counts s p in
     rw (le-leb (pass s p .made) n (omega (arith, c .0)), le-leb (pass s p .rewound) (pass s p .made) (c .1)) h
 
 -- "moves in a pass at most n": no pass of a run makes more, or rewinds more than it made.
-pub rows-counted : (s : Setting) (k : ℕ) (p : List ℕ) → counted (length p) (run s k p .rows) ≡ true
+pub rows-counted : (s : Terms) (k : ℕ) (p : List ℕ) → counted (length p) (run s k p .rows) ≡ true
 unfolding run counted
 rows-counted s zero p = refl
 rows-counted s (suc k) p = go (ltb (pass s p .least) (cut (s .graph) p)) refl (rows-counted s k (pass s p .labels))
@@ -48,7 +48,7 @@ counted-at n (r ∷ rows) h zero l =
 counted-at n (r ∷ rows) h (suc i) l = counted-at n rows (and-right (leb (r .made) n && leb (r .rewound) (r .made)) (counted n rows) h) i (omega arith)
 
 -- A run has at most as many passes as are allowed.
-pub passes-within : (s : Setting) (k : ℕ) (p : List ℕ) → length (run s k p .rows) ≤ k
+pub passes-within : (s : Terms) (k : ℕ) (p : List ℕ) → length (run s k p .rows) ≤ k
 unfolding run
 passes-within s zero p = omega arith
 passes-within s (suc k) p = go (ltb (pass s p .least) (cut (s .graph) p)) refl (passes-within s k (pass s p .labels))
@@ -57,12 +57,12 @@ passes-within s (suc k) p = go (ltb (pass s p .least) (cut (s .graph) p)) refl (
     go true e ih = rw (ap (λ (x : Run). length (x .rows)) (run-more s k p e)) (omega arith)
     go false e ih = rw (ap (λ (x : Run). length (x .rows)) (run-last s k p e)) (omega arith)
 
-least-cut : (s : Setting) (p : List ℕ) → pass s p .least ≡ cut (s .graph) (pass s p .labels)
+least-cut : (s : Terms) (p : List ℕ) → pass s p .least ≡ cut (s .graph) (pass s p .labels)
 unfolding pass
 least-cut s p = keeps-walk s p (s .moveLimit) .least-is
 
 -- "passes at most starting cut + 1": each pass but the last lowers the cut
-pub few-passes : (s : Setting) (k : ℕ) (p : List ℕ) → length (run s k p .rows) ≤ cut (s .graph) p + 1
+pub few-passes : (s : Terms) (k : ℕ) (p : List ℕ) → length (run s k p .rows) ≤ cut (s .graph) p + 1
 unfolding run
 few-passes s zero p = omega arith
 few-passes s (suc k) p = go (ltb (pass s p .least) (cut (s .graph) p)) refl (few-passes s k (pass s p .labels))

@@ -1,5 +1,5 @@
 -- The call, from its number to its promise: what number 0 tells, what the run asks and leaves, and the three ways out. Assumes nothing.
-use mathlib.Core.Path.{_≡_, refl, sym, ap, ap₂, _∙_}
+use mathlib.Core.Path.{_≡_, refl, sym, ap, _∙_}
 use mathlib.Core.Bool.{Bool, true, false, cond, _||_}
 use mathlib.Core.List.{List, [], _∷_, _++_, map}
 use Prim.Native.Nat.{ℕ, zero, suc, _+_, _-_, _≤_, _<_}
@@ -13,7 +13,7 @@ use Rattle.lists.specs.Sum.{total}
 use Rattle.lists.specs.Fill.{filled, table, over}
 use Rattle.lists.proofs.Bools.{or-false}
 use Rattle.lists.proofs.Numbers.{or-else-zero, not-given}
-use Rattle.lists.proofs.Alls.{some-nowhere}
+use Rattle.lists.proofs.Alls.{any-nowhere}
 use Rattle.lists.proofs.Fills.{length-written, written-below, written-past}
 use Rattle.lists.proofs.Tables.{length-table}
 use Rattle.imbalance.specs.Limit.{labelAbove}
@@ -25,15 +25,16 @@ use Rattle.imbalance.proofs.Limits.{label-most}
 use Rattle.topology.specs.Rule.{graphNumber}
 use Rattle.topology.specs.Cut.{cut}
 use Rattle.topology.proofs.Numbers.{sound}
-use Rattle.fiduccia_mattheyses_pass.specs.Choice.{Setting}
+use Rattle.fiduccia_mattheyses_pass.specs.Choice.{Terms}
 use Rattle.fiduccia_mattheyses_pass.specs.Pass.{Pass}
 use Rattle.fiduccia_mattheyses_pass.specs.inner.Standing.{Fixed}
 use Rattle.fiduccia_mattheyses.specs.declared.Move.{Move}
 use Rattle.fiduccia_mattheyses.specs.declared.Report.{Report}
 use Rattle.fiduccia_mattheyses.specs.declared.Ended.{Ended}
 use Rattle.fiduccia_mattheyses.specs.Run.{Run, run}
-use Rattle.fiduccia_mattheyses.specs.Entry.{Plan, Lent, graphOf, askedCeiling, unfit, short, roomOf, numberOf, number, settingOf, runOf, none, refused, empty, reportOf, leftBy, answer, left, Refined}
-use Rattle.fiduccia_mattheyses.specs.inner.Steps.{settingBy, PassesAsked, PassesDone, Ready, Ran}
+use Rattle.topology.specs.Given.{graphOf}
+use Rattle.fiduccia_mattheyses.specs.Entry.{Given, Lent, askedCeiling, unfit, short, lengthsOf, numberOf, number, termsOf, runOf, noMove, refused, empty, reportOf, leftBy, answer, left, Refined}
+use Rattle.fiduccia_mattheyses.specs.inner.Steps.{termsBy, PassesAsked, PassesDone, Ready, Ran}
 
 -- ---- a call's number k is that of its checks m, unless there is no vertex
 pub checked : (n k m : ℕ) → k ≡ cond (eqb n 0) 0 m → (n ≡ 0 → ⊥) → k ≡ m
@@ -43,12 +44,12 @@ refused-some : (n k m : ℕ) → k ≡ cond (eqb n 0) 0 m → (k ≡ 0 → ⊥) 
 refused-some n k m e u z = u (e ∙ rw (eq-eqb n 0 z) refl)
 
 -- ---- what number 0 tells
-pub ready : (p : Plan) (l : Lent) (k : ℕ) → (length (l .labels) ≡ 0 → ⊥) → k ≡ number p l → k ≡ 0 → Ready p l
+pub ready : (p : Given) (l : Lent) (k : ℕ) → (length (l .labels) ≡ 0 → ⊥) → k ≡ number p l → k ≡ 0 → Ready p l
 unfolding numberOf unfit short
 ready p l k s e z =
     let n = length (l .labels) in
     let q = p .settings .passes in
-    let r = roomOf l in
+    let r = lengthsOf l in
     let both = or-else-zero (graphNumber n (p .weights) (graphOf p)) (cond (labelAbove 1 (l .labels)) 6 (cond (unfit (p .settings)) 7 (cond (short n q r) 8 0))) (sym e ∙ z) in
     let six = not-given (labelAbove 1 (l .labels)) 5 (cond (unfit (p .settings)) 7 (cond (short n q r) 8 0)) (both .1) in
     let seven = not-given (unfit (p .settings)) 6 (cond (short n q r) 8 0) (six .1) in
@@ -58,7 +59,7 @@ ready p l k s e z =
     let s1 = or-false (ltb (r .moves) n) (ltb (r .made) q || ltb (r .rewound) q) (s0 .1) in
     let s2 = or-false (ltb (r .made) q) (ltb (r .rewound) q) (s1 .1) in
     record {
-      some = omega arith;
+      a-vertex = omega arith;
       sound = sound n (p .weights) (graphOf p) (both .0);
       labelled = six .0;
       few-passes = ltb-false 1024 q (u .0);
@@ -83,7 +84,7 @@ module _ {A : Type 0} (n : ℕ) (xs ys : List A) (e : length ys ≡ length (take
   joined-past = let t = take-long n xs h in drop-at ys (drop n xs) n (e ∙ t)
 
 -- ---- the run
-module _ (p : Plan) (l : Lent) (a : Ready p l) where
+module _ (p : Given) (l : Lent) (a : Ready p l) where
   abbrev n : ℕ
   n = length (l .labels)
 
@@ -101,19 +102,19 @@ module _ (p : Plan) (l : Lent) (a : Ready p l) where
     paired = a .sound .weighed;
     few = a .sound .rows .few;
     light = a .sound .light;
-    named = some-nowhere n (λ v. ltb 15 (getD (l .labels) v 0)) (λ v k. (let h = two-labels v in le-ltb 15 (getD (l .labels) v 0) (omega arith)));
+    named = any-nowhere n (λ v. ltb 15 (getD (l .labels) v 0)) (λ v k. (let h = two-labels v in le-ltb 15 (getD (l .labels) v 0) (omega arith)));
   }
 
   module _ (loads : Loads) (total′ cut′ bad limit : ℕ) (asked : Ceiling) (ceil : List ℕ) (el : loads ≡ loadsOf (p .weights) (l .labels)) (et : total′ ≡ total (p .weights)) (ea : asked ≡ askedCeiling (p .settings)) (ec : ceil ≡ ceilings (loads .at) total′ 2 asked) (eu : cut′ ≡ cut (graphOf p) (l .labels)) (eb : bad ≡ p .settings .bad) (em : limit ≡ p .settings .moves) where
-    abbrev s : Setting
-    s = settingBy (p .starts) (p .neighbours) (p .arcs) (p .weights) (record { ceilings = record { at = ceil }; bad = bad; moves = limit })
+    abbrev s : Terms
+    s = termsBy (p .starts) (p .neighbours) (p .arcs) (p .weights) (record { ceilings = record { at = ceil }; bad = bad; moves = limit })
 
     ceil-is : ceil ≡ ceilings (table 16 (load (p .weights) (l .labels))) (total (p .weights)) 2 (askedCeiling (p .settings))
     ceil-is = ec ∙ rw (el, et, ea)
 
-    -- the setting that the code works with is the definition's
-    same-setting : s ≡ settingOf p l
-    same-setting = λ i. record { graph = graphOf p; weights = p .weights; ceilings = ceil-is i; movable = λ v. true; badLimit = eb i; moveLimit = em i }
+    -- the terms that the code works with are the definition's
+    same-terms : s ≡ termsOf p l
+    same-terms = λ i. record { graph = graphOf p; weights = p .weights; ceilings = ceil-is i; movable = λ v. true; badLimit = eb i; moveLimit = em i }
 
     fixed : Fixed s n
     unfolding ceilings
@@ -124,7 +125,7 @@ module _ (p : Plan) (l : Lent) (a : Ready p l) where
       light = a .sound .light;
       lightArcs = a .sound .lightArcs;
       capped = ap length ceil-is ∙ length-table 16 _;
-      anyone = λ v. refl;
+      all-movable = λ v. refl;
     }
 
     -- what the passes ask: the gains' first n places are lent on
@@ -132,9 +133,9 @@ module _ (p : Plan) (l : Lent) (a : Ready p l) where
     passes-asked gains eg = record {
       begun = record {
         fixed = fixed;
-        two = two-labels;
+        two-labels = two-labels;
         gained = eg;
-        room = a .in-moves;
+        places = a .in-moves;
         loaded = ap (λ (x : Loads). x .at) el;
         cut-is = eu;
       };
@@ -171,13 +172,13 @@ module _ (p : Plan) (l : Lent) (a : Ready p l) where
         → drop n gains′ ≡ drop n (l .gains)
         → gains″ ≡ filled (pos 0) n gains′
         → (moves″ : List Move)
-        → moves″ ≡ filled none n moves′
+        → moves″ ≡ filled noMove n moves′
         → (q : Report)
         → q ≡ record { number = 0; end = r .end; passes = r .passes; first = cut′; last = r .cut; loads = r .loads }
         → Ran p l q (record { labels = labels′; gains = gains″; moves = moves″; made = made′; rewound = rewound′ })
     unfolding leftBy reportOf
     ran labels′ moves′ made′ rewound′ r d gains′ gains″ gl gd eg moves″ em′ q eq =
-        let rr : run s (p .settings .passes) (l .labels) ≡ runOf p l = ap (λ (x : Setting). run x (p .settings .passes) (l .labels)) same-setting in
+        let rr : run s (p .settings .passes) (l .labels) ≡ runOf p l = ap (λ (x : Terms). run x (p .settings .passes) (l .labels)) same-terms in
         let ll : labels′ ≡ runOf p l .labels = d .labelled ∙ ap (λ (x : Run). x .labels) rr in
         record {
           answered =
@@ -193,20 +194,20 @@ module _ (p : Plan) (l : Lent) (a : Ready p l) where
               });
           labels = ll;
           gains = eg ∙ refilled (pos 0) gains′ (l .gains) gl (a .in-gains) gd;
-          moves = em′ ∙ refilled none moves′ (l .moves) (d .moves-long) (a .in-moves) (d .moves-past);
+          moves = em′ ∙ refilled noMove moves′ (l .moves) (d .moves-long) (a .in-moves) (d .moves-past);
           made = d .made-are ∙ ap (λ (x : Run). over (map (λ (y : Pass). y .made) (x .rows)) (l .made)) rr;
           rewound = d .rewound-are ∙ ap (λ (x : Run). over (map (λ (y : Pass). y .rewound) (x .rows)) (l .rewound)) rr;
         }
 
 -- ---- the call's three ways out
-refined : (p : Plan) (l : Lent) (r : Report) (k : Lent) → r ≡ answer p l → k .labels ≡ left p l .labels → k .gains ≡ left p l .gains → k .moves ≡ left p l .moves → k .made ≡ left p l .made → k .rewound ≡ left p l .rewound → Refined p l r k
+refined : (p : Given) (l : Lent) (r : Report) (k : Lent) → r ≡ answer p l → k .labels ≡ left p l .labels → k .gains ≡ left p l .gains → k .moves ≡ left p l .moves → k .made ≡ left p l .made → k .rewound ≡ left p l .rewound → Refined p l r k
 refined p l r k a b c d e f = record { answered = a; labels = b; gains = c; moves = d; made = e; rewound = f }
 
-pub at-empty : (p : Plan) (l : Lent) (r : Report) → length (l .labels) ≡ 0 → r ≡ empty → Refined p l r l
+pub at-empty : (p : Given) (l : Lent) (r : Report) → length (l .labels) ≡ 0 → r ≡ empty → Refined p l r l
 unfolding answer left
 at-empty p l r z e = let t = eq-eqb (length (l .labels)) 0 z in refined p l r l (rw t e) (rw t refl) (rw t refl) (rw t refl) (rw t refl) (rw t refl)
 
-pub at-refusal : (p : Plan) (l : Lent) (r : Report) (k : ℕ) → k ≡ cond (eqb (length (l .labels)) 0) 0 (number p l) → (k ≡ 0 → ⊥) → r ≡ refused k → Refined p l r l
+pub at-refusal : (p : Given) (l : Lent) (r : Report) (k : ℕ) → k ≡ cond (eqb (length (l .labels)) 0) 0 (number p l) → (k ≡ 0 → ⊥) → r ≡ refused k → Refined p l r l
 unfolding answer left
 at-refusal p l r k c u e =
     let z = refused-some (length (l .labels)) k (number p l) c u in
@@ -215,7 +216,7 @@ at-refusal p l r k c u e =
     let v = ne-eqb (number p l) 0 (λ q. u (n ∙ q)) in
     refined p l r l (rw (t, v) (e ∙ ap refused n)) (rw (t, v) refl) (rw (t, v) refl) (rw (t, v) refl) (rw (t, v) refl) (rw (t, v) refl)
 
-pub at-run : (p : Plan) (l : Lent) (r : Report) (k : Lent) (m : ℕ) → (length (l .labels) ≡ 0 → ⊥) → m ≡ cond (eqb (length (l .labels)) 0) 0 (number p l) → m ≡ 0 → Ran p l r k → Refined p l r k
+pub at-run : (p : Given) (l : Lent) (r : Report) (k : Lent) (m : ℕ) → (length (l .labels) ≡ 0 → ⊥) → m ≡ cond (eqb (length (l .labels)) 0) 0 (number p l) → m ≡ 0 → Ran p l r k → Refined p l r k
 unfolding answer left
 at-run p l r k m z c n g =
     let e = checked (length (l .labels)) m (number p l) c z in

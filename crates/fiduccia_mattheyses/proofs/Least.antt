@@ -9,7 +9,7 @@ use lib.Dec.{ltb}
 use lib.ListN.{length, take, length-append}
 use lib.Seq.{take-all, take-append-le}
 use Rattle.topology.specs.Cut.{cut}
-use Rattle.fiduccia_mattheyses_pass.specs.Choice.{Setting, flip}
+use Rattle.fiduccia_mattheyses_pass.specs.Choice.{Terms, flip}
 use Rattle.fiduccia_mattheyses_pass.specs.Pass.{State, start, moveOn, next, walk, flips, pass}
 use Rattle.fiduccia_mattheyses_pass.proofs.Backs.{flips-more}
 use Rattle.fiduccia_mattheyses_pass.proofs.Walks.{walk-stop, walk-step}
@@ -32,7 +32,7 @@ earliest-append m x (z ∷ xs) ys = go (ltb (m z) (m x)) (earliest-append m z xs
     go true a b = a
     go false a b = b
 
-module _ (s : Setting) (p : List ℕ) where
+module _ (s : Terms) (p : List ℕ) where
   abbrev measure : List ℕ → ℕ
   measure = cut (s .graph)
 
@@ -85,7 +85,7 @@ module _ (s : Setting) (p : List ℕ) where
   pass-earliest = walk-earliest (s .moveLimit) (start s p) (keeps-start s p)
 
 -- "the two-part FM run leaves the labels of the least cut among its start and the states after each move made, the earliest of equals"
-pub leaves-the-least : (s : Setting) (k : ℕ) (p : List ℕ) → LeavesTheLeast s k p (run s k p .labels)
+pub leaves-the-least : (s : Terms) (k : ℕ) (p : List ℕ) → LeavesTheLeast s k p (run s k p .labels)
 unfolding run states earliest
 leaves-the-least s zero p = refl
 leaves-the-least s (suc k) p = go (ltb (pass s p .least) (cut (s .graph) p)) refl (leaves-the-least s k (pass s p .labels))

@@ -9,16 +9,17 @@ use lib.IntN.{pos}
 use Rattle.lists.specs.Fill.{filled, over}
 use Rattle.imbalance.specs.Load.{loadsOf}
 use Rattle.topology.specs.Cut.{cut}
-use Rattle.fiduccia_mattheyses_pass.specs.Choice.{Setting, withMoveLimit}
+use Rattle.fiduccia_mattheyses_pass.specs.Choice.{Terms, withMoveLimit}
 use Rattle.fiduccia_mattheyses_pass.specs.Pass.{Pass, pass}
 use Rattle.fiduccia_mattheyses_pass.proofs.MoveLimits.{pass-limit}
 use Rattle.fiduccia_mattheyses.specs.Run.{Run, run}
-use Rattle.fiduccia_mattheyses.specs.Entry.{Plan, withMoves, Lent, graphOf, unfit, numberOf, number, settingOf, runOf, none, refused, empty, reportOf, leftBy, answer, left}
+use Rattle.topology.specs.Given.{graphOf}
+use Rattle.fiduccia_mattheyses.specs.Entry.{Given, withMoves, Lent, unfit, numberOf, number, termsOf, runOf, noMove, refused, empty, reportOf, leftBy, answer, left}
 use Rattle.fiduccia_mattheyses.proofs.Running.{mades, rewounds, run-last, run-more}
 use Rattle.fiduccia_mattheyses.proofs.Single.{pass-long}
 
 -- With two move limits of at least n a run is the same.
-pub run-limit : (s : Setting) (passes : ℕ) (p : List ℕ) (j k : ℕ) → length p ≤ j → length p ≤ k → run (withMoveLimit s j) passes p ≡ run (withMoveLimit s k) passes p
+pub run-limit : (s : Terms) (passes : ℕ) (p : List ℕ) (j k : ℕ) → length p ≤ j → length p ≤ k → run (withMoveLimit s j) passes p ≡ run (withMoveLimit s k) passes p
 unfolding run
 run-limit s zero p j k a b = refl
 run-limit s (suc passes) p j k a b =
@@ -42,9 +43,9 @@ run-limit s (suc passes) p j k a b =
         ∙ ap (λ (r : Pass). record { end = 1; rows = r ∷ []; labels = r .labels }) same
         ∙ sym (run-last (withMoveLimit s k) passes p (ap (λ (r : Pass). ltb (r .least) (cut (s .graph) p)) (sym same) ∙ e))
 
-module _ (p : Plan) (l : Lent) (j k : ℕ) (a : length (l .labels) ≤ j) (b : length (l .labels) ≤ k) where
+module _ (p : Given) (l : Lent) (j k : ℕ) (a : length (l .labels) ≤ j) (b : length (l .labels) ≤ k) where
   same-run : runOf (withMoves p j) l ≡ runOf (withMoves p k) l
-  same-run = run-limit (settingOf p l) (p .settings .passes) (l .labels) j k a b
+  same-run = run-limit (termsOf p l) (p .settings .passes) (l .labels) j k a b
 
   -- With two move limits of at least n the call answers the same.
   pub answer-limit : answer (withMoves p j) l ≡ answer (withMoves p k) l
@@ -64,6 +65,6 @@ module _ (p : Plan) (l : Lent) (j k : ℕ) (a : length (l .labels) ≤ j) (b : l
       ap (λ (x : Run).
       cond (eqb (length (l .labels)) 0) l
       (cond (eqb (number p l) 0)
-      (record { labels = x .labels; gains = filled (pos 0) (length (l .labels)) (l .gains); moves = filled none (length (l .labels)) (l .moves); made = over (mades (x .rows)) (l .made); rewound = over (rewounds (x .rows)) (l .rewound) })
+      (record { labels = x .labels; gains = filled (pos 0) (length (l .labels)) (l .gains); moves = filled noMove (length (l .labels)) (l .moves); made = over (mades (x .rows)) (l .made); rewound = over (rewounds (x .rows)) (l .rewound) })
       l))
       same-run

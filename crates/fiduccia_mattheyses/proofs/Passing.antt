@@ -17,7 +17,7 @@ use Rattle.imbalance.specs.Load.{load}
 use Rattle.imbalance.specs.declared.Loads.{Loads}
 use Rattle.topology.specs.Cut.{cut}
 use Rattle.fiduccia_mattheyses_pass.specs.inner.Bounds.{mostCut}
-use Rattle.fiduccia_mattheyses_pass.specs.Choice.{Setting, worth}
+use Rattle.fiduccia_mattheyses_pass.specs.Choice.{Terms, worth}
 use Rattle.fiduccia_mattheyses_pass.specs.Pass.{State, start, walk, flips, pass}
 use Rattle.fiduccia_mattheyses_pass.specs.inner.Standing.{freshGains}
 use Rattle.fiduccia_mattheyses_pass.specs.declared.Standing.{Standing}
@@ -35,7 +35,7 @@ use Rattle.fiduccia_mattheyses.proofs.Rewinding.{undone-kept}
 pos-injective : (a b : ℕ) → pos a ≡ pos b → a ≡ b
 pos-injective a b e = cc
 
-module _ (s : Setting) (p : List ℕ) (gains₀ : List ℤ) (moves₀ : List Move) (loads : Loads) (cut₀ : ℕ) (a : PassAsked s p gains₀ moves₀ (loads .at) cut₀) where
+module _ (s : Terms) (p : List ℕ) (gains₀ : List ℤ) (moves₀ : List Move) (loads : Loads) (cut₀ : ℕ) (a : PassAsked s p gains₀ moves₀ (loads .at) cut₀) where
   abbrev n : ℕ
   n = length p
 
@@ -50,7 +50,7 @@ module _ (s : Setting) (p : List ℕ) (gains₀ : List ℤ) (moves₀ : List Mov
     fixed = a .fixed;
     stands =
         rw (eg, ef)
-        (stands-start s n (a .fixed) p (freshGains (s .graph) p gains₀) (firstStanding loads cut₀) refl (a .two)
+        (stands-start s n (a .fixed) p (freshGains (s .graph) p gains₀) (firstStanding loads cut₀) refl (a .two-labels)
         (length-written _ (length p) gains₀ ∙ a .gained)
         (λ x l. written-below _ (pos 0) (length p) gains₀ (let g = a .gained in omega arith) x l)
         (a .loaded)
@@ -58,7 +58,7 @@ module _ (s : Setting) (p : List ℕ) (gains₀ : List ℤ) (moves₀ : List Mov
         (ap pos (a .cut-is))
         refl
         refl);
-    room = a .room;
+    places = a .places;
   }
 
   abbrev e : State
@@ -76,14 +76,14 @@ module _ (s : Setting) (p : List ℕ) (gains₀ : List ℤ) (moves₀ : List Mov
       before = moves₀;
       labelled = w .stands .labelled ∙ w .moved-from;
       recorded-are = w .recorded-are;
-      room = let f = few in let r = a .room in omega arith;
+      places = let f = few in let r = a .places in omega arith;
       made-is = w .made-is;
       kept-within = let k = w .stands .kept-is in let m = w .made-is in let h = w .kept-within in omega arith;
       loaded = w .stands .loaded;
       weighed = a .fixed .weighed;
       few = let x = a .fixed .weighed in let y = a .fixed .rows .few in omega arith;
       light = a .fixed .light;
-      two = a .two;
+      two-labels = a .two-labels;
       apart = w .stands .apart;
       inside = w .stands .inside;
     }
@@ -124,9 +124,9 @@ module _ (s : Setting) (p : List ℕ) (gains₀ : List ℤ) (moves₀ : List Mov
           least-is = least;
           cut-is = least ∙ k .least-is ∙ ap (cut (s .graph)) (sym left);
           loaded = ap (λ (l : Loads). l .at) (er .3) ∙ eb;
-          two = λ x. rw left (two-flips p (take (e .kept) (e .moved)) (a .two) x);
+          two-labels = λ x. rw left (two-flips p (take (e .kept) (e .moved)) (a .two-labels) x);
           long = ap length left ∙ flips-long p (take (e .kept) (e .moved));
-          moves-long = ap length (w .recorded-are) ∙ recorded-long p (e .moved) moves₀ (let q = a .room in omega arith);
+          moves-long = ap length (w .recorded-are) ∙ recorded-long p (e .moved) moves₀ (let q = a .places in omega arith);
           moves-past = ap (drop n) (w .recorded-are) ∙ past (e .moved) f;
         }
       where

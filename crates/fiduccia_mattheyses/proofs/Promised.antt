@@ -8,21 +8,22 @@ use Rattle.lists.specs.Fill.{over}
 use Rattle.topology.specs.Cut.{cut}
 use Rattle.fiduccia_mattheyses_pass.specs.Pass.{Pass}
 use Rattle.fiduccia_mattheyses.specs.declared.Report.{Report}
-use Rattle.fiduccia_mattheyses.specs.Entry.{Plan, Lent, graphOf, settingOf, runOf, empty, reportOf, leftBy, Refined}
+use Rattle.topology.specs.Given.{graphOf}
+use Rattle.fiduccia_mattheyses.specs.Entry.{Given, Lent, termsOf, runOf, empty, reportOf, leftBy, Refined}
 use Rattle.fiduccia_mattheyses.specs.inner.Steps.{Ready, Ran}
 use Rattle.fiduccia_mattheyses.specs.Counts.{CountsKept}
 use Rattle.fiduccia_mattheyses.proofs.Running.{mades, rewounds, over-long}
 use Rattle.fiduccia_mattheyses.proofs.Counts.{rows-counted, counted-at, few-passes, passes-within}
 use Rattle.fiduccia_mattheyses.proofs.Results.{Done, two-ways, no-vertices, ran, passes-are, made-at, rewound-at}
 
-module _ (p : Plan) (l : Lent) (r : Report) (k : Lent) where
+module _ (p : Given) (l : Lent) (r : Report) (k : Lent) where
   empty-counts : r ≡ empty → CountsKept p l r k
   empty-counts e =
       let no-pass : r .passes ≡ 0 = ap (λ (x : Report). x .passes) e in
       record {
         passes = omega arith;
         limit = omega arith;
-        none = λ n. no-pass;
+        no-vertex = λ n. no-pass;
         in-made = omega arith;
         in-rewound = omega arith;
         made = λ i h. absurd (omega arith);
@@ -32,9 +33,9 @@ module _ (p : Plan) (l : Lent) (r : Report) (k : Lent) where
   run-counts : (length (l .labels) ≡ 0 → ⊥) → Ready p l → Ran p l r k → CountsKept p l r k
   unfolding reportOf leftBy
   run-counts some a d = record {
-    passes = let c = few-passes (settingOf p l) (p .settings .passes) (l .labels) in let first : r .first ≡ cut (graphOf p) (l .labels) = ap (λ (x : Report). x .first) (d .answered) in omega (arith, count);
+    passes = let c = few-passes (termsOf p l) (p .settings .passes) (l .labels) in let first : r .first ≡ cut (graphOf p) (l .labels) = ap (λ (x : Report). x .first) (d .answered) in omega (arith, count);
     limit = within;
-    none = λ n. absurd (some n);
+    no-vertex = λ n. absurd (some n);
     in-made = rw (d .made) (long (λ (x : Pass). x .made) (l .made) (a .in-made));
     in-rewound = rw (d .rewound) (long (λ (x : Pass). x .rewound) (l .rewound) (a .in-rewound));
     made = λ i h. rw (made-at p l r k d i h) (each i h .0);
@@ -48,7 +49,7 @@ module _ (p : Plan) (l : Lent) (r : Report) (k : Lent) where
       count = passes-are p l r k d
 
       within : r .passes ≤ p .settings .passes
-      within = let c = passes-within (settingOf p l) (p .settings .passes) (l .labels) in omega (arith, count)
+      within = let c = passes-within (termsOf p l) (p .settings .passes) (l .labels) in omega (arith, count)
 
       -- a row list is as long as it was, and that is enough
       long : (f : Pass → ℕ) (ys : List ℕ) → p .settings .passes ≤ length ys → r .passes ≤ length (over (map f rows) ys)
@@ -60,7 +61,7 @@ module _ (p : Plan) (l : Lent) (r : Report) (k : Lent) where
           omega arith
 
       each : (i : ℕ) → i < r .passes → (getD (mades rows) i 0 ≤ length (l .labels)) × (getD (rewounds rows) i 0 ≤ getD (mades rows) i 0)
-      each i h = counted-at (length (l .labels)) rows (rows-counted (settingOf p l) (p .settings .passes) (l .labels)) i (let c = count in omega arith)
+      each i h = counted-at (length (l .labels)) rows (rows-counted (termsOf p l) (p .settings .passes) (l .labels)) i (let c = count in omega arith)
 
   -- Every result with number 0, that of no vertices too, keeps document 01's counts: "Passes are at most starting cut + 1; moves in a pass at most n."
   pub counts-kept : Refined p l r k → r .number ≡ 0 → CountsKept p l r k

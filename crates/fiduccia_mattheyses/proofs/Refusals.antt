@@ -19,7 +19,8 @@ use Rattle.topology.specs.Rules.{graphRules}
 use Rattle.topology.proofs.Refusals.{graph-first}
 use Rattle.fiduccia_mattheyses.specs.declared.Settings.{Settings}
 use Rattle.fiduccia_mattheyses.specs.declared.Report.{Report}
-use Rattle.fiduccia_mattheyses.specs.Entry.{Plan, Lent, graphOf, askedCeiling, roomOf, unfit, short, numberOf, number, empty, reportOf, refused, answer, Refined}
+use Rattle.topology.specs.Given.{graphOf}
+use Rattle.fiduccia_mattheyses.specs.Entry.{Given, Lent, askedCeiling, lengthsOf, unfit, short, numberOf, number, empty, reportOf, refused, answer, Refined}
 use Rattle.fiduccia_mattheyses.specs.Rules.{FitSettings, LongEnough, rules}
 use Rattle.fiduccia_mattheyses.proofs.Entering.{at-empty}
 use Rattle.fiduccia_mattheyses.proofs.Unique.{unique}
@@ -30,7 +31,7 @@ fit-settings s =
     let b = either-fails (ltb 1024 (s .passes)) (unfitChoice (askedCeiling s)) (at-most 1024 (s .passes)) (fit-choice (askedCeiling s)) in
     ((λ h. let k = b .0 h in record { fewPasses = k .0; fitChoice = k .1 }), λ k. b .1 (k .fewPasses, k .fitChoice))
 
-long-enough : (passes : ℕ) (l : Lent) → (short (length (l .labels)) passes (roomOf l) ≡ false) ↔ LongEnough passes l
+long-enough : (passes : ℕ) (l : Lent) → (short (length (l .labels)) passes (lengthsOf l) ≡ false) ↔ LongEnough passes l
 unfolding short
 long-enough passes l =
     let n = length (l .labels) in
@@ -43,7 +44,7 @@ long-enough passes l =
     (either-fails (ltb made passes) (ltb rewound passes) (at-most made passes) (at-most rewound passes))) in
     ((λ h. let k = b .0 h in record { gains = k .0; moves = k .1 .0; made = k .1 .1 .0; rewound = k .1 .1 .1 }), λ k. b .1 (k .gains, (k .moves, (k .made, k .rewound))))
 
-pub number-smallest : (p : Plan) (l : Lent) → Smallest (rules p l) (number p l)
+pub number-smallest : (p : Given) (l : Lent) → Smallest (rules p l) (number p l)
 unfolding numberOf
 number-smallest p l =
     let n = length (l .labels) in
@@ -54,15 +55,15 @@ number-smallest p l =
     (thence (rules p l) 1 6 9 k _ (omega arith) (with-more graph own 1 6 k (omega arith) (graph-first n (p .weights) (graphOf p)))
     (tested (rules p l) 6 9 _ (labelAbove 1 (l .labels)) (omega arith) (omega arith) (labelled 1 (l .labels))
     (tested (rules p l) 7 9 _ (unfit (p .settings)) (omega arith) (omega arith) (fit-settings (p .settings))
-    (tested (rules p l) 8 9 0 (short n (p .settings .passes) (roomOf l)) (omega arith) (omega arith) (long-enough (p .settings .passes) l)
+    (tested (rules p l) 8 9 0 (short n (p .settings .passes) (lengthsOf l)) (omega arith) (omega arith) (long-enough (p .settings .passes) l)
     (passed (rules p l) 9)))))
 
 -- "FM and arc-swap with n = 0 come before all checks: done, end 3, all else zero", and nothing written.
-pub empty-call : (p : Plan) (l : Lent) (r : Report) (k : Lent) → Refined p l r k → length (l .labels) ≡ 0 → (r ≡ empty) × (k ≡ l)
+pub empty-call : (p : Given) (l : Lent) (r : Report) (k : Lent) → Refined p l r k → length (l .labels) ≡ 0 → (r ≡ empty) × (k ≡ l)
 empty-call p l r k d z = unique p l r empty k l d (at-empty p l empty z refl)
 
 -- "The smallest number that applies is given; 0 only if none does": of every call of FM with a vertex.
-pub refusal : (p : Plan) (l : Lent) (r : Report) (k : Lent) → Refined p l r k → (length (l .labels) ≡ 0 → ⊥) → Smallest (rules p l) (r .number)
+pub refusal : (p : Given) (l : Lent) (r : Report) (k : Lent) → Refined p l r k → (length (l .labels) ≡ 0 → ⊥) → Smallest (rules p l) (r .number)
 unfolding answer reportOf
 refusal p l r k d ne = rw (d .answered, ne-eqb (length (l .labels)) 0 ne) (given (eqb (number p l) 0) refl)
   where

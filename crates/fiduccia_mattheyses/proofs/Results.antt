@@ -10,17 +10,17 @@ use borrow.Author.Tests.{eqb-true, eqb-false}
 use Rattle.lists.specs.Fill.{over}
 use Rattle.fiduccia_mattheyses_pass.specs.Pass.{Pass}
 use Rattle.fiduccia_mattheyses.specs.declared.Report.{Report}
-use Rattle.fiduccia_mattheyses.specs.Entry.{Plan, Lent, number, runOf, refused, empty, reportOf, leftBy, answer, left, Refined}
+use Rattle.fiduccia_mattheyses.specs.Entry.{Given, Lent, number, runOf, refused, empty, reportOf, leftBy, answer, left, Refined}
 use Rattle.fiduccia_mattheyses.specs.inner.Steps.{Ready, Ran}
 use Rattle.fiduccia_mattheyses.proofs.Running.{mades, rewounds}
 use Rattle.fiduccia_mattheyses.proofs.Entering.{ready}
 use Rattle.fiduccia_mattheyses.proofs.Unique.{same-lent}
 
-pub data Done (p : Plan) (l : Lent) (r : Report) (k : Lent) : Type 0 where
+pub data Done (p : Given) (l : Lent) (r : Report) (k : Lent) : Type 0 where
   no-vertices : length (l .labels) ≡ 0 → r ≡ empty → k ≡ l → Done p l r k
   ran : (length (l .labels) ≡ 0 → ⊥) → Ready p l → Ran p l r k → Done p l r k
 
-pub two-ways : (p : Plan) (l : Lent) (r : Report) (k : Lent) → Refined p l r k → r .number ≡ 0 → Done p l r k
+pub two-ways : (p : Given) (l : Lent) (r : Report) (k : Lent) → Refined p l r k → r .number ≡ 0 → Done p l r k
 unfolding answer left
 two-ways p l r k f z = go (eqb (length (l .labels)) 0) refl (eqb (number p l) 0) refl
   where
@@ -42,7 +42,7 @@ two-ways p l r k f z = go (eqb (length (l .labels)) 0) refl (eqb (number p l) 0)
         let a : r ≡ refused (number p l) = f .answered ∙ rw (e, q) refl in
         absurd (eqb-false (number p l) 0 q (sym (ap (λ (x : Report). x .number) a) ∙ z))
 
-module _ (p : Plan) (l : Lent) (r : Report) (k : Lent) (d : Ran p l r k) where
+module _ (p : Given) (l : Lent) (r : Report) (k : Lent) (d : Ran p l r k) where
   abbrev rows : List Pass
   rows = runOf p l .rows
 

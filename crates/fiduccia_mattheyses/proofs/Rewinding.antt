@@ -16,12 +16,12 @@ use Rattle.fiduccia_mattheyses_pass.specs.inner.Standing.{Apart}
 use Rattle.fiduccia_mattheyses_pass.proofs.Backs.{two-flips, flips-append, flips-other, flips-long, flips-more, rewound}
 use Rattle.topology.proofs.Moves.{load-holds, loads-move}
 use Rattle.fiduccia_mattheyses.specs.declared.Move.{Move}
-use Rattle.fiduccia_mattheyses.specs.Entry.{none}
+use Rattle.fiduccia_mattheyses.specs.Entry.{noMove}
 use Rattle.fiduccia_mattheyses.specs.inner.Steps.{records, undone, UndoAsked, UndoDone, RewindAsked}
 use Rattle.fiduccia_mattheyses.proofs.Walking.{length-records, recorded-long}
 
 -- the record of the move at place i
-records-at : (p vs : List ℕ) (i : ℕ) → i < length vs → getD (records p vs) i none ≡ record { vertex = getD vs i 0; part = part (flips p (take i vs)) (getD vs i 0) }
+records-at : (p vs : List ℕ) (i : ℕ) → i < length vs → getD (records p vs) i noMove ≡ record { vertex = getD vs i 0; part = part (flips p (take i vs)) (getD vs i 0) }
 unfolding records flips
 records-at p [] i l = absurd (omega arith)
 records-at p (v ∷ vs) zero l = refl
@@ -80,14 +80,14 @@ module _ (weights labels : List ℕ) (moves : List Move) (loads : List ℕ) (kep
     in-vs : kept + k < length vs
     in-vs = let m = a .made-is in omega arith
 
-    record-is : getD moves (kept + k) none ≡ record { vertex = v; part = q }
+    record-is : getD moves (kept + k) noMove ≡ record { vertex = v; part = q }
     record-is =
-        ap (λ (l : List Move). getD l (kept + k) none) (a .recorded-are)
-        ∙ List·getD-append (records (a .p) vs) (drop (length vs) (a .before)) none (kept + k) (let e = length-records (a .p) vs in let h = in-vs in omega arith)
+        ap (λ (l : List Move). getD l (kept + k) noMove) (a .recorded-are)
+        ∙ List·getD-append (records (a .p) vs) (drop (length vs) (a .before)) noMove (kept + k) (let e = length-records (a .p) vs in let h = in-vs in omega arith)
         ∙ records-at (a .p) vs (kept + k) in-vs
 
     q-two : q < 2
-    q-two = two-flips (a .p) (take (kept + k) vs) (a .two) v
+    q-two = two-flips (a .p) (take (kept + k) vs) (a .two-labels) v
 
     v-inside : v < length (a .p)
     v-inside = a .inside (kept + k) in-vs
@@ -119,8 +119,8 @@ module _ (weights labels : List ℕ) (moves : List Move) (loads : List ℕ) (kep
   pub at-inside : (at : ℕ) → at < made → at < length moves
   at-inside at l =
       let m = a .made-is in
-      let r = ap length (a .recorded-are) ∙ recorded-long (a .p) vs (a .before) (a .room) in
-      let h = a .room in
+      let r = ap length (a .recorded-are) ∙ recorded-long (a .p) vs (a .before) (a .places) in
+      let h = a .places in
       omega arith
 
   undone-back : (k : ℕ) → k ≤ made - kept → undone moves kept k labels ≡ back-by k
@@ -137,10 +137,10 @@ module _ (weights labels : List ℕ) (moves : List Move) (loads : List ℕ) (kep
       undone-back (made - kept) (omega arith)
       ∙ ap (flips labels) (take-all (made - kept) (drop kept vs) (let d = length-drop kept vs in let m = a .made-is in omega arith))
       ∙ ap (λ (l : List ℕ). flips l (drop kept vs)) (a .labelled)
-      ∙ rewound (a .p) vs kept (a .two)
+      ∙ rewound (a .p) vs kept (a .two-labels)
 
   -- one turn at place `at`: the record read, the labels and the loads after it
-  module _ (labels′ : List ℕ) (back : List ℕ) (at : ℕ) (from : kept ≤ at) (upto : at < made) (so : labels′ ≡ undone moves kept (at - kept) labels) (loaded : back ≡ table 16 (load weights labels′)) (m : Move) (read : m ≡ getD moves at none) where
+  module _ (labels′ : List ℕ) (back : List ℕ) (at : ℕ) (from : kept ≤ at) (upto : at < made) (so : labels′ ≡ undone moves kept (at - kept) labels) (loaded : back ≡ table 16 (load weights labels′)) (m : Move) (read : m ≡ getD moves at noMove) where
     abbrev k′ : ℕ
     k′ = at - kept
 
@@ -151,7 +151,7 @@ module _ (weights labels : List ℕ) (moves : List Move) (loads : List ℕ) (kep
     at-is = omega arith
 
     m-is : m ≡ record { vertex = v k′ lt′; part = q k′ lt′ }
-    m-is = read ∙ ap (λ (i : ℕ). getD moves i none) (sym at-is) ∙ record-is k′ lt′
+    m-is = read ∙ ap (λ (i : ℕ). getD moves i noMove) (sym at-is) ∙ record-is k′ lt′
 
     now : labels′ ≡ back-by k′
     now = so ∙ undone-back k′ (omega arith)
@@ -160,7 +160,7 @@ module _ (weights labels : List ℕ) (moves : List Move) (loads : List ℕ) (kep
     long-now = ap length now ∙ flips-long labels (take k′ (drop kept vs)) ∙ ap length (a .labelled) ∙ flips-long (a .p) vs
 
     two-now : (x : ℕ) → part labels′ x < 2
-    two-now x = rw now (two-flips labels (take k′ (drop kept vs)) (λ y. rw (a .labelled) (two-flips (a .p) vs (a .two) y)) x)
+    two-now x = rw now (two-flips labels (take k′ (drop kept vs)) (λ y. rw (a .labelled) (two-flips (a .p) vs (a .two-labels) y)) x)
 
     abbrev i : ℕ
     i = m .vertex
@@ -196,10 +196,10 @@ module _ (weights labels : List ℕ) (moves : List Move) (loads : List ℕ) (kep
         record {
           in-labels = s .0;
           in-weights = s .1;
-          two = t;
+          two-labels = t;
           before = b;
           sixteen = ap length loaded ∙ length-table 16 (load weights labels′);
-          held = omega arith;
+          weight-within = omega arith;
           within = omega arith;
         }
 
@@ -207,7 +207,7 @@ module _ (weights labels : List ℕ) (moves : List Move) (loads : List ℕ) (kep
     unfolding undone
     one-label-more =
         let r : at + 1 - kept ≡ suc (at - kept) = omega arith in
-        ap₂ (λ (l : List ℕ) (x : Move). set l (x .vertex) (x .part)) so (read ∙ ap (λ (j : ℕ). getD moves j none) (sym at-is))
+        ap₂ (λ (l : List ℕ) (x : Move). set l (x .vertex) (x .part)) so (read ∙ ap (λ (j : ℕ). getD moves j noMove) (sym at-is))
         ∙ sym (rw r refl)
 
     -- the labels and the loads once it is taken back

@@ -12,7 +12,7 @@ use borrow.Author.Tests.{lt-ltb, le-ltb, leb-true, leb-false}
 use Rattle.lists.specs.Fill.{over}
 use Rattle.imbalance.specs.declared.Loads.{Loads}
 use Rattle.topology.specs.Cut.{cut}
-use Rattle.fiduccia_mattheyses_pass.specs.Choice.{Setting}
+use Rattle.fiduccia_mattheyses_pass.specs.Choice.{Terms}
 use Rattle.fiduccia_mattheyses_pass.specs.Pass.{Pass, pass}
 use Rattle.fiduccia_mattheyses.specs.declared.Move.{Move}
 use Rattle.fiduccia_mattheyses.specs.declared.Passed.{Passed}
@@ -26,12 +26,12 @@ abbrev after-rows : List Pass → Run → Run
 after-rows rows x = record { end = x .end; rows = rows ++ x .rows; labels = x .labels }
 
 -- the run by what its first pass lowered
-pub run-last : (s : Setting) (k : ℕ) (p : List ℕ) → ltb (pass s p .least) (cut (s .graph) p) ≡ false → run s (suc k) p ≡ record { end = 1; rows = pass s p ∷ []; labels = pass s p .labels }
+pub run-last : (s : Terms) (k : ℕ) (p : List ℕ) → ltb (pass s p .least) (cut (s .graph) p) ≡ false → run s (suc k) p ≡ record { end = 1; rows = pass s p ∷ []; labels = pass s p .labels }
 unfolding run
 run-last s k p e = rw (e, run)
 
 pub run-more :
-    (s : Setting) (k : ℕ) (p : List ℕ)
+    (s : Terms) (k : ℕ) (p : List ℕ)
     → ltb (pass s p .least) (cut (s .graph) p) ≡ true
     → run s (suc k) p ≡ record { end = run s k (pass s p .labels) .end; rows = pass s p ∷ run s k (pass s p .labels) .rows; labels = run s k (pass s p .labels) .labels }
 unfolding run
@@ -70,7 +70,7 @@ abbrev pub rewounds : List Pass → List ℕ
 rewounds rows = map (λ (r : Pass). r .rewound) rows
 
 -- what the run knows after `passes` passes
-pub record Running (s : Setting) (limit : ℕ) (p : List ℕ) (moves₀ : List Move) (made₀ rewound₀ : List ℕ) (labels : List ℕ) (gains : List ℤ) (moves : List Move) (made rewound : List ℕ) (loads : Loads) (cut₀ passes : ℕ) : Type 0 where
+pub record Running (s : Terms) (limit : ℕ) (p : List ℕ) (moves₀ : List Move) (made₀ rewound₀ : List ℕ) (labels : List ℕ) (gains : List ℤ) (moves : List Move) (made rewound : List ℕ) (loads : Loads) (cut₀ passes : ℕ) : Type 0 where
   pub rows : List Pass
   pub asked : PassAsked s labels gains moves (loads .at) cut₀
   pub long : length labels ≡ length p
@@ -82,7 +82,7 @@ pub record Running (s : Setting) (limit : ℕ) (p : List ℕ) (moves₀ : List M
   pub moves-past : drop (length p) moves ≡ drop (length p) moves₀
   pub rest : run s limit p ≡ after-rows rows (run s (limit - passes) labels)
 
-module _ (s : Setting) (limit : ℕ) (p : List ℕ) (gains₀ : List ℤ) (moves₀ : List Move) (made₀ rewound₀ : List ℕ) (first : Loads) (cut₀ : ℕ) (a : PassesAsked s limit p gains₀ moves₀ made₀ rewound₀ (first .at) cut₀) where
+module _ (s : Terms) (limit : ℕ) (p : List ℕ) (gains₀ : List ℤ) (moves₀ : List Move) (made₀ rewound₀ : List ℕ) (first : Loads) (cut₀ : ℕ) (a : PassesAsked s limit p gains₀ moves₀ made₀ rewound₀ (first .at) cut₀) where
   pub running-start : Running s limit p moves₀ made₀ rewound₀ p gains₀ moves₀ made₀ rewound₀ first cut₀ 0
   running-start = record {
     rows = [];
@@ -207,9 +207,9 @@ module _ (s : Setting) (limit : ℕ) (p : List ℕ) (gains₀ : List ℤ) (moves
             rows = rows′;
             asked = record {
               fixed = rw ll (g .asked .fixed);
-              two = d .two;
+              two-labels = d .two-labels;
               gained = gl ∙ g .asked .gained ∙ sym ll;
-              room = let q = g .asked .room in let z = d .moves-long in omega arith;
+              places = let q = g .asked .places in let z = d .moves-long in omega arith;
               loaded = d .loaded;
               cut-is = d .cut-is;
             };

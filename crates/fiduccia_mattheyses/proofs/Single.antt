@@ -18,7 +18,7 @@ use Rattle.topology.specs.Graph.{into, gain}
 use Rattle.topology.specs.Rule.{Symmetric}
 use Rattle.topology.specs.Cut.{cut}
 use Rattle.topology.proofs.Moves.{cut-move}
-use Rattle.fiduccia_mattheyses_pass.specs.Choice.{Setting, other, flip, member, worth, after, fits, allowed, better, choice, isBad}
+use Rattle.fiduccia_mattheyses_pass.specs.Choice.{Terms, other, flip, member, worth, after, fits, allowed, better, choice, isBad}
 use Rattle.fiduccia_mattheyses_pass.specs.Pass.{State, start, moveOn, next, walk, flips, pass}
 use Rattle.fiduccia_mattheyses_pass.proofs.Chosen.{chosen, none-chosen}
 use Rattle.fiduccia_mattheyses_pass.proofs.Backs.{flips-long}
@@ -29,7 +29,7 @@ use Rattle.fiduccia_mattheyses.specs.Demand.{NoSingleBlock}
 use Rattle.fiduccia_mattheyses.proofs.Running.{run-last, run-more}
 
 -- a move never raises the least cut, and lowers it to its own where that is lower
-move-least : (s : Setting) (st : State) (v : ℕ) → (moveOn s st v .least ≤ st .least) × (moveOn s st v .least ≤ cut (s .graph) (flip (st .labels) v))
+move-least : (s : Terms) (st : State) (v : ℕ) → (moveOn s st v .least ≤ st .least) × (moveOn s st v .least ≤ cut (s .graph) (flip (st .labels) v))
 unfolding moveOn
 move-least s st v = go (ltb c (st .least)) refl
   where
@@ -41,15 +41,15 @@ move-least s st v = go (ltb c (st .least)) refl
     go false e = let l = ltb-false c (st .least) e in (omega arith, omega arith)
 
 -- a walk never forgets its least cut
-walk-least : (s : Setting) (p : List ℕ) (most : ℕ) (k : ℕ) (st : State) → st .least ≤ most → walk s k st .least ≤ most
+walk-least : (s : Terms) (p : List ℕ) (most : ℕ) (k : ℕ) (st : State) → st .least ≤ most → walk s k st .least ≤ most
 walk-least s p most = walk-keeps s p (λ st. st .least ≤ most) (λ st v c h. (let m = move-least s st v .0 in omega arith))
 
 -- a pass that has lowered nothing keeps no move
-record Idle (s : Setting) (p : List ℕ) (st : State) : Type 0 where
+record Idle (s : Terms) (p : List ℕ) (st : State) : Type 0 where
   most : st .least ≤ cut (s .graph) p
   unkept : cut (s .graph) p ≤ st .least → st .kept ≡ 0
 
-idle-move : (s : Setting) (p : List ℕ) (st : State) (v : ℕ) → Idle s p st → Idle s p (moveOn s st v)
+idle-move : (s : Terms) (p : List ℕ) (st : State) (v : ℕ) → Idle s p st → Idle s p (moveOn s st v)
 unfolding moveOn
 idle-move s p st v h = record { most = let m = move-least s st v .0 in let o = h .most in omega arith; unkept = go (ltb c (st .least)) refl }
   where
@@ -60,7 +60,7 @@ idle-move s p st v h = record { most = let m = move-least s st v .0 in let o = h
     go true e l = let x = ltb-true c (st .least) e in let o = h .most in absurd (omega arith)
     go false e l = h .unkept l
 
-module _ (s : Setting) (p : List ℕ) (idle : ltb (pass s p .least) (cut (s .graph) p) ≡ false) where
+module _ (s : Terms) (p : List ℕ) (idle : ltb (pass s p .least) (cut (s .graph) p) ≡ false) where
   idle-least : cut (s .graph) p ≤ walk s (s .moveLimit) (start s p) .least
   unfolding pass
   idle-least = ltb-false (walk s (s .moveLimit) (start s p) .least) (cut (s .graph) p) idle
@@ -135,12 +135,12 @@ module _ (s : Setting) (p : List ℕ) (idle : ltb (pass s p .least) (cut (s .gra
     pub single-block : NoSingleBlock s p
     single-block v l m f = not-lower v l (no-gain v l m f)
 
-pub pass-long : (s : Setting) (p : List ℕ) → length (pass s p .labels) ≡ length p
+pub pass-long : (s : Terms) (p : List ℕ) → length (pass s p .labels) ≡ length p
 unfolding pass
 pass-long s p = flips-long p (take (walk s (s .moveLimit) (start s p) .kept) (walk s (s .moveLimit) (start s p) .moved))
 
 -- "If it ended on a gainless pass and each pass was allowed at least one move, no single block can go to the other board within the load ceiling and lower the cut."
-pub no-single-block : (s : Setting) (k : ℕ) (p : List ℕ) → Symmetric (length p) (s .graph) → 0 < s .moveLimit → run s k p .end ≡ 1 → NoSingleBlock s (run s k p .labels)
+pub no-single-block : (s : Terms) (k : ℕ) (p : List ℕ) → Symmetric (length p) (s .graph) → 0 < s .moveLimit → run s k p .end ≡ 1 → NoSingleBlock s (run s k p .labels)
 unfolding run
 no-single-block s zero p ok some-moves e = absurd (omega (arith, e))
 no-single-block s (suc k) p ok some-moves e = go (ltb (pass s p .least) (cut (s .graph) p)) refl (no-single-block s k (pass s p .labels) (rw (pass-long s p) ok) some-moves)

@@ -10,7 +10,7 @@ use lib.ListN.{length, length-append}
 use Rattle.lists.specs.Sum.{total}
 use Rattle.lists.proofs.Totals.{total-none, total-cons}
 use Rattle.topology.specs.Cut.{cut}
-use Rattle.fiduccia_mattheyses_pass.specs.Choice.{Setting}
+use Rattle.fiduccia_mattheyses_pass.specs.Choice.{Terms}
 use Rattle.fiduccia_mattheyses_pass.specs.Pass.{State, start, next, walk, pass}
 use Rattle.fiduccia_mattheyses_pass.proofs.Walks.{walk-stop, walk-step}
 use Rattle.fiduccia_mattheyses_pass.proofs.MoveLimits.{next-longer}
@@ -18,7 +18,7 @@ use Rattle.fiduccia_mattheyses.specs.Run.{Run, run}
 use Rattle.fiduccia_mattheyses.specs.Demand.{statesFrom, states}
 use Rattle.fiduccia_mattheyses.proofs.Running.{mades, run-last, run-more}
 
-module _ (s : Setting) where
+module _ (s : Terms) where
   -- a walk has a state for each vertex that it moves
   states-from : (k : ℕ) (st : State) → length (statesFrom s k st) + length (st .moved) ≡ length (walk s k st .moved)
   unfolding statesFrom walk

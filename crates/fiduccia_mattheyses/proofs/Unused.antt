@@ -14,11 +14,12 @@ use Rattle.fiduccia_mattheyses_pass.specs.Pass.{Pass}
 use Rattle.fiduccia_mattheyses.specs.declared.Settings.{Settings}
 use Rattle.fiduccia_mattheyses.specs.declared.Report.{Report}
 use Rattle.fiduccia_mattheyses.specs.Run.{run}
-use Rattle.fiduccia_mattheyses.specs.Entry.{Plan, Lent, graphOf, askedCeiling, unfit, numberOf, number, settingOf, none, empty, refused, reportOf, leftBy, answer, left}
+use Rattle.topology.specs.Given.{graphOf}
+use Rattle.fiduccia_mattheyses.specs.Entry.{Given, Lent, askedCeiling, unfit, numberOf, number, termsOf, noMove, empty, refused, reportOf, leftBy, answer, left}
 use Rattle.fiduccia_mattheyses.specs.Used.{SameSettings, withSettings}
 use Rattle.fiduccia_mattheyses.proofs.Refusals.{number-smallest}
 
-module _ (p : Plan) (s : Settings) (l : Lent) (same : SameSettings (p .settings) s) where
+module _ (p : Given) (s : Settings) (l : Lent) (same : SameSettings (p .settings) s) where
   same-unfit : unfit (p .settings) ≡ unfit s
   unfolding unfit
   same-unfit = rw (same .passes, same-fit (askedCeiling (p .settings)) (askedCeiling s) (same .ceiling))
@@ -28,8 +29,8 @@ module _ (p : Plan) (s : Settings) (l : Lent) (same : SameSettings (p .settings)
   same-number = rw (same-unfit, same .passes)
 
   -- a call that is done has a choice of 0, 1 or 2, so that the ceilings are the same
-  same-setting : number p l ≡ 0 → settingOf p l ≡ settingOf (withSettings p s) l
-  same-setting z =
+  same-terms : number p l ≡ 0 → termsOf p l ≡ termsOf (withSettings p s) l
+  same-terms z =
       let known = number-smallest p l .kept z 7 .fitChoice .known in
       let c = same-ceilings (askedCeiling (p .settings)) (askedCeiling s) (same .ceiling) (table 16 (load (p .weights) (l .labels))) (total (p .weights)) 2 known in
       λ i. record { graph = graphOf p; weights = p .weights; ceilings = c i; movable = λ v. true; badLimit = same .bad i; moveLimit = same .moves i }
@@ -37,7 +38,7 @@ module _ (p : Plan) (s : Settings) (l : Lent) (same : SameSettings (p .settings)
   same-report : number p l ≡ 0 → reportOf p l ≡ reportOf (withSettings p s) l
   unfolding reportOf
   same-report z =
-      let t = same-setting z in
+      let t = same-terms z in
       let k = same .passes in
       λ i. record {
         number = 0;
@@ -51,12 +52,12 @@ module _ (p : Plan) (s : Settings) (l : Lent) (same : SameSettings (p .settings)
   same-lists : number p l ≡ 0 → leftBy p l ≡ leftBy (withSettings p s) l
   unfolding leftBy
   same-lists z =
-      let t = same-setting z in
+      let t = same-terms z in
       let k = same .passes in
       λ i. record {
         labels = run (t i) (k i) (l .labels) .labels;
         gains = filled (pos 0) (length (l .labels)) (l .gains);
-        moves = filled none (length (l .labels)) (l .moves);
+        moves = filled noMove (length (l .labels)) (l .moves);
         made = over (map (λ (r : Pass). r .made) (run (t i) (k i) (l .labels) .rows)) (l .made);
         rewound = over (map (λ (r : Pass). r .rewound) (run (t i) (k i) (l .labels) .rows)) (l .rewound);
       }

@@ -11,7 +11,7 @@ use lib.IntN.{ℤ}
 use Rattle.imbalance.specs.Limit.{mostVertices}
 use Rattle.imbalance.specs.Load.{part}
 use Rattle.topology.specs.Cut.{cut}
-use Rattle.fiduccia_mattheyses_pass.specs.Choice.{Setting, flip}
+use Rattle.fiduccia_mattheyses_pass.specs.Choice.{Terms, flip}
 use Rattle.fiduccia_mattheyses_pass.specs.Pass.{State, start, moveOn, walk, flips}
 use Rattle.fiduccia_mattheyses_pass.specs.inner.Standing.{Fixed, Stands, Scannable, Moveable, gainsAfter, standingAfter}
 use Rattle.fiduccia_mattheyses_pass.specs.declared.Standing.{Standing}
@@ -20,9 +20,9 @@ use Rattle.fiduccia_mattheyses_pass.specs.declared.Next.the-variants.{Stop, Go}
 use Rattle.fiduccia_mattheyses_pass.proofs.Moved.{count-few}
 use Rattle.fiduccia_mattheyses_pass.proofs.Backs.{flips-more}
 use Rattle.fiduccia_mattheyses_pass.proofs.Walks.{walk-stop, walk-step}
-use Rattle.fiduccia_mattheyses_pass.proofs.Stands.{asked, scannable, stops, goes, Goes, moveable, room, stands-move}
+use Rattle.fiduccia_mattheyses_pass.proofs.Stands.{asked, scannable, stops, goes, Goes, moveable, places-left, stands-move}
 use Rattle.fiduccia_mattheyses.specs.declared.Move.{Move}
-use Rattle.fiduccia_mattheyses.specs.Entry.{none as no-move}
+use Rattle.fiduccia_mattheyses.specs.Entry.{noMove as no-move}
 use Rattle.fiduccia_mattheyses.specs.inner.Steps.{records, recorded, WalkAsked, WalkDone}
 
 -- ---- the records
@@ -58,7 +58,7 @@ pub recorded-long : (p vs : List ℕ) (moves : List Move) → length vs ≤ leng
 recorded-long p vs moves h = length-append (records p vs) (drop (length vs) moves) ∙ (let a = length-records p vs in let b = length-drop (length vs) moves in omega arith)
 
 -- what the walk knows after `made` moves
-pub record Walking (s : Setting) (limit : ℕ) (p : List ℕ) (moves₀ : List Move) (labels : List ℕ) (gains : List ℤ) (moves : List Move) (st : Standing) (made : ℕ) : Type 0 where
+pub record Walking (s : Terms) (limit : ℕ) (p : List ℕ) (moves₀ : List Move) (labels : List ℕ) (gains : List ℤ) (moves : List Move) (st : Standing) (made : ℕ) : Type 0 where
   pub state : State
   pub stands : Stands s (length p) state labels gains st
   pub count : length (state .moved) ≡ made
@@ -68,7 +68,7 @@ pub record Walking (s : Setting) (limit : ℕ) (p : List ℕ) (moves₀ : List M
   pub within : made ≤ limit
   pub rest : walk s (limit - made) state ≡ walk s limit (start s p)
 
-module _ (s : Setting) (limit : ℕ) (p : List ℕ) (moves₀ : List Move) where
+module _ (s : Terms) (limit : ℕ) (p : List ℕ) (moves₀ : List Move) where
   pub walking-start : (gains : List ℤ) (first : Standing) → WalkAsked s p gains moves₀ first → Walking s limit p moves₀ p gains moves₀ first 0
   unfolding flips records
   walking-start gains first a = record {
@@ -92,7 +92,7 @@ module _ (s : Setting) (limit : ℕ) (p : List ℕ) (moves₀ : List Move) where
     scanned = (
       scannable s (length p) f (w .state) labels gains st (w .stands),
       f .capped,
-      (let a = w .stands .bad-is in let b = w .stands .calm in let d = count-few (length p) (w .state .moved) (w .stands .counted) in let e = f .rows .few in omega arith),
+      (let a = w .stands .bad-is in let b = w .stands .bad-within in let d = count-few (length p) (w .state .moved) (w .stands .counted) in let e = f .rows .few in omega arith),
     )
 
     -- the list of records keeps its length
@@ -134,7 +134,7 @@ module _ (s : Setting) (limit : ℕ) (p : List ℕ) (moves₀ : List Move) where
           let a = going .here in
           let long = w .stands .long in
           let few = f .rows .few in
-          let rm = room s (length p) f (w .state) labels gains st (w .stands) v g b going in
+          let rm = places-left s (length p) f (w .state) labels gains st (w .stands) v g b going in
           let c = w .count in
           let m = ap length (w .recorded-are) ∙ recorded-long p (w .state .moved) moves₀ (omega arith) in
           (a, omega arith, omega arith)
@@ -154,7 +154,7 @@ module _ (s : Setting) (limit : ℕ) (p : List ℕ) (moves₀ : List Move) where
           let c = w .count in
           let on = w .stands in
           let long = on .long in
-          let rm = room s (length p) f (w .state) labels gains st on v g b going in
+          let rm = places-left s (length p) f (w .state) labels gains st on v g b going in
           record {
             state = moveOn s (w .state) v;
             stands = stands-move s (length p) f (w .state) labels gains st on v g b going labels′ gains′ st′ el eg (es ∙ ap (λ (k : ℕ). standingAfter st (part labels v) (getD (s .weights) v 0) g b (k + 1)) (sym c));

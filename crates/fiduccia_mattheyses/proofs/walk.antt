@@ -5,7 +5,7 @@ pub mod move_at
 pub mod clear
 pub mod walk_moves
 pub mod rewind
-pub mod pass
+pub mod make_pass
 pub mod make_passes
 pub mod refine
 pub mod fiduccia_mattheyses

@@ -8,10 +8,10 @@ use lib.ListN.{length, getD}
 use lib.Dec.{ltb}
 use Rattle.imbalance.specs.Load.{load}
 use Rattle.topology.specs.Cut.{cut}
-use Rattle.fiduccia_mattheyses_pass.specs.Choice.{Setting, flip, fits}
+use Rattle.fiduccia_mattheyses_pass.specs.Choice.{Terms, flip, fits}
 use Rattle.fiduccia_mattheyses_pass.specs.Pass.{State, start, next, pass}
 use Rattle.fiduccia_mattheyses.specs.declared.Report.{Report}
-use Rattle.fiduccia_mattheyses.specs.Entry.{Plan, Lent, settingOf}
+use Rattle.fiduccia_mattheyses.specs.Entry.{Given, Lent, termsOf}
 
 -- x, unless a later one of the list has a lower measure: the earliest of those of least measure
 unfoldable pub earliest : (List ℕ → ℕ) → List ℕ → List (List ℕ) → List ℕ
@@ -26,7 +26,7 @@ pub record EarliestOfLeast (measure : List ℕ → ℕ) (all : List (List ℕ)) 
   pub least : (j : ℕ) → j < length all → measure x ≤ measure (getD all j [])
   pub first : (j : ℕ) → j < position → measure x < measure (getD all j [])
 
-module _ (s : Setting) where
+module _ (s : Terms) where
   -- the states after each of at most k moves of a pass, in order
   unfoldable pub statesFrom : ℕ → State → List (List ℕ)
   statesFrom zero st = []
@@ -52,11 +52,11 @@ module _ (s : Setting) where
   abbrev pub NoBoardAbove : List ℕ → List ℕ → Type 0
   NoBoardAbove p left = (t : ℕ) → t < 2 → load (s .weights) left t ≤ max (getD (s .ceilings) t 0) (load (s .weights) p t)
 
--- Demand 3 of a call that is done: of a plan p, the lists l at entry, the report r and the lists k at exit. Number 0 says that the graph is symmetric and without loops and its weights within the limits, or that there are no vertices.
-pub record DemandThree (p : Plan) (l : Lent) (r : Report) (k : Lent) : Type 0 where
+-- Demand 3 of a call that is done: of what is given p, the lists l at entry, the report r and the lists k at exit. Number 0 says that the graph is symmetric and without loops and its weights within the limits, or that there are no vertices.
+pub record DemandThree (p : Given) (l : Lent) (r : Report) (k : Lent) : Type 0 where
   -- "On a symmetric graph without loops, whole weights within the limits, the two-part FM run leaves the labels of the least cut among its start and the states after each move made, the earliest of equals."
-  pub least : LeavesTheLeast (settingOf p l) (p .settings .passes) (l .labels) (k .labels)
+  pub least : LeavesTheLeast (termsOf p l) (p .settings .passes) (l .labels) (k .labels)
   -- "If it ended on a gainless pass and each pass was allowed at least one move, no single block can go to the other board within the load ceiling and lower the cut."
-  pub single : r .end ≡ 1 → 0 < p .settings .moves → NoSingleBlock (settingOf p l) (k .labels)
+  pub single : r .end ≡ 1 → 0 < p .settings .moves → NoSingleBlock (termsOf p l) (k .labels)
   -- "No board ends above the larger of the ceiling and its starting load."
-  pub boards : NoBoardAbove (settingOf p l) (l .labels) (k .labels)
+  pub boards : NoBoardAbove (termsOf p l) (l .labels) (k .labels)

@@ -14,27 +14,24 @@ use Rattle.imbalance.specs.Load.{load, loadsOf}
 use Rattle.imbalance.specs.Ceiling.{unfitChoice, ceilings}
 use Rattle.imbalance.specs.Number.{noLoads}
 use Rattle.imbalance.specs.declared.Ceiling.{Ceiling}
-use Rattle.topology.specs.Graph.{Graph, inRows}
+use Rattle.topology.specs.Graph.{Graph}
+use Rattle.topology.specs.Given.{GivenWith, graphOf}
 use Rattle.topology.specs.Rule.{graphNumber}
 use Rattle.topology.specs.Cut.{cut}
 use Rattle.fiduccia_mattheyses.specs.declared.Move.{Move}
 use Rattle.fiduccia_mattheyses.specs.declared.Settings.{Settings}
 use Rattle.fiduccia_mattheyses.specs.declared.Report.{Report}
-use Rattle.fiduccia_mattheyses.specs.declared.Room.{Room}
-use Rattle.fiduccia_mattheyses_pass.specs.Choice.{Setting}
+use Rattle.fiduccia_mattheyses.specs.declared.Lengths.{Lengths}
+use Rattle.fiduccia_mattheyses_pass.specs.Choice.{Terms}
 use Rattle.fiduccia_mattheyses_pass.specs.Pass.{Pass}
 use Rattle.fiduccia_mattheyses.specs.Run.{Run, run}
 
 -- what is only read
-pub record Plan : Type 0 where
-  pub starts : List ℕ
-  pub neighbours : List ℕ
-  pub arcs : List ℕ
-  pub weights : List ℕ
-  pub settings : Settings
+abbrev pub Given : Type 0
+Given = GivenWith Settings
 
--- the same plan, but for the move limit
-abbrev pub withMoves : Plan → ℕ → Plan
+-- the same, but for the move limit
+abbrev pub withMoves : Given → ℕ → Given
 withMoves p k =
     record {
       starts = p .starts;
@@ -52,9 +49,6 @@ pub record Lent : Type 0 where
   pub made : List ℕ
   pub rewound : List ℕ
 
-abbrev pub graphOf : Plan → Graph
-graphOf p = inRows (p .starts) (p .neighbours) (p .arcs)
-
 -- what the settings ask of the ceiling
 abbrev pub askedCeiling : Settings → Ceiling
 askedCeiling s = record { choice = s .choice; whole = s .whole; imbalance = s .imbalance }
@@ -64,27 +58,27 @@ unfoldable pub unfit : Settings → Bool
 unfit s = ltb 1024 (s .passes) || unfitChoice (askedCeiling s)
 
 -- the lengths of the lent lists
-abbrev pub roomOf : Lent → Room
-roomOf l = record { gains = length (l .gains); moves = length (l .moves); made = length (l .made); rewound = length (l .rewound) }
+abbrev pub lengthsOf : Lent → Lengths
+lengthsOf l = record { gains = length (l .gains); moves = length (l .moves); made = length (l .made); rewound = length (l .rewound) }
 
 -- 8: "a lent working list is too short". "Lists: gains n, moves n, two row lists of P."
-unfoldable pub short : ℕ → ℕ → Room → Bool
-short n passes room = ltb (room .gains) n || (ltb (room .moves) n || (ltb (room .made) passes || ltb (room .rewound) passes))
+unfoldable pub short : ℕ → ℕ → Lengths → Bool
+short n passes lengths = ltb (lengths .gains) n || (ltb (lengths .moves) n || (ltb (lengths .made) passes || ltb (lengths .rewound) passes))
 
 -- "The smallest number that applies is given; 0 only if none does."
-unfoldable pub numberOf : Graph → List ℕ → List ℕ → Room → Settings → ℕ
-numberOf g weights labels room s =
+unfoldable pub numberOf : Graph → List ℕ → List ℕ → Lengths → Settings → ℕ
+numberOf g weights labels lengths s =
     orElse (graphNumber (length labels) weights g)
     (cond (labelAbove 1 labels) 6
     (cond (unfit s) 7
-    (cond (short (length labels) (s .passes) room) 8 0)))
+    (cond (short (length labels) (s .passes) lengths) 8 0)))
 
-abbrev pub number : Plan → Lent → ℕ
-number p l = numberOf (graphOf p) (p .weights) (l .labels) (roomOf l) (p .settings)
+abbrev pub number : Given → Lent → ℕ
+number p l = numberOf (graphOf p) (p .weights) (l .labels) (lengthsOf l) (p .settings)
 
 -- what stands still during the run: the ceilings are worked out once, from the loads at the start, over 2 parts; every vertex may move
-abbrev pub settingOf : Plan → Lent → Setting
-settingOf p l =
+abbrev pub termsOf : Given → Lent → Terms
+termsOf p l =
     record {
       graph = graphOf p;
       weights = p .weights;
@@ -95,12 +89,12 @@ settingOf p l =
     }
 
 -- the run that the call makes
-abbrev pub runOf : Plan → Lent → Run
-runOf p l = run (settingOf p l) (p .settings .passes) (l .labels)
+abbrev pub runOf : Given → Lent → Run
+runOf p l = run (termsOf p l) (p .settings .passes) (l .labels)
 
 -- the record of no move
-abbrev pub none : Move
-none = record { vertex = 0; part = 0 }
+abbrev pub noMove : Move
+noMove = record { vertex = 0; part = 0 }
 
 -- a report of zeros but for the number and the end
 abbrev pub bare : ℕ → ℕ → Report
@@ -115,7 +109,7 @@ abbrev pub empty : Report
 empty = bare 0 3
 
 -- "Report: end, passes, first and last cut, loads."
-unfoldable pub reportOf : Plan → Lent → Report
+unfoldable pub reportOf : Given → Lent → Report
 reportOf p l =
     record {
       number = 0;
@@ -127,32 +121,32 @@ reportOf p l =
     }
 
 -- "After a done call, the gain, move, lock and swap lists hold zeros up to the needed length and are unchanged past it." "Rows after the last pass keep their values."
-unfoldable pub leftBy : Plan → Lent → Lent
+unfoldable pub leftBy : Given → Lent → Lent
 leftBy p l =
     record {
       labels = runOf p l .labels;
       gains = filled (pos 0) (length (l .labels)) (l .gains);
-      moves = filled none (length (l .labels)) (l .moves);
+      moves = filled noMove (length (l .labels)) (l .moves);
       made = over (map (λ (r : Pass). r .made) (runOf p l .rows)) (l .made);
       rewound = over (map (λ (r : Pass). r .rewound) (runOf p l .rows)) (l .rewound);
     }
 
 -- THE ANSWER
-unfoldable pub answer : Plan → Lent → Report
+unfoldable pub answer : Given → Lent → Report
 answer p l =
     cond (eqb (length (l .labels)) 0) empty
     (cond (eqb (number p l) 0) (reportOf p l)
     (refused (number p l)))
 
 -- THE LISTS: a refusal and n = 0 write nothing
-unfoldable pub left : Plan → Lent → Lent
+unfoldable pub left : Given → Lent → Lent
 left p l =
     cond (eqb (length (l .labels)) 0) l
     (cond (eqb (number p l) 0) (leftBy p l)
     l)
 
--- THE PROMISE: of a plan p, the lists l at entry, a report r and the lists k at exit
-pub record Refined (p : Plan) (l : Lent) (r : Report) (k : Lent) : Type 0 where
+-- THE PROMISE: of what is given p, the lists l at entry, a report r and the lists k at exit
+pub record Refined (p : Given) (l : Lent) (r : Report) (k : Lent) : Type 0 where
   pub answered : r ≡ answer p l
   pub labels : k .labels ≡ left p l .labels
   pub gains : k .gains ≡ left p l .gains

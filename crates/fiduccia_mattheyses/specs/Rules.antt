@@ -5,7 +5,8 @@ use lib.ListN.{length}
 use Rattle.imbalance.specs.Rules.{NoneAbove, FitChoice}
 use Rattle.topology.specs.Rules.{graphRules}
 use Rattle.fiduccia_mattheyses.specs.declared.Settings.{Settings}
-use Rattle.fiduccia_mattheyses.specs.Entry.{Plan, Lent, graphOf, askedCeiling}
+use Rattle.topology.specs.Given.{graphOf}
+use Rattle.fiduccia_mattheyses.specs.Entry.{Given, Lent, askedCeiling}
 
 -- 7: not "pass limit above 1,024", and the ceiling's choice is fit
 pub record FitSettings (s : Settings) : Type 0 where
@@ -20,7 +21,7 @@ pub record LongEnough (passes : ℕ) (l : Lent) : Type 0 where
   pub rewound : passes ≤ length (l .rewound)
 
 -- 1 to 5 of the graph; 6 is a "label above 1"; 7 and 8
-abbrev pub rules : Plan → Lent → List (Type 0)
+abbrev pub rules : Given → Lent → List (Type 0)
 rules p l =
     graphRules (length (l .labels)) (p .weights) (graphOf p)
     ++ NoneAbove 1 (l .labels) ∷ FitSettings (p .settings) ∷ LongEnough (p .settings .passes) l ∷ []

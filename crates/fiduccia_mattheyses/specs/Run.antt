@@ -4,7 +4,7 @@ use mathlib.Core.List.{List, [], _∷_}
 use Prim.Native.Nat.{ℕ, zero, suc}
 use lib.Dec.{ltb}
 use Rattle.topology.specs.Cut.{cut}
-use Rattle.fiduccia_mattheyses_pass.specs.Choice.{Setting}
+use Rattle.fiduccia_mattheyses_pass.specs.Choice.{Terms}
 use Rattle.fiduccia_mattheyses_pass.specs.Pass.{Pass, pass}
 
 -- A run: its end, its passes in order, and the labels left.
@@ -14,7 +14,7 @@ pub record Run : Type 0 where
   pub labels : List ℕ
 
 -- at most k passes, end 0; "A pass that lowered nothing ends the run", end 1 "also when it was the last allowed"
-unfoldable pub run : Setting → ℕ → List ℕ → Run
+unfoldable pub run : Terms → ℕ → List ℕ → Run
 run s zero p = record { end = 0; rows = []; labels = p }
 run s (suc k) p =
     let r = pass s p in

@@ -2,7 +2,7 @@
 use mathlib.Core.Path.{_≡_}
 use Rattle.imbalance.specs.Used.{SameUsed}
 use Rattle.fiduccia_mattheyses.specs.declared.Settings.{Settings}
-use Rattle.fiduccia_mattheyses.specs.Entry.{Plan, askedCeiling}
+use Rattle.fiduccia_mattheyses.specs.Entry.{Given, askedCeiling}
 
 -- two settings differ at most in what the choice does not use
 pub record SameSettings (s s′ : Settings) : Type 0 where
@@ -12,6 +12,6 @@ pub record SameSettings (s s′ : Settings) : Type 0 where
   pub ceiling : SameUsed (askedCeiling s) (askedCeiling s′)
 
 -- the same lists with other settings
-abbrev pub withSettings : Plan → Settings → Plan
+abbrev pub withSettings : Given → Settings → Given
 withSettings p s =
     record { starts = p .starts; neighbours = p .neighbours; arcs = p .arcs; weights = p .weights; settings = s }

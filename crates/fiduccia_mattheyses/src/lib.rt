@@ -9,8 +9,8 @@ ghost use lib.ListN.{length, set, getD};
 ghost use Rattle.lists.specs.Fill.{filled, table};
 ghost use Rattle.imbalance.specs.Load.{load};
 ghost use Rattle.fiduccia_mattheyses_pass.specs.Pass.{start, walk};
-ghost use Rattle.fiduccia_mattheyses.specs.Entry.{none, Refined};
-ghost use Rattle.fiduccia_mattheyses.specs.inner.Steps.{settingBy, undone, WalkAsked, WalkDone, RewindAsked, PassAsked, PassDone, PassesAsked, PassesDone, Ready, Ran};
+ghost use Rattle.fiduccia_mattheyses.specs.Entry.{noMove, Refined};
+ghost use Rattle.fiduccia_mattheyses.specs.inner.Steps.{termsBy, undone, WalkAsked, WalkDone, RewindAsked, PassAsked, PassDone, PassesAsked, PassesDone, Ready, Ran};
 use fiduccia_mattheyses_pass::Limits;
 use fiduccia_mattheyses_pass::Next;
 use fiduccia_mattheyses_pass::Standing;
@@ -87,7 +87,7 @@ fn put_move(moves: &mut [Move], at: usize, vertex: u32, part: u32)
 // One record is read.
 fn move_at(moves: &[Move], at: usize) -> Move
     requires { ⌜ at < length (now moves) ⌝ }
-    ensures { λ r. ⌜ r ≡ getD (now (moves .entry)) at none ⌝ }
+    ensures { λ r. ⌜ r ≡ getD (now (moves .entry)) at noMove ⌝ }
 {
     moves[at]
 }
@@ -95,7 +95,7 @@ fn move_at(moves: &[Move], at: usize) -> Move
 // The records of no move in the first n places; the others are kept.
 fn clear(moves: &mut [Move], n: usize)
     requires { ⌜ n ≤ length (now moves) ⌝ }
-    ensures { λ _. ⌜ now (moves .exit) ≡ filled none n (now (moves .entry)) ⌝ }
+    ensures { λ _. ⌜ now (moves .exit) ≡ filled noMove n (now (moves .entry)) ⌝ }
 {
     let mut i: usize = 0;
     while i < n {
@@ -116,8 +116,8 @@ fn walk_moves(
     first: Standing,
     limits: Limits,
 ) -> Walked
-    requires { ⌜ WalkAsked (settingBy (now starts) (now neighbours) (now «arc_weights») (now weights) limits) (now labels) (now gains) (now moves) first ⌝ }
-    ensures { λ r. ⌜ (let s = settingBy (now (starts .entry)) (now (neighbours .entry)) (now («arc_weights» .entry)) (now (weights .entry)) limits in
+    requires { ⌜ WalkAsked (termsBy (now starts) (now neighbours) (now «arc_weights») (now weights) limits) (now labels) (now gains) (now moves) first ⌝ }
+    ensures { λ r. ⌜ (let s = termsBy (now (starts .entry)) (now (neighbours .entry)) (now («arc_weights» .entry)) (now (weights .entry)) limits in
         WalkDone s (now (labels .entry)) (now (moves .entry)) (walk s (limits .moves) (start s (now (labels .entry))))
         (now (labels .exit)) (now (gains .exit)) (now (moves .exit)) (r .made) (r .last)) ⌝ }
 {
@@ -170,7 +170,7 @@ fn rewind(
 }
 
 // A pass: fresh gains, the moves, and back to the earliest state of least cut, labels and loads.
-fn pass(
+fn make_pass(
     starts: &[u32],
     neighbours: &[u32],
     arc_weights: &[u32],
@@ -182,8 +182,8 @@ fn pass(
     cut: u64,
     limits: Limits,
 ) -> Passed
-    requires { ⌜ PassAsked (settingBy (now starts) (now neighbours) (now «arc_weights») (now weights) limits) (now labels) (now gains) (now moves) (loads .at) cut ⌝ }
-    ensures { λ r. ⌜ PassDone (settingBy (now (starts .entry)) (now (neighbours .entry)) (now («arc_weights» .entry)) (now (weights .entry)) limits)
+    requires { ⌜ PassAsked (termsBy (now starts) (now neighbours) (now «arc_weights») (now weights) limits) (now labels) (now gains) (now moves) (loads .at) cut ⌝ }
+    ensures { λ r. ⌜ PassDone (termsBy (now (starts .entry)) (now (neighbours .entry)) (now («arc_weights» .entry)) (now (weights .entry)) limits)
         (now (labels .entry)) (now (moves .entry)) (now (labels .exit)) (now (moves .exit)) r ⌝ }
 {
     fiduccia_mattheyses_pass::fresh_gains(starts, neighbours, arc_weights, labels, gains);
@@ -224,8 +224,8 @@ fn make_passes(
     limits: Limits,
     pass_limit: u32,
 ) -> Ended
-    requires { ⌜ PassesAsked (settingBy (now starts) (now neighbours) (now «arc_weights») (now weights) limits) «pass_limit» (now labels) (now gains) (now moves) (now «rows_made») (now «rows_rewound») (first .at) «first_cut» ⌝ }
-    ensures { λ r. ⌜ PassesDone (settingBy (now (starts .entry)) (now (neighbours .entry)) (now («arc_weights» .entry)) (now (weights .entry)) limits) «pass_limit»
+    requires { ⌜ PassesAsked (termsBy (now starts) (now neighbours) (now «arc_weights») (now weights) limits) «pass_limit» (now labels) (now gains) (now moves) (now «rows_made») (now «rows_rewound») (first .at) «first_cut» ⌝ }
+    ensures { λ r. ⌜ PassesDone (termsBy (now (starts .entry)) (now (neighbours .entry)) (now («arc_weights» .entry)) (now (weights .entry)) limits) «pass_limit»
         (now (labels .entry)) (now (moves .entry)) (now («rows_made» .entry)) (now («rows_rewound» .entry))
         (now (labels .exit)) (now (moves .exit)) (now («rows_made» .exit)) (now («rows_rewound» .exit)) r ⌝ }
 {
@@ -233,7 +233,7 @@ fn make_passes(
     let mut cut = first_cut;
     let mut passes: u32 = 0;
     while passes < pass_limit {
-        let r = pass(
+        let r = make_pass(
             starts,
             neighbours,
             arc_weights,
@@ -323,7 +323,7 @@ fn refine(
 }
 
 // The lengths of the lent lists.
-pub struct Room {
+pub struct Lengths {
     pub gains: usize,
     pub moves: usize,
     pub made: usize,
@@ -349,13 +349,13 @@ pub fn fiduccia_mattheyses(
         r
         (record { labels = now (labels .exit); gains = now (gains .exit); moves = now (moves .exit); made = now («rows_made» .exit); rewound = now («rows_rewound» .exit) }) ⌝ }
 {
-    let room = Room {
+    let lengths = Lengths {
         gains: gains.len(),
         moves: moves.len(),
         made: rows_made.len(),
         rewound: rows_rewound.len(),
     };
-    let number = number::call_number(starts, neighbours, arc_weights, weights, labels, room, s);
+    let number = number::call_number(starts, neighbours, arc_weights, weights, labels, lengths, s);
     if number != 0 {
         return answers::bare_report(number, 0);
     }

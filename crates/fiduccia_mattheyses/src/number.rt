@@ -5,7 +5,7 @@ ghost use lib.ListN.{length};
 ghost use lib.Dec.{eqb};
 ghost use Rattle.topology.specs.Graph.{inRows};
 ghost use Rattle.fiduccia_mattheyses.specs.Entry.{askedCeiling, unfit, short, numberOf};
-use crate::Room;
+use crate::Lengths;
 use crate::Settings;
 use imbalance::Ceiling;
 
@@ -33,20 +33,20 @@ fn unfit_settings(s: Settings) -> bool
 }
 
 // Number 8's test.
-fn too_short(n: usize, passes: u32, room: Room) -> bool
-    ensures { λ r. ⌜ r ≡ short n passes room ⌝ }
+fn too_short(n: usize, passes: u32, lengths: Lengths) -> bool
+    ensures { λ r. ⌜ r ≡ short n passes lengths ⌝ }
 {
-    if room.gains < n {
+    if lengths.gains < n {
         return true;
     }
-    if room.moves < n {
+    if lengths.moves < n {
         return true;
     }
     let rows = lists::index(passes);
-    if room.made < rows {
+    if lengths.made < rows {
         return true;
     }
-    room.rewound < rows
+    lengths.rewound < rows
 }
 
 // The number of a call.
@@ -56,10 +56,10 @@ fn number_of(
     arc_weights: &[u32],
     weights: &[u32],
     labels: &[u32],
-    room: Room,
+    lengths: Lengths,
     s: Settings,
 ) -> u32
-    ensures { λ r. ⌜ r ≡ numberOf (inRows (now (starts .entry)) (now (neighbours .entry)) (now («arc_weights» .entry))) (now (weights .entry)) (now (labels .entry)) room s ⌝ }
+    ensures { λ r. ⌜ r ≡ numberOf (inRows (now (starts .entry)) (now (neighbours .entry)) (now («arc_weights» .entry))) (now (weights .entry)) (now (labels .entry)) lengths s ⌝ }
 {
     let n = labels.len();
     let number = topology::graph_number(starts, neighbours, arc_weights, weights, n);
@@ -71,7 +71,7 @@ fn number_of(
     }
     let unfit = unfit_settings(s);
     let passes = s.passes;
-    let short = too_short(n, passes, room);
+    let short = too_short(n, passes, lengths);
     if unfit {
         return 7;
     }
@@ -88,14 +88,14 @@ pub fn call_number(
     arc_weights: &[u32],
     weights: &[u32],
     labels: &[u32],
-    room: Room,
+    lengths: Lengths,
     s: Settings,
 ) -> u32
-    ensures { λ r. ⌜ r ≡ cond (eqb (length (now (labels .entry))) 0) 0 (numberOf (inRows (now (starts .entry)) (now (neighbours .entry)) (now («arc_weights» .entry))) (now (weights .entry)) (now (labels .entry)) room s) ⌝ }
+    ensures { λ r. ⌜ r ≡ cond (eqb (length (now (labels .entry))) 0) 0 (numberOf (inRows (now (starts .entry)) (now (neighbours .entry)) (now («arc_weights» .entry))) (now (weights .entry)) (now (labels .entry)) lengths s) ⌝ }
 {
     let n = labels.len();
     if n == 0 {
         return 0;
     }
-    number_of(starts, neighbours, arc_weights, weights, labels, room, s)
+    number_of(starts, neighbours, arc_weights, weights, labels, lengths, s)
 }

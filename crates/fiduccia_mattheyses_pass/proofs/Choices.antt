@@ -9,15 +9,15 @@ use lib.ListN.{length, getD}
 use lib.IntN.{ℤ, pos}
 use Rattle.lists.specs.Best.{best}
 use Rattle.imbalance.specs.Load.{part, load}
-use Rattle.fiduccia_mattheyses_pass.specs.Choice.{Setting, other, member, worth, after, fits, allowed, better, choice}
-use Rattle.fiduccia_mattheyses_pass.specs.inner.Scan.{lock, isFree, picked, may, over, pickBelow, loadAfter, ceilingAt}
+use Rattle.fiduccia_mattheyses_pass.specs.Choice.{Terms, other, member, worth, after, fits, allowed, better, choice}
+use Rattle.fiduccia_mattheyses_pass.specs.inner.Scan.{lock, isFree, picked, may, goesBefore, pickBelow, loadAfter, ceilingAt}
 use Rattle.fiduccia_mattheyses_pass.specs.inner.Standing.{Gains}
 use Rattle.lists.proofs.Bests.{best-ext}
 use Rattle.fiduccia_mattheyses_pass.proofs.Chosen.{allowed-is, chosen}
 use Rattle.fiduccia_mattheyses_pass.proofs.Follows.{free-small}
 use Rattle.fiduccia_mattheyses_pass.proofs.Worths.{Light, worth-small}
 
-module _ (s : Setting) (p locked : List ℕ) (gs : List ℤ) (loads : List ℕ) (all-may : (v : ℕ) → s .movable v ≡ true) (light : Light (s .graph)) (h : Gains s p locked gs) (ls : (t : ℕ) → t < 2 → getD loads t 0 ≡ load (s .weights) p t) where
+module _ (s : Terms) (p locked : List ℕ) (gs : List ℤ) (loads : List ℕ) (all-may : (v : ℕ) → s .movable v ≡ true) (light : Light (s .graph)) (h : Gains s p locked gs) (ls : (t : ℕ) → t < 2 → getD loads t 0 ≡ load (s .weights) p t) where
   abbrev n : ℕ
   n = length p
 
@@ -45,13 +45,13 @@ module _ (s : Setting) (p locked : List ℕ) (gs : List ℤ) (loads : List ℕ) 
   worth-same : (v : ℕ) → v < n → allowed s p locked v ≡ true → getD gs v (pos 0) ≡ worth s p v
   worth-same v l e = h .each v l ∙ rw (allowed-is s p locked v e .1)
 
-  over-same : (u v : ℕ) → u < n → v < n → may gs L C u ≡ true → may gs L C v ≡ true → over gs L C u v ≡ better s p u v
+  goesBefore-same : (u v : ℕ) → u < n → v < n → may gs L C u ≡ true → may gs L C v ≡ true → goesBefore gs L C u v ≡ better s p u v
   unfolding better
-  over-same u v lu lv eu ev = rw (worth-same u lu (sym (may-same u lu) ∙ eu), worth-same v lv (sym (may-same v lv) ∙ ev), loads-same u, loads-same v)
+  goesBefore-same u v lu lv eu ev = rw (worth-same u lu (sym (may-same u lu) ∙ eu), worth-same v lv (sym (may-same v lv) ∙ ev), loads-same u, loads-same v)
 
-  same-choice : best (may gs L C) (over gs L C) n ≡ choice s p locked
+  same-choice : best (may gs L C) (goesBefore gs L C) n ≡ choice s p locked
   unfolding choice
-  same-choice = best-ext (may gs L C) (allowed s p locked) (over gs L C) (better s p) n may-same over-same
+  same-choice = best-ext (may gs L C) (allowed s p locked) (goesBefore gs L C) (better s p) n may-same goesBefore-same
 
   -- the pick is the choice, with what its move is worth
   pub pick-choice : pickBelow gs L C n ≡ picked (worth s p) (choice s p locked)

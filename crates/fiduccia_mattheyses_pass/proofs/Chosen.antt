@@ -11,10 +11,10 @@ use lib.ListN.{length}
 use borrow.Author.Tests.{ltb-true, ltb-false, eqb-true, eqb-false, not-true}
 use Rattle.lists.proofs.Bests.{best-in, best-is, best-none, none-allowed, best-order}
 use Rattle.lists.proofs.Bools.{and-left, and-right}
-use Rattle.fiduccia_mattheyses_pass.specs.Choice.{Setting, member, worth, after, fits, allowed, better, choice, Chosen}
+use Rattle.fiduccia_mattheyses_pass.specs.Choice.{Terms, member, worth, after, fits, allowed, better, choice, Chosen}
 use Rattle.fiduccia_mattheyses_pass.proofs.Beats.{beats-on, beats-not, beats-self}
 
-module _ (s : Setting) (p moved : List ℕ) where
+module _ (s : Terms) (p moved : List ℕ) where
   -- an allowed vertex may move, has not moved yet, and fits
   pub allowed-is : (v : ℕ) → allowed s p moved v ≡ true → (s .movable v ≡ true) × (member v moved ≡ false) × (fits s p v ≡ true)
   unfolding allowed

@@ -9,13 +9,13 @@ use lib.Dec.{ltb, leb}
 use lib.ListN.{length, take, length-append}
 use lib.Seq.{take-all, take-append-le}
 use Rattle.topology.specs.Cut.{cut}
-use Rattle.fiduccia_mattheyses_pass.specs.Choice.{Setting, flip, choice, isBad}
+use Rattle.fiduccia_mattheyses_pass.specs.Choice.{Terms, flip, choice, isBad}
 use Rattle.fiduccia_mattheyses_pass.specs.Pass.{State, start, moveOn, next, walk, flips}
 use Rattle.fiduccia_mattheyses_pass.proofs.Backs.{flips-more}
 use Rattle.fiduccia_mattheyses_pass.proofs.Walks.{walk-stop, walk-step}
 
 -- a next state comes of the vertex chosen
-pub next-moves : (s : Setting) (st t : State) → next s st ≡ some t → (v : ℕ) × (choice s (st .labels) (st .moved) ≡ some v) × (t ≡ moveOn s st v)
+pub next-moves : (s : Terms) (st t : State) → next s st ≡ some t → (v : ℕ) × (choice s (st .labels) (st .moved) ≡ some v) × (t ≡ moveOn s st v)
 unfolding next
 next-moves s st t e = go (choice s (st .labels) (st .moved)) refl
   where
@@ -27,12 +27,12 @@ next-moves s st t e = go (choice s (st .labels) (st .moved)) refl
     go none q = let r : none ≡ some t = sym (rw (q, next) refl) ∙ e in let o : _≡_ {A = ℕ} 0 1 = cc in absurd (omega arith)
     go (some v) q = arm (isBad s (st .labels) v && leb (s .badLimit) (st .bad)) v q (rw (q, next) at e)
 
-pub record Keeps (s : Setting) (p : List ℕ) (st : State) : Type 0 where
+pub record Keeps (s : Terms) (p : List ℕ) (st : State) : Type 0 where
   pub from : st .labels ≡ flips p (st .moved)
   pub within : st .kept ≤ length (st .moved)
   pub least-is : st .least ≡ cut (s .graph) (flips p (take (st .kept) (st .moved)))
 
-module _ (s : Setting) (p : List ℕ) where
+module _ (s : Terms) (p : List ℕ) where
   pub keeps-start : Keeps s p (start s p)
   unfolding flips
   keeps-start = record { from = refl; within = omega arith; least-is = refl }

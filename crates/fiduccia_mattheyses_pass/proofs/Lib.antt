@@ -1,7 +1,7 @@
 -- The laws of a pass's moves.
 pub mod Moved
 pub mod Beats
-pub mod Turns
+pub mod Looks
 pub mod Scans
 pub mod Updates
 pub mod Follows

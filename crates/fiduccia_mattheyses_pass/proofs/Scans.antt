@@ -1,4 +1,4 @@
--- The scan's answer: with a sample to begin from, what is held once all vertices have had their turn is the pick; and what is done with it. Assumes nothing.
+-- The scan's answer: with a sample to begin from, what is held once all vertices have been looked at is the pick; and what is done with it. Assumes nothing.
 use mathlib.Core.Path.{_≡_, refl, sym, ap, _∙_}
 use mathlib.Core.Bool.{Bool, true, false, cond, _&&_, _||_}
 use mathlib.Core.List.{List}
@@ -19,7 +19,7 @@ use Rattle.imbalance.specs.Limit.{mostWeight}
 use Rattle.fiduccia_mattheyses_pass.specs.inner.Bounds.{pastWeights, lockSize, far}
 use Rattle.fiduccia_mattheyses_pass.specs.Choice.{other}
 use Rattle.fiduccia_mattheyses_pass.specs.inner.Scan.{isFree, beats, picked, loadAfter, ceilingAt, pickBelow, nextOf}
-use Rattle.fiduccia_mattheyses_pass.specs.inner.Turn.{lowest, lesser, roomOf, roomsOf, liftsOf, nobody, Sighted, gainOf, loadOf, fitsOf, mayOf, Holds, Swept}
+use Rattle.fiduccia_mattheyses_pass.specs.inner.Look.{lowest, lesser, roomOf, roomsOf, liftsOf, nobody, Sighted, gainOf, loadOf, fitsOf, mayOf, Holds, Swept}
 use Rattle.fiduccia_mattheyses_pass.specs.inner.Standing.{Scannable}
 use Rattle.fiduccia_mattheyses_pass.specs.declared.Held.{Held}
 use Rattle.fiduccia_mattheyses_pass.specs.declared.Next.the-variants.{Stop, Go}
@@ -102,26 +102,26 @@ module _ (gains : List ℤ) (labels weights loads ceilings : List ℕ) (q : Scan
   abbrev pick : Pick
   pick = pickBelow gains (loadAfter loads weights labels) (ceilingAt ceilings labels) (length labels)
 
-  -- what a turn asks holds of them
+  -- what a look asks holds of them
   pub sighted : Sighted gains labels weights rooms lifts
   sighted =
       record {
         gained = q .gained;
         weighed = q .weighed;
-        two = q .two;
+        two-labels = q .two-labels;
         roomed = refl;
         lifted = refl;
         light = each-label (λ p. getD lifts p 0 ≤ mostWeight) (let l = q .light 1 (omega arith) in omega arith) (let l = q .light 0 (omega arith) in omega arith);
       }
 
   small : (v : ℕ) → L v + 1 < far
-  small v = let m = sighted .light (part labels v) (q .two v) in omega (arith, narrow v)
+  small v = let m = sighted .light (part labels v) (q .two-labels v) in omega (arith, narrow v)
 
   -- so that the load, the room and the order are those of the promise
   load-is : (v : ℕ) → lesser loads + L v ≡ loadAfter loads weights labels v
   load-is v =
       let m = lesser-least loads in
-      let e = each-label (λ p. lesser loads + getD lifts p 0 ≡ getD loads (other p) 0) (omega (arith, m .1)) (omega (arith, m .0)) (part labels v) (q .two v) in
+      let e = each-label (λ p. lesser loads + getD lifts p 0 ≡ getD loads (other p) 0) (omega (arith, m .1)) (omega (arith, m .0)) (part labels v) (q .two-labels v) in
       omega arith
 
   fits-is : (v : ℕ) → fitsOf rooms lifts gains labels weights v ≡ leb (loadAfter loads weights labels v) (ceilingAt ceilings labels v)
@@ -129,13 +129,13 @@ module _ (gains : List ℤ) (labels weights loads ceilings : List ℕ) (q : Scan
       each-label (λ p. ltb (getD weights v 0) (getD rooms p 0) ≡ leb (getD loads (other p) 0 + getD weights v 0) (getD ceilings (other p) 0))
       (room-is (getD loads 1 0) (getD ceilings 1 0) (getD weights v 0) (omega (arith, narrow v)))
       (room-is (getD loads 0 0) (getD ceilings 0 0) (getD weights v 0) (omega (arith, narrow v)))
-      (part labels v) (q .two v)
+      (part labels v) (q .two-labels v)
 
-  over-is : (u v : ℕ) → B u v ≡ beats (G u) (loadAfter loads weights labels u) (G v) (loadAfter loads weights labels v)
-  over-is u v = rw (← load-is u, ← load-is v) (ap (λ (b : Bool). ltZ (G v) (G u) || (leZ (G v) (G u) && b)) (ltb-above (lesser loads) (L u) (L v)))
+  goesBefore-is : (u v : ℕ) → B u v ≡ beats (G u) (loadAfter loads weights labels u) (G v) (loadAfter loads weights labels v)
+  goesBefore-is u v = rw (← load-is u, ← load-is v) (ap (λ (b : Bool). ltZ (G v) (G u) || (leZ (G v) (G u) && b)) (ltb-above (lesser loads) (L u) (L v)))
 
   pick-is : picked G (best M B (length labels)) ≡ pick
-  pick-is = λ i. picked G (best (λ v. isFree (G v) && fits-is v i) (λ u v. over-is u v i) (length labels))
+  pick-is = λ i. picked G (best (λ v. isFree (G v) && fits-is v i) (λ u v. goesBefore-is u v i) (length labels))
 
   -- what is sampled has a load within the bound
   pub sample-near : (found : Held) → Holds rooms lifts gains labels weights nobody found → found .load ≤ far

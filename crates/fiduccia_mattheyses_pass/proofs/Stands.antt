@@ -25,7 +25,7 @@ use Rattle.topology.specs.Rule.{Symmetric}
 use Rattle.topology.specs.Cut.{cut, rowCut}
 use Rattle.topology.proofs.Moves.{cut-move, load-holds, loads-move}
 use Rattle.fiduccia_mattheyses_pass.specs.inner.Bounds.{mostInRow, mostCut, lockSize}
-use Rattle.fiduccia_mattheyses_pass.specs.Choice.{Setting, other, flip, member, worth, fits, choice, isBad}
+use Rattle.fiduccia_mattheyses_pass.specs.Choice.{Terms, other, flip, member, worth, fits, choice, isBad}
 use Rattle.fiduccia_mattheyses_pass.specs.Pass.{State, start, moveOn, next}
 use Rattle.fiduccia_mattheyses_pass.specs.inner.Scan.{lock, picked, pickBelow, loadAfter, ceilingAt, nextOf}
 use Rattle.fiduccia_mattheyses_pass.specs.inner.Standing.{gainsAfter, standingAfter, Scannable, Moveable, Fixed, Stands}
@@ -48,7 +48,7 @@ weight-most ws e = go (ltb e (length ws)) refl
     go false t = rw (List·getD-eq-default ws 0 (ltb-false e (length ws) t)) (omega arith)
 
 -- the limits keep rows and weights small
-pub light : {s : Setting} {n : ℕ} → Fixed s n → Light (s .graph)
+pub light : {s : Terms} {n : ℕ} → Fixed s n → Light (s .graph)
 light {s} {n} f = record {
   light = λ e. (let a = weight-most (s .graph .weights) e in let b = f .lightArcs in omega arith);
   short = λ u. short u (ltb u n) refl;
@@ -67,7 +67,7 @@ unfolding cut arcs
 cut-small g p l few = omega (arith, sum-most (length p) mostInRow (rowCut g p) (λ u k. arcs-small g u (λ x. ltb x u && not (eqb (part p x) (part p u))) l))
 
 -- the cut after a move is the cut less the gain
-pub cut-after : (s : Setting) (p : List ℕ) (v : ℕ) → Symmetric (length p) (s .graph) → v < length p → pos (cut (s .graph) p) -ℤ worth s p v ≡ pos (cut (s .graph) (flip p v))
+pub cut-after : (s : Terms) (p : List ℕ) (v : ℕ) → Symmetric (length p) (s .graph) → v < length p → pos (cut (s .graph) p) -ℤ worth s p v ≡ pos (cut (s .graph) (flip p v))
 unfolding worth gain flip
 cut-after s p v ok l =
     pos-minus (cut (s .graph) p) (into (s .graph) p v (other (part p v))) (into (s .graph) p v (part p v)) (cut (s .graph) (set p v (other (part p v))))
@@ -76,15 +76,15 @@ cut-after s p v ok l =
 -- the loads after a move are those of the labels after it
 loads-follow : (ws p : List ℕ) (v : ℕ) → v < length p → part p v < 2 → loadsMoved (table 16 (load ws p)) (part p v) (other (part p v)) (getD ws v 0) ≡ table 16 (load ws (flip p v))
 unfolding flip
-loads-follow ws p v lv two = loads-move ws p v (other (part p v)) lv (omega arith) (omega arith) (λ r. omega arith)
+loads-follow ws p v lv two-labels = loads-move ws p v (other (part p v)) lv (omega arith) (omega arith) (λ r. omega arith)
 
 pub two-flip : (p : List ℕ) (v : ℕ) → v < length p → ((x : ℕ) → part p x < 2) → (x : ℕ) → part (flip p v) x < 2
 unfolding flip
-two-flip p v lv two x = go (eqb x v) refl
+two-flip p v lv two-labels x = go (eqb x v) refl
   where
     go : (t : Bool) → eqb x v ≡ t → part (set p v (other (part p v))) x < 2
     go true r = rw (eqb-true x v r, getD-set-same p v (other (part p v)) 0 lv) (omega arith)
-    go false r = rw (getD-set-other p v x (other (part p v)) 0 (eqb-false x v r)) (two x)
+    go false r = rw (getD-set-other p v x (other (part p v)) 0 (eqb-false x v r)) (two-labels x)
 
 -- what the code's answer tells of the state's next
 bad-go : (t u : Bool) (v : ℕ) (g : ℤ) (bad w : ℕ) (h : ℤ) (b : ℕ) → cond t (cond u Stop (Go v g (bad + 1))) (Go v g 0) ≡ Go w h b → (t && u ≡ false) × (cond t (bad + 1) 0 ≡ b) × (v ≡ w) × (g ≡ h)
@@ -98,7 +98,7 @@ bad-stop true false v g bad e = let o : _≡_ {A = ℕ} 0 1 = cc in absurd (omeg
 bad-stop false u v g bad e = let o : _≡_ {A = ℕ} 0 1 = cc in absurd (omega arith)
 
 -- the state's next, by what is chosen
-module _ (s : Setting) (st : State) where
+module _ (s : Terms) (st : State) where
   next-none : choice s (st .labels) (st .moved) ≡ none → next s st ≡ none
   unfolding next
   next-none e = rw (e, next)
@@ -112,7 +112,7 @@ module _ (s : Setting) (st : State) where
   next-some v e q = rw (e, next) (rw q)
 
 -- What a step that goes on knows: the state's next, the vertex, its gain, the counter, and that it was not moved before.
-pub record Goes (s : Setting) (n : ℕ) (st : State) (labels : List ℕ) (v : ℕ) (g : ℤ) (b : ℕ) : Type 0 where
+pub record Goes (s : Terms) (n : ℕ) (st : State) (labels : List ℕ) (v : ℕ) (g : ℤ) (b : ℕ) : Type 0 where
   pub next-is : next s st ≡ some (moveOn s st v)
   pub here : v < length labels
   pub gain-is : g ≡ worth s labels v
@@ -120,7 +120,7 @@ pub record Goes (s : Setting) (n : ℕ) (st : State) (labels : List ℕ) (v : �
   pub new : member v (st .moved) ≡ false
   pub within : fits s labels v ≡ true
 
-module _ (s : Setting) (n : ℕ) (f : Fixed s n) (st : State) (labels : List ℕ) (gains : List ℤ) (c : Standing) (on : Stands s n st labels gains c) where
+module _ (s : Terms) (n : ℕ) (f : Fixed s n) (st : State) (labels : List ℕ) (gains : List ℤ) (c : Standing) (on : Stands s n st labels gains c) where
   abbrev pub asked : Next
   asked = nextOf (pickBelow gains (loadAfter (c .loads .at) (s .weights) labels) (ceilingAt (s .ceilings) labels) (length labels)) (c .bad) (s .badLimit)
 
@@ -128,13 +128,13 @@ module _ (s : Setting) (n : ℕ) (f : Fixed s n) (st : State) (labels : List ℕ
   loads-are t l = rw (on .loaded) (table-at 16 t 0 (load (s .weights) labels) (omega arith))
 
   pick-is : pickBelow gains (loadAfter (c .loads .at) (s .weights) labels) (ceilingAt (s .ceilings) labels) (length labels) ≡ picked (worth s labels) (choice s labels (st .moved))
-  pick-is = pick-choice s labels (st .moved) gains (c .loads .at) (f .anyone) (light f) (on .gained) loads-are
+  pick-is = pick-choice s labels (st .moved) gains (c .loads .at) (f .all-movable) (light f) (on .gained) loads-are
 
   pub scannable : Scannable gains labels (s .weights) (c .loads .at)
   scannable = record {
     gained = on .gained .long;
     weighed = f .weighed ∙ sym (on .long);
-    two = on .two;
+    two-labels = on .two-labels;
     sixteen = ap length (on .loaded) ∙ length-table 16 (load (s .weights) labels);
     light = λ t l. (let a = load-within (s .weights) labels (f .weighed ∙ sym (on .long)) t in let b = loads-are t l in let d = f .light in omega arith);
   }
@@ -182,8 +182,8 @@ module _ (s : Setting) (n : ℕ) (f : Fixed s n) (st : State) (labels : List ℕ
     in-n = let a = on .long in let b = go .here in omega arith
 
     -- there is room for the move's record
-    pub room : length (st .moved) + 1 ≤ n
-    room = count-room v (st .moved) n in-n (go .new) (on .counted)
+    pub places-left : length (st .moved) + 1 ≤ n
+    places-left = count-room v (st .moved) n in-n (go .new) (on .counted)
 
     few′ : length labels ≤ mostVertices
     few′ = let a = on .long in let b = f .rows .few in omega arith
@@ -194,7 +194,7 @@ module _ (s : Setting) (n : ℕ) (f : Fixed s n) (st : State) (labels : List ℕ
       rows = rw (on .long) (f .rows);
       scanned = scannable;
       here = go .here;
-      held = rw (loads-are (part labels v) (on .two v)) (load-holds (s .weights) labels v (go .here));
+      weight-within = rw (loads-are (part labels v) (on .two-labels v)) (load-holds (s .weights) labels v (go .here));
       smallGains = small-gains;
       smallGain = rw (go .gain-is) (worth-small s labels v (light f));
       smallCut = rw (on .cut-is) (cut-small (s .graph) labels (light f) few′);
@@ -239,15 +239,15 @@ module _ (s : Setting) (n : ℕ) (f : Fixed s n) (st : State) (labels : List ℕ
         (record {
           labelled = ap (λ (p : List ℕ). flip p v) (on .labelled);
           long = flip-long ∙ on .long;
-          two = two-flip labels v (go .here) (on .two);
-          gained = gains-move s labels (st .moved) gains v symmetric′ (light f) (on .two) (go .here) (on .gained);
-          loaded = ap (λ (l : List ℕ). loadsMoved l (part labels v) (other (part labels v)) (getD (s .weights) v 0)) (on .loaded) ∙ loads-follow (s .weights) labels v (go .here) (on .two v);
+          two-labels = two-flip labels v (go .here) (on .two-labels);
+          gained = gains-move s labels (st .moved) gains v symmetric′ (light f) (on .two-labels) (go .here) (on .gained);
+          loaded = ap (λ (l : List ℕ). loadsMoved l (part labels v) (other (part labels v)) (getD (s .weights) v 0)) (on .loaded) ∙ loads-follow (s .weights) labels v (go .here) (on .two-labels v);
           cut-is = cut-now;
           least-is = least-now;
           least-low = low;
           kept-is = ap (λ (t : Bool). cond t (length (st .moved) + 1) (c .kept)) lower ∙ ap (cond (ltb c′ (st .least)) (length (st .moved) + 1)) (on .kept-is) ∙ as-state-kept;
           bad-is = go .bad-is ∙ ap (λ (p : List ℕ). cond (isBad s p v) (st .bad + 1) 0) (on .labelled);
-          calm = rw (length-append (st .moved) (v ∷ [])) (calmer (isBad s (st .labels) v));
+          bad-within = rw (length-append (st .moved) (v ∷ [])) (calmer (isBad s (st .labels) v));
           counted = count-more v (st .moved) n in-n (go .new) (on .counted) ∙ sym (length-append (st .moved) (v ∷ []));
           apart = apart-more v (st .moved) (on .apart) (go .new);
           inside = at-more v (st .moved) (λ (x : ℕ). x < n) (on .inside) in-n;
@@ -274,12 +274,12 @@ module _ (s : Setting) (n : ℕ) (f : Fixed s n) (st : State) (labels : List ℕ
         as-state-kept = ap (λ (p : List ℕ). cond (ltb (cut (s .graph) (flip p v)) (st .least)) (length (st .moved) + 1) (st .kept)) (on .labelled)
 
         calmer : (t : Bool) → cond t (st .bad + 1) 0 ≤ length (st .moved) + 1
-        calmer true = let h = on .calm in omega arith
+        calmer true = let h = on .bad-within in omega arith
         calmer false = omega arith
 
 -- at a pass's start the code stands at the state's start
 pub stands-start :
-    (s : Setting) (n : ℕ) (f : Fixed s n) (labels : List ℕ) (gains : List ℤ) (c : Standing)
+    (s : Terms) (n : ℕ) (f : Fixed s n) (labels : List ℕ) (gains : List ℤ) (c : Standing)
     → length labels ≡ n
     → ((x : ℕ) → part labels x < 2)
     → length gains ≡ length labels
@@ -291,10 +291,10 @@ pub stands-start :
     → c .bad ≡ 0
     → Stands s n (start s labels) labels gains c
 unfolding member
-stands-start s n f labels gains c long two gl ge ld ct le kp bd = record {
+stands-start s n f labels gains c long two-labels gl ge ld ct le kp bd = record {
   labelled = refl;
   long = long;
-  two = two;
+  two-labels = two-labels;
   gained = record { long = gl; each = ge };
   loaded = ld;
   cut-is = ct;
@@ -302,7 +302,7 @@ stands-start s n f labels gains c long two gl ge ld ct le kp bd = record {
   least-low = cut-small (s .graph) labels (light f) (let a = f .rows .few in omega arith);
   kept-is = kp;
   bad-is = bd;
-  calm = omega arith;
+  bad-within = omega arith;
   counted = sum-zero n;
   apart = λ i j lt k. absurd (omega arith);
   inside = λ i k. absurd (omega arith);

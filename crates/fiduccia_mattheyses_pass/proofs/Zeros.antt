@@ -9,10 +9,10 @@ use Rattle.imbalance.specs.Load.{part}
 use Rattle.topology.specs.Rule.{Symmetric}
 use Rattle.topology.specs.Cut.{cut}
 use Rattle.topology.proofs.Gains as Gains
-use Rattle.fiduccia_mattheyses_pass.specs.Choice.{Setting, other, flip, worth, isBad}
+use Rattle.fiduccia_mattheyses_pass.specs.Choice.{Terms, other, flip, worth, isBad}
 use Rattle.fiduccia_mattheyses_pass.specs.Pass.{State, moveOn}
 
-module _ (s : Setting) where
+module _ (s : Terms) where
   -- "If its gain is 0 or less": a move of gain 0 is bad
   pub zero-is-bad : (p : List ℕ) (v : ℕ) → worth s p v ≡ pos 0 → isBad s p v ≡ true
   zero-is-bad p v z = rw z refl

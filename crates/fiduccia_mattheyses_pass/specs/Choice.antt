@@ -13,7 +13,7 @@ use Rattle.imbalance.specs.Load.{part, load}
 use Rattle.topology.specs.Graph.{Graph, gain}
 
 -- What stands still during a run: the graph, the vertex weights, the ceiling of each part, the vertices that may move, the bad limit and the move limit.
-pub record Setting : Type 0 where
+pub record Terms : Type 0 where
   pub graph : Graph
   pub weights : List ℕ
   pub ceilings : List ℕ
@@ -21,8 +21,8 @@ pub record Setting : Type 0 where
   pub badLimit : ℕ
   pub moveLimit : ℕ
 
--- the same setting, but for the move limit
-abbrev pub withMoveLimit : Setting → ℕ → Setting
+-- the same terms, but for the move limit
+abbrev pub withMoveLimit : Terms → ℕ → Terms
 withMoveLimit s k = record { graph = s .graph; weights = s .weights; ceilings = s .ceilings; movable = s .movable; badLimit = s .badLimit; moveLimit = k }
 
 -- the other of the two parts
@@ -37,7 +37,7 @@ unfoldable pub member : ℕ → List ℕ → Bool
 member v [] = false
 member v (u ∷ us) = eqb v u || member v us
 
-module _ (s : Setting) where
+module _ (s : Terms) where
   -- the gain of v's move to the other part
   unfoldable pub worth : List ℕ → ℕ → ℤ
   worth p v = gain (s .graph) p v (other (part p v))

@@ -6,7 +6,7 @@ use Prim.Native.Nat.{ℕ, zero, suc, _+_, _-_}
 use lib.ListN.{length, take}
 use lib.Dec.{ltb, leb}
 use Rattle.topology.specs.Cut.{cut}
-use Rattle.fiduccia_mattheyses_pass.specs.Choice.{Setting, flip, choice, isBad}
+use Rattle.fiduccia_mattheyses_pass.specs.Choice.{Terms, flip, choice, isBad}
 
 -- the vertices vs go to the other part, one after the other
 unfoldable pub flips : List ℕ → List ℕ → List ℕ
@@ -28,7 +28,7 @@ pub record Pass : Type 0 where
   pub least : ℕ
   pub labels : List ℕ
 
-module _ (s : Setting) where
+module _ (s : Terms) where
   -- "At a pass's start all vertices are free"
   abbrev pub start : List ℕ → State
   start p = record { labels = p; moved = []; bad = 0; least = cut (s .graph) p; kept = 0 }

@@ -2,5 +2,5 @@
 pub mod Bounds
 pub mod Scan
 pub mod Standing
-pub mod Turn
+pub mod Look
 pub mod Update

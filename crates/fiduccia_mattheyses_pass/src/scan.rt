@@ -6,7 +6,7 @@ ghost use lib.ListN.{length};
 ghost use lib.Signed.{ltZ};
 ghost use Rattle.imbalance.specs.Limit.{mostVertices};
 ghost use Rattle.fiduccia_mattheyses_pass.specs.inner.Scan.{isFree, slotOf, beats, loadAfter, ceilingAt, pickBelow, nextOf};
-ghost use Rattle.fiduccia_mattheyses_pass.specs.inner.Turn.{lesser, roomOf, roomsOf, liftsOf, Sighted, turned, turns, nobody, Holds, Swept};
+ghost use Rattle.fiduccia_mattheyses_pass.specs.inner.Look.{lesser, roomOf, roomsOf, liftsOf, Sighted, looked, looks, nobody, Holds, Swept};
 ghost use Rattle.fiduccia_mattheyses_pass.specs.inner.Standing.{Scannable};
 use crate::Held;
 use crate::Limits;
@@ -97,8 +97,8 @@ fn lifts_of(loads: Loads) -> [u64; 2]
     [loads.at[1] - least, loads.at[0] - least]
 }
 
-// The turn of vertex from + step. Most vertices end at the first test, by their gain. Of those that tie with what is held most end at the second, by their weight alone: on the lesser of the two loads they would still not be lighter. Only the rest have their label read. One past the vertex is held, and not the vertex, as the sum of from and step would then be worked out for each vertex.
-fn turn(
+// The look at vertex from + step. Most vertices end at the first test, by their gain. Of those that tie with what is held most end at the second, by their weight alone: on the lesser of the two loads they would still not be lighter. Only the rest have their label read. One past the vertex is held, and not the vertex, as the sum of from and step would then be worked out for each vertex.
+fn look(
     held: Held,
     gains: &[i64],
     labels: &[u32],
@@ -109,7 +109,7 @@ fn turn(
     step: usize,
 ) -> Held
     requires { ⌜ Sighted (now gains) (now labels) (now weights) (now rooms) (now lifts) × (from + step < length (now labels)) ⌝ }
-    ensures { λ r. ⌜ r ≡ turned (now (rooms .entry)) (now (lifts .entry)) (now (gains .entry)) (now (labels .entry)) (now (weights .entry)) held (from + step) ⌝ }
+    ensures { λ r. ⌜ r ≡ looked (now (rooms .entry)) (now (lifts .entry)) (now (gains .entry)) (now (labels .entry)) (now (weights .entry)) held (from + step) ⌝ }
 {
     let v = from + step;
     let g = gains[v];
@@ -137,7 +137,7 @@ fn turn(
     held
 }
 
-// The turns of twenty vertices, so that the loop's own instructions are shared by twenty.
+// The looks at twenty vertices, so that the loop's own instructions are shared by twenty.
 fn twenty(
     held: Held,
     gains: &[i64],
@@ -148,28 +148,28 @@ fn twenty(
     from: usize,
 ) -> Held
     requires { ⌜ Sighted (now gains) (now labels) (now weights) (now rooms) (now lifts) × (from + 20 ≤ length (now labels)) ⌝ }
-    ensures { λ r. ⌜ r ≡ turns (now (rooms .entry)) (now (lifts .entry)) (now (gains .entry)) (now (labels .entry)) (now (weights .entry)) held from 20 ⌝ }
+    ensures { λ r. ⌜ r ≡ looks (now (rooms .entry)) (now (lifts .entry)) (now (gains .entry)) (now (labels .entry)) (now (weights .entry)) held from 20 ⌝ }
 {
-    let held_1 = turn(held, gains, labels, weights, rooms, lifts, from, 0);
-    let held_2 = turn(held_1, gains, labels, weights, rooms, lifts, from, 1);
-    let held_3 = turn(held_2, gains, labels, weights, rooms, lifts, from, 2);
-    let held_4 = turn(held_3, gains, labels, weights, rooms, lifts, from, 3);
-    let held_5 = turn(held_4, gains, labels, weights, rooms, lifts, from, 4);
-    let held_6 = turn(held_5, gains, labels, weights, rooms, lifts, from, 5);
-    let held_7 = turn(held_6, gains, labels, weights, rooms, lifts, from, 6);
-    let held_8 = turn(held_7, gains, labels, weights, rooms, lifts, from, 7);
-    let held_9 = turn(held_8, gains, labels, weights, rooms, lifts, from, 8);
-    let held_10 = turn(held_9, gains, labels, weights, rooms, lifts, from, 9);
-    let held_11 = turn(held_10, gains, labels, weights, rooms, lifts, from, 10);
-    let held_12 = turn(held_11, gains, labels, weights, rooms, lifts, from, 11);
-    let held_13 = turn(held_12, gains, labels, weights, rooms, lifts, from, 12);
-    let held_14 = turn(held_13, gains, labels, weights, rooms, lifts, from, 13);
-    let held_15 = turn(held_14, gains, labels, weights, rooms, lifts, from, 14);
-    let held_16 = turn(held_15, gains, labels, weights, rooms, lifts, from, 15);
-    let held_17 = turn(held_16, gains, labels, weights, rooms, lifts, from, 16);
-    let held_18 = turn(held_17, gains, labels, weights, rooms, lifts, from, 17);
-    let held_19 = turn(held_18, gains, labels, weights, rooms, lifts, from, 18);
-    turn(held_19, gains, labels, weights, rooms, lifts, from, 19)
+    let held_1 = look(held, gains, labels, weights, rooms, lifts, from, 0);
+    let held_2 = look(held_1, gains, labels, weights, rooms, lifts, from, 1);
+    let held_3 = look(held_2, gains, labels, weights, rooms, lifts, from, 2);
+    let held_4 = look(held_3, gains, labels, weights, rooms, lifts, from, 3);
+    let held_5 = look(held_4, gains, labels, weights, rooms, lifts, from, 4);
+    let held_6 = look(held_5, gains, labels, weights, rooms, lifts, from, 5);
+    let held_7 = look(held_6, gains, labels, weights, rooms, lifts, from, 6);
+    let held_8 = look(held_7, gains, labels, weights, rooms, lifts, from, 7);
+    let held_9 = look(held_8, gains, labels, weights, rooms, lifts, from, 8);
+    let held_10 = look(held_9, gains, labels, weights, rooms, lifts, from, 9);
+    let held_11 = look(held_10, gains, labels, weights, rooms, lifts, from, 10);
+    let held_12 = look(held_11, gains, labels, weights, rooms, lifts, from, 11);
+    let held_13 = look(held_12, gains, labels, weights, rooms, lifts, from, 12);
+    let held_14 = look(held_13, gains, labels, weights, rooms, lifts, from, 13);
+    let held_15 = look(held_14, gains, labels, weights, rooms, lifts, from, 14);
+    let held_16 = look(held_15, gains, labels, weights, rooms, lifts, from, 15);
+    let held_17 = look(held_16, gains, labels, weights, rooms, lifts, from, 16);
+    let held_18 = look(held_17, gains, labels, weights, rooms, lifts, from, 17);
+    let held_19 = look(held_18, gains, labels, weights, rooms, lifts, from, 18);
+    look(held_19, gains, labels, weights, rooms, lifts, from, 19)
 }
 
 // The best of every 64th vertex, the first of which is given: with its gain and load to begin from, few vertices of the whole scan come to be held on the way, even where the gains rise from vertex to vertex.
@@ -191,7 +191,7 @@ fn sample(
     };
     let mut next = first;
     while next < labels.len() {
-        held = turn(held, gains, labels, weights, rooms, lifts, next, 0);
+        held = look(held, gains, labels, weights, rooms, lifts, next, 0);
         next += 64;
     }
     held
@@ -235,7 +235,7 @@ fn sweep(
     let mut held = blocks_of_twenty(start, gains, labels, weights, rooms, lifts, blocks);
     let mut next = blocks * 20;
     while next < labels.len() {
-        held = turn(held, gains, labels, weights, rooms, lifts, next, 0);
+        held = look(held, gains, labels, weights, rooms, lifts, next, 0);
         next += 1;
     }
     held

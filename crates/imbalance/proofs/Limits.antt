@@ -8,9 +8,9 @@ use lib.ListN.{length, getD}
 use lib.Dec.{ltb}
 use borrow.Author.Tests.{lt-ltb, le-ltb, ltb-false}
 use Rattle.lists.specs.Sum.{sum, total}
-use Rattle.lists.specs.All.{some}
+use Rattle.lists.specs.All.{any}
 use Rattle.lists.proofs.Totals.{sum-grows}
-use Rattle.lists.proofs.Alls.{some-holds, some-at}
+use Rattle.lists.proofs.Alls.{any-holds, any-at}
 use Rattle.imbalance.specs.Limit.{mostWeight, heavy, labelAbove}
 
 -- the first n weights, summed
@@ -19,7 +19,7 @@ totalTo n weights = sum n (λ i. getD weights i 0)
 
 -- one of the first n labels is above `most`
 abbrev pub aboveTo : ℕ → ℕ → List ℕ → Bool
-aboveTo n most labels = some n (λ v. ltb most (getD labels v 0))
+aboveTo n most labels = any n (λ v. ltb most (getD labels v 0))
 
 -- no part of the list weighs more than the whole
 pub total-holds : (weights : List ℕ) (n : ℕ) → n ≤ length weights → totalTo n weights ≤ total weights
@@ -48,12 +48,12 @@ light-whole weights n s h e l =
 -- where number 6's test fails, every label is at most `most`
 pub label-most : (most : ℕ) (labels : List ℕ) → labelAbove most labels ≡ false → (v : ℕ) → v < length labels → getD labels v 0 ≤ most
 unfolding labelAbove
-label-most most labels h v l = ltb-false most (getD labels v 0) (some-at (length labels) v (λ u. ltb most (getD labels u 0)) h l)
+label-most most labels h v l = ltb-false most (getD labels v 0) (any-at (length labels) v (λ u. ltb most (getD labels u 0)) h l)
 
 -- a label above `most` decides the test
 pub label-over : (most : ℕ) (labels : List ℕ) (v : ℕ) → v < length labels → most < getD labels v 0 → true ≡ labelAbove most labels
 unfolding labelAbove
-label-over most labels v l h = sym (some-holds (length labels) v (λ u. ltb most (getD labels u 0)) l (lt-ltb most (getD labels v 0) h))
+label-over most labels v l h = sym (any-holds (length labels) v (λ u. ltb most (getD labels u 0)) l (lt-ltb most (getD labels v 0) h))
 
 -- all labels passed decide it too
 pub label-none : (most : ℕ) (labels : List ℕ) (n : ℕ) → n ≡ length labels → aboveTo n most labels ≡ false → false ≡ labelAbove most labels

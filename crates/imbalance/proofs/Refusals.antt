@@ -12,8 +12,8 @@ use borrow.Author.Tests.{le-ltb, ltb-false, eqb-true, eq-eqb, not-false}
 use Rattle.lists.specs.Sum.{total}
 use Rattle.lists.specs.Smallest.{Smallest}
 use Rattle.lists.proofs.Bools.{and-left, and-right, or-false}
-use Rattle.lists.proofs.Alls.{some-nowhere}
-use Rattle.lists.proofs.Smallests.{at-most, equal, contrary, passed, over, tested, smallest}
+use Rattle.lists.proofs.Alls.{any-nowhere}
+use Rattle.lists.proofs.Smallests.{at-most, equal, contrary, passed, unruled, tested, smallest}
 use Rattle.imbalance.specs.Limit.{mostVertices, mostWeight, heavy, labelAbove}
 use Rattle.imbalance.specs.Ceiling.{zero64, most64, legalE, unfitChoice}
 use Rattle.imbalance.specs.Number.{loadsNumber, loadsAnswer}
@@ -29,7 +29,7 @@ light weights = at-most mostWeight (total weights)
 pub labelled : (most : ℕ) (labels : List ℕ) → (labelAbove most labels ≡ false) ↔ NoneAbove most labels
 unfolding labelAbove
 labelled most labels =
-    (label-most most labels, λ k. some-nowhere (length labels) (λ v. ltb most (getD labels v 0)) (λ v l. le-ltb most (getD labels v 0) (k v l)))
+    (label-most most labels, λ k. any-nowhere (length labels) (λ v. ltb most (getD labels v 0)) (λ v l. le-ltb most (getD labels v 0) (k v l)))
 
 pub fit-choice : (asked : Ceiling) → (unfitChoice asked ≡ false) ↔ FitChoice asked
 unfolding unfitChoice legalE
@@ -71,8 +71,8 @@ loads-refusal weights labels r e =
         smallest rules (loadsNumber weights labels) tt
         (tested rules 1 7 _ (not (eqb (length weights) n)) (omega arith) (omega arith) (contrary (eqb (length weights) n) (equal (length weights) n))
         (tested rules 2 7 _ (ltb mostVertices n) (omega arith) (omega arith) (at-most mostVertices n)
-        (over rules 3 7 _ tt
-        (over rules 4 7 _ tt
+        (unruled rules 3 7 _ tt
+        (unruled rules 4 7 _ tt
         (tested rules 5 7 _ (heavy weights) (omega arith) (omega arith) (light weights)
         (tested rules 6 7 0 (labelAbove 15 labels) (omega arith) (omega arith) (labelled 15 labels)
         (passed rules 7)))))))

@@ -5,7 +5,7 @@ use Prim.Native.Nat.{ℕ}
 use lib.ListN.{length, getD}
 use lib.Dec.{ltb}
 use Rattle.lists.specs.Sum.{total}
-use Rattle.lists.specs.All.{some}
+use Rattle.lists.specs.All.{any}
 
 -- "n at most 4,096"
 abbrev pub mostVertices : ℕ
@@ -29,4 +29,4 @@ heavy ws = ltb mostWeight (total ws)
 
 -- number 6's test: some label is above `most`
 unfoldable pub labelAbove : ℕ → List ℕ → Bool
-labelAbove most labels = some (length labels) (λ v. ltb most (getD labels v 0))
+labelAbove most labels = any (length labels) (λ v. ltb most (getD labels v 0))

@@ -7,14 +7,14 @@ use native.Mathlib.Omega.{arith}
 use lib.ListN.{length, getD}
 use lib.IntN.{ℤ, pos, natAbs}
 use lib.Signed.{mag, natAbs-le}
-use Rattle.kernighan_lin_pass.specs.Gain.{added, told}
-use Rattle.kernighan_lin_pass.specs.Pass.{Setting, Swap, State, start, pair, after, walk}
+use Rattle.kernighan_lin_pass.specs.Gain.{added, updated}
+use Rattle.kernighan_lin_pass.specs.Pass.{Terms, Swap, State, start, pair, after, walk}
 use Rattle.kernighan_lin_pass.specs.inner.Steps.{Fit, Within, freshBound, swapBound, mostSwaps, mostGain}
-use Rattle.kernighan_lin_pass.proofs.Within.{table-within, added-within, told-within}
+use Rattle.kernighan_lin_pass.proofs.Within.{table-within, added-within, updated-within}
 use Rattle.kernighan_lin_pass.proofs.Swaps.{length-swapped}
 use Rattle.kernighan_lin_pass.proofs.Walks.{walk-none, walk-stop, walk-step, pair-below}
 
-module _ (s : Setting) where
+module _ (s : Terms) where
   -- each swap changes a gain by at most `swapBound`
   grows : (k m : ℕ) (st : State) → Fit (length (st .labels)) (s .graph) → Within m (st .gains) → Fit (length (walk s k st .labels)) (s .graph) × Within (m + swapBound * k) (walk s k st .gains)
   unfolding after
@@ -27,7 +27,7 @@ module _ (s : Setting) where
       go none e ih = rw (walk-stop s (suc k) st e) (fit, λ u. omega (arith, h u))
       go (some t) e ih =
           let one = pair-below s (st .labels) (st .gains) (st .locks) t e .0 in
-          let h′ = told-within (s .graph) (st .labels) fit (m + freshBound) (added (s .graph) (st .labels) (st .gains)) (added-within (s .graph) (st .labels) fit m (st .gains) h) (t .one) one in
+          let h′ = updated-within (s .graph) (st .labels) fit (m + freshBound) (added (s .graph) (st .labels) (st .gains)) (added-within (s .graph) (st .labels) fit m (st .gains) h) (t .one) one in
           let r = ih (after s st t) (rw (length-swapped (st .labels) t) fit) (λ u. omega (arith, h′ u)) in
           rw (walk-step s k st t e) (r .0, λ u. omega (arith, r .1 u))
 
@@ -52,8 +52,8 @@ module _ (s : Setting) where
         small (getD fresh-gains u (pos 0)) (omega (arith, h u))
 
     -- and after the neighbours are told
-    pub told-small : (v : ℕ) → v < length (here .labels) → (u : ℕ) → natAbs (getD (told (s .graph) (here .labels) v fresh-gains) u (pos 0)) < mostGain
-    told-small v l u =
+    pub updated-small : (v : ℕ) → v < length (here .labels) → (u : ℕ) → natAbs (getD (updated (s .graph) (here .labels) v fresh-gains) u (pos 0)) < mostGain
+    updated-small v l u =
         let h = added-within (s .graph) (here .labels) (reached .0) (0 + swapBound * k) (here .gains) (reached .1) in
-        let t = told-within (s .graph) (here .labels) (reached .0) (0 + swapBound * k + freshBound) fresh-gains h v l in
-        small (getD (told (s .graph) (here .labels) v fresh-gains) u (pos 0)) (omega (arith, t u))
+        let t = updated-within (s .graph) (here .labels) (reached .0) (0 + swapBound * k + freshBound) fresh-gains h v l in
+        small (getD (updated (s .graph) (here .labels) v fresh-gains) u (pos 0)) (omega (arith, t u))

@@ -13,22 +13,22 @@ use Rattle.lists.specs.Sum.{sum, weigh}
 use Rattle.lists.proofs.Totals.{sum-change}
 use Rattle.imbalance.specs.Load.{part, load}
 use Rattle.topology.specs.Cut.{cut}
-use Rattle.kernighan_lin_pass.specs.Pass.{Setting, Swap, State, swapped, start, pair, after, walk, pass}
+use Rattle.kernighan_lin_pass.specs.Pass.{Terms, Swap, State, swapped, start, pair, after, walk, pass}
 use Rattle.kernighan_lin_pass.proofs.Swaps.{length-swapped}
 use Rattle.kernighan_lin_pass.proofs.Walks.{walk-none, walk-stop, walk-step, pair-below}
 use Rattle.kernighan_lin.specs.Run.{run}
-use Rattle.kernighan_lin.proofs.Runs.{run-on, run-ends, run-out}
+use Rattle.kernighan_lin.proofs.Running.{run-on, run-ends, run-out}
 
 -- the weights f of the vertices in part c, summed
-abbrev pub held : (ℕ → ℕ) → ℕ → List ℕ → ℕ
-held f c p = sum (length p) (λ v. weigh (eqb (part p v) c) (f v))
+abbrev pub partSum : (ℕ → ℕ) → ℕ → List ℕ → ℕ
+partSum f c p = sum (length p) (λ v. weigh (eqb (part p v) c) (f v))
 
 -- how many blocks are in part c
 abbrev pub blocks : ℕ → List ℕ → ℕ
-blocks c p = held (λ v. 1) c p
+blocks c p = partSum (λ v. 1) c p
 
 -- two vertices of equal weight
-pub swap-holds : (f : ℕ → ℕ) (c : ℕ) (p : List ℕ) (t : Swap) → t .one < length p → t .two < length p → f (t .one) ≡ f (t .two) → held f c (swapped p t) ≡ held f c p
+pub swap-holds : (f : ℕ → ℕ) (c : ℕ) (p : List ℕ) (t : Swap) → t .one < length p → t .two < length p → f (t .one) ≡ f (t .two) → partSum f c (swapped p t) ≡ partSum f c p
 unfolding swapped
 swap-holds f c p t one two e =
     let n = length p in
@@ -66,7 +66,7 @@ swap-holds f c p t one two e =
     e₂ = ap (weigh (eqb (part p (t .one)) c)) e
 
 -- what every swap keeps
-module _ (P : List ℕ → Type 0) (keep : (p : List ℕ) (t : Swap) → t .one < length p → t .two < length p → P p → P (swapped p t)) (s : Setting) where
+module _ (P : List ℕ → Type 0) (keep : (p : List ℕ) (t : Swap) → t .one < length p → t .two < length p → P p → P (swapped p t)) (s : Terms) where
   choose : (b : Bool) (p q : List ℕ) → P p → P q → P (cond b p q)
   choose true p q x y = x
   choose false p q x y = y
@@ -96,7 +96,7 @@ module _ (P : List ℕ → Type 0) (keep : (p : List ℕ) (t : Swap) → t .one 
       go true e ih = rw (run-on s w k i p (ltb-true (cut (s .graph) (pass s w p)) (cut (s .graph) p) e)) ih
       go false e ih = rw (run-ends s w k i p (ltb-false (cut (s .graph) (pass s w p)) (cut (s .graph) p) e)) (pass-keeps w p x)
 
-module _ (s : Setting) (w k i : ℕ) (p : List ℕ) (c : ℕ) where
+module _ (s : Terms) (w k i : ℕ) (p : List ℕ) (c : ℕ) where
   -- "each swap keeps the count of blocks in each part"
   pub run-keeps-blocks : blocks c (run s w k i p .labels) ≡ blocks c p
   run-keeps-blocks = run-keeps (λ q. blocks c q ≡ blocks c p) (λ q t one two e. swap-holds (λ v. 1) c q t one two refl ∙ e) s w k i p refl
@@ -105,6 +105,6 @@ module _ (s : Setting) (w k i : ℕ) (p : List ℕ) (c : ℕ) where
   pub run-keeps-loads : (ws : List ℕ) (x : ℕ) → ((v : ℕ) → v < length p → getD ws v 0 ≡ x) → load ws (run s w k i p .labels) c ≡ load ws p c
   unfolding load
   run-keeps-loads ws x same =
-      run-keeps (λ q. (length q ≡ length p) × (held (λ v. getD ws v 0) c q ≡ held (λ v. getD ws v 0) c p))
+      run-keeps (λ q. (length q ≡ length p) × (partSum (λ v. getD ws v 0) c q ≡ partSum (λ v. getD ws v 0) c p))
       (λ q t one two e. (let l = e .0 in (length-swapped q t ∙ l, swap-holds (λ v. getD ws v 0) c q t one two (same (t .one) (omega arith) ∙ sym (same (t .two) (omega arith))) ∙ e .1)))
       s w k i p (refl, refl) .1

@@ -15,7 +15,8 @@ use Rattle.topology.specs.Rule.{graphNumber}
 use Rattle.topology.specs.Rules.{graphRules}
 use Rattle.topology.proofs.Refusals.{graph-first}
 use Rattle.kernighan_lin.specs.declared.Report.{Report}
-use Rattle.kernighan_lin.specs.Entry.{Plan, Lent, graphOf, mislabelled, short, numberOf, number, reported, refused, answer, Refined}
+use Rattle.topology.specs.Given.{graphOf}
+use Rattle.kernighan_lin.specs.Entry.{Given, Lent, mislabelled, short, numberOf, number, reportOf, refused, answer, Refined}
 use Rattle.kernighan_lin.specs.Rules.{Labelled, LongEnough, rules}
 use Rattle.kernighan_lin.proofs.TwoLabels.{labelled-so}
 
@@ -29,7 +30,7 @@ long-enough l =
     let b = either-fails (ltb gains n || ltb locks n) (ltb swaps (n / 2)) (either-fails (ltb gains n) (ltb locks n) (at-most gains n) (at-most locks n)) (at-most swaps (n / 2)) in
     ((λ h. let k = b .0 h in record { gains = k .0 .0; locks = k .0 .1; swaps = k .1 }), λ k. b .1 ((k .gains, k .locks), k .swaps))
 
-number-smallest : (p : Plan) (l : Lent) → Smallest (rules p l) (number p l)
+number-smallest : (p : Given) (l : Lent) → Smallest (rules p l) (number p l)
 unfolding numberOf
 number-smallest p l =
     let n = length (l .labels) in
@@ -45,10 +46,10 @@ number-smallest p l =
     (passed (rules p l) 9)))))
 
 -- "The smallest number that applies is given; 0 only if none does": of every call of KL, one without a vertex included.
-pub refusal : (p : Plan) (l : Lent) (r : Report) (k : Lent) → Refined p l r k → Smallest (rules p l) (r .number)
-unfolding answer reported
+pub refusal : (p : Given) (l : Lent) (r : Report) (k : Lent) → Refined p l r k → Smallest (rules p l) (r .number)
+unfolding answer reportOf
 refusal p l r k d = rw (d .answered) (given (eqb (number p l) 0) refl)
   where
-    given : (b : Bool) → eqb (number p l) 0 ≡ b → Smallest (rules p l) (cond b (reported p l) (refused (number p l)) .number)
+    given : (b : Bool) → eqb (number p l) 0 ≡ b → Smallest (rules p l) (cond b (reportOf p l) (refused (number p l)) .number)
     given true e = rw (eqb-true (number p l) 0 e) at (number-smallest p l)
     given false e = number-smallest p l

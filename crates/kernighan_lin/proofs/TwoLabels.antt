@@ -9,10 +9,10 @@ use lib.ListN.{length}
 use lib.Dec.{eqb}
 use borrow.Author.Tests.{eq-eqb, ne-eqb, eqb-true, eqb-false, not-true, not-false}
 use Rattle.lists.specs.Sum.{sum, weigh}
-use Rattle.lists.specs.All.{some}
+use Rattle.lists.specs.All.{any}
 use Rattle.lists.proofs.Bools.{and-left, and-right, and-false, or-false}
 use Rattle.lists.proofs.Orders.{clash}
-use Rattle.lists.proofs.Alls.{some-holds, some-at, some-witness}
+use Rattle.lists.proofs.Alls.{any-holds, any-at, any-witness}
 use Rattle.lists.proofs.Totals.{sum-ext, sum-zero, sum-apart, sum-holds}
 use Rattle.imbalance.specs.Limit.{labelAbove}
 use Rattle.imbalance.specs.Load.{part}
@@ -55,17 +55,17 @@ module _ (n : ℕ) (f : ℕ → Bool) where
 
   -- where some are counted, one of them, and the others
   count-one : (k : ℕ) → count n f ≡ k + 1 → (s : ℕ) × (s < n) × (f s ≡ true) × (count n (without s f) ≡ k)
-  count-one k e = go (some n f) refl
+  count-one k e = go (any n f) refl
     where
-      go : (b : Bool) → some n f ≡ b → (s : ℕ) × (s < n) × (f s ≡ true) × (count n (without s f) ≡ k)
-      go true b = let w = some-witness n f b in let a = count-apart (w .0) (w .1) (w .2) in (w .0, w .1, w .2, omega arith)
-      go false b = let z = none-count (λ i l. some-at n i f b l) in absurd (omega arith)
+      go : (b : Bool) → any n f ≡ b → (s : ℕ) × (s < n) × (f s ≡ true) × (count n (without s f) ≡ k)
+      go true b = let w = any-witness n f b in let a = count-apart (w .0) (w .1) (w .2) in (w .0, w .1, w .2, omega arith)
+      go false b = let z = none-count (λ i l. any-at n i f b l) in absurd (omega arith)
 
 occurs : (labels : List ℕ) (t : ℕ) → (uses labels t ≡ true) ↔ Occurs labels t
 unfolding uses
 occurs labels t = (
-  (λ h. let w = some-witness (length labels) has h in (w .0, w .1, eqb-true (part labels (w .0)) t (w .2))),
-  λ o. some-holds (length labels) (o .0) has (o .1) (eq-eqb (part labels (o .0)) t (o .2)),
+  (λ h. let w = any-witness (length labels) has h in (w .0, w .1, eqb-true (part labels (w .0)) t (w .2))),
+  λ o. any-holds (length labels) (o .0) has (o .1) (eq-eqb (part labels (o .0)) t (o .2)),
 )
   where
     has : ℕ → Bool

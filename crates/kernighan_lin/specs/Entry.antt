@@ -7,26 +7,23 @@ use lib.ListN.{length}
 use lib.Dec.{ltb, eqb}
 use lib.IntN.{ℤ, pos}
 use Rattle.lists.specs.Sum.{sum, weigh}
-use Rattle.lists.specs.All.{some}
+use Rattle.lists.specs.All.{any}
 use Rattle.lists.specs.Fill.{filled}
 use Rattle.lists.specs.Number.{orElse}
 use Rattle.imbalance.specs.Limit.{mostPasses, labelAbove}
 use Rattle.imbalance.specs.Load.{part}
-use Rattle.topology.specs.Graph.{Graph, inRows}
+use Rattle.topology.specs.Graph.{Graph}
+use Rattle.topology.specs.Given.{GivenWith, graphOf}
 use Rattle.topology.specs.Rule.{graphNumber}
 use Rattle.topology.specs.Cut.{cut}
-use Rattle.kernighan_lin_pass.specs.Pass.{Setting}
+use Rattle.kernighan_lin_pass.specs.Pass.{Terms}
 use Rattle.kernighan_lin.specs.declared.Settings.{Settings}
 use Rattle.kernighan_lin.specs.declared.Report.{Report}
 use Rattle.kernighan_lin.specs.Run.{Run, run}
 
 -- what is only read
-pub record Plan : Type 0 where
-  pub starts : List ℕ
-  pub neighbours : List ℕ
-  pub arcs : List ℕ
-  pub weights : List ℕ
-  pub settings : Settings
+abbrev pub Given : Type 0
+Given = GivenWith Settings
 
 -- what is lent
 pub record Lent : Type 0 where
@@ -35,12 +32,9 @@ pub record Lent : Type 0 where
   pub locks : List ℕ
   pub swaps : List ℕ
 
-abbrev pub graphOf : Plan → Graph
-graphOf p = inRows (p .starts) (p .neighbours) (p .arcs)
-
 -- some vertex has label t
 unfoldable pub uses : List ℕ → ℕ → Bool
-uses labels t = some (length labels) (λ v. eqb (part labels v) t)
+uses labels t = any (length labels) (λ v. eqb (part labels v) t)
 
 -- how many different labels there are, of 0 to 15
 unfoldable pub different : List ℕ → ℕ
@@ -63,27 +57,27 @@ numberOf g weights labels gains locks swaps passes =
     (cond (short (length labels) gains locks swaps) 8 0)))
 
 -- the call's number
-abbrev pub number : Plan → Lent → ℕ
+abbrev pub number : Given → Lent → ℕ
 number p l = numberOf (graphOf p) (p .weights) (l .labels) (length (l .gains)) (length (l .locks)) (length (l .swaps)) (p .settings .passes)
 
 -- "First part is the label met first in the labels as given, for all passes": that of vertex 0. Today every vertex may move.
-abbrev pub settingOf : Plan → Lent → Setting
-settingOf p l =
+abbrev pub termsOf : Given → Lent → Terms
+termsOf p l =
     record { graph = graphOf p; movable = λ v. true; first = part (l .labels) 0; badLimit = p .settings .bad }
 
 -- the run from the labels as given
-unfoldable pub ran : Plan → Lent → Run
-ran p l = run (settingOf p l) (p .settings .swaps) (p .settings .passes) 0 (l .labels)
+unfoldable pub runOf : Given → Lent → Run
+runOf p l = run (termsOf p l) (p .settings .swaps) (p .settings .passes) 0 (l .labels)
 
 -- "Report: end, passes, first and last cut."
-unfoldable pub reported : Plan → Lent → Report
-reported p l =
+unfoldable pub reportOf : Given → Lent → Report
+reportOf p l =
     record {
       number = 0;
-      end = ran p l .end;
-      passes = ran p l .passes;
+      end = runOf p l .end;
+      passes = runOf p l .passes;
       first = cut (graphOf p) (l .labels);
-      last = cut (graphOf p) (ran p l .labels);
+      last = cut (graphOf p) (runOf p l .labels);
     }
 
 -- "A refusal .. answers a zero report": zero in every field but the number
@@ -91,25 +85,25 @@ abbrev pub refused : ℕ → Report
 refused k = record { number = k; end = 0; passes = 0; first = 0; last = 0 }
 
 -- "After a done call, the gain, move, lock and swap lists hold zeros up to the needed length and are unchanged past it."
-unfoldable pub cleared : Plan → Lent → Lent
-cleared p l =
+unfoldable pub leftBy : Given → Lent → Lent
+leftBy p l =
     record {
-      labels = ran p l .labels;
+      labels = runOf p l .labels;
       gains = filled (pos 0) (length (l .labels)) (l .gains);
       locks = filled 0 (length (l .labels)) (l .locks);
       swaps = filled 0 (length (l .labels) / 2) (l .swaps);
     }
 
 -- the answer
-unfoldable pub answer : Plan → Lent → Report
-answer p l = cond (eqb (number p l) 0) (reported p l) (refused (number p l))
+unfoldable pub answer : Given → Lent → Report
+answer p l = cond (eqb (number p l) 0) (reportOf p l) (refused (number p l))
 
 -- the lists afterwards: "A refusal writes nothing anywhere"
-unfoldable pub left : Plan → Lent → Lent
-left p l = cond (eqb (number p l) 0) (cleared p l) l
+unfoldable pub left : Given → Lent → Lent
+left p l = cond (eqb (number p l) 0) (leftBy p l) l
 
--- The promise: of a plan p, the lists l at entry, a report r and the lists k at exit.
-pub record Refined (p : Plan) (l : Lent) (r : Report) (k : Lent) : Type 0 where
+-- THE PROMISE: of what is given p, the lists l at entry, a report r and the lists k at exit.
+pub record Refined (p : Given) (l : Lent) (r : Report) (k : Lent) : Type 0 where
   pub answered : r ≡ answer p l
   pub labels : k .labels ≡ left p l .labels
   pub gains : k .gains ≡ left p l .gains

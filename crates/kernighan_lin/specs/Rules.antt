@@ -8,7 +8,8 @@ use Rattle.imbalance.specs.Limit.{mostPasses}
 use Rattle.imbalance.specs.Load.{part}
 use Rattle.imbalance.specs.Rules.{NoneAbove}
 use Rattle.topology.specs.Rules.{graphRules}
-use Rattle.kernighan_lin.specs.Entry.{Plan, Lent, graphOf}
+use Rattle.topology.specs.Given.{graphOf}
+use Rattle.kernighan_lin.specs.Entry.{Given, Lent}
 
 -- some vertex has label t
 abbrev pub Occurs : List ℕ → ℕ → Type 0
@@ -35,7 +36,7 @@ pub record LongEnough (l : Lent) : Type 0 where
   pub swaps : length (l .labels) / 2 ≤ length (l .swaps)
 
 -- 1 to 5 of the graph; 6; 7 is a "pass limit above 1,024"; 8
-abbrev pub rules : Plan → Lent → List (Type 0)
+abbrev pub rules : Given → Lent → List (Type 0)
 rules p l =
     graphRules (length (l .labels)) (p .weights) (graphOf p)
     ++ Labelled (l .labels) ∷ (p .settings .passes ≤ mostPasses) ∷ LongEnough l ∷ []

@@ -4,7 +4,7 @@ use mathlib.Core.List.{List}
 use Prim.Native.Nat.{ℕ, zero, suc, _+_}
 use lib.Dec.{ltb}
 use Rattle.topology.specs.Cut.{cut}
-use Rattle.kernighan_lin_pass.specs.Pass.{Setting, pass}
+use Rattle.kernighan_lin_pass.specs.Pass.{Terms, pass}
 
 -- What a run comes to: its end, the passes made, and the labels left.
 pub record Run : Type 0 where
@@ -12,8 +12,8 @@ pub record Run : Type 0 where
   pub passes : ℕ
   pub labels : List ℕ
 
--- at most k passes after i; "stop when not below the pass's starting cut": end 1, and 0 at the pass limit. The first part is the setting's "for all passes".
-unfoldable pub run : Setting → ℕ → ℕ → ℕ → List ℕ → Run
+-- at most k passes after i; "stop when not below the pass's starting cut": end 1, and 0 at the pass limit. The first part is the terms' "for all passes".
+unfoldable pub run : Terms → ℕ → ℕ → ℕ → List ℕ → Run
 run s swapLimit zero i p = record { end = 0; passes = i; labels = p }
 run s swapLimit (suc k) i p =
     let q = pass s swapLimit p in

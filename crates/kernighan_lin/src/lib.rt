@@ -5,9 +5,9 @@ ghost use mathlib.Core.Path.{_≡_};
 ghost use Prim.Native.Nat.{_/_, min};
 ghost use lib.ListN.{getD};
 ghost use Rattle.topology.specs.Graph.{inRows};
-ghost use Rattle.kernighan_lin_pass.specs.inner.Steps.{setting};
+ghost use Rattle.kernighan_lin_pass.specs.inner.Steps.{termsBy};
 ghost use Rattle.kernighan_lin.specs.Entry.{Refined};
-ghost use Rattle.kernighan_lin.specs.inner.Ready.{Ready, Ran};
+ghost use Rattle.kernighan_lin.specs.inner.Steps.{Ready, Ran};
 
 // The limits of a run: passes, swaps in a pass, and bad swaps.
 #[repr(C)]
@@ -40,7 +40,7 @@ fn most_swaps(limit: u32, n: usize) -> usize
 }
 
 // The passes, from labels, lists and settings that are in order. The first part is that of vertex 0, for all passes.
-fn run(
+fn make_passes(
     starts: &[u32],
     neighbours: &[u32],
     arc_weights: &[u32],
@@ -51,7 +51,7 @@ fn run(
     settings: Settings,
 ) -> Report
     requires { ⌜ Ready (inRows (now starts) (now neighbours) (now «arc_weights»)) (now labels) (now gains) (now locks) (now swaps) (settings .passes) ⌝ }
-    ensures { λ r. ⌜ Ran (setting (inRows (now (starts .entry)) (now (neighbours .entry)) (now («arc_weights» .entry))) (getD (now (labels .entry)) 0 0) (settings .bad)) (settings .swaps) (settings .passes) (now (labels .entry)) r (now (labels .exit)) ⌝ }
+    ensures { λ r. ⌜ Ran (termsBy (inRows (now (starts .entry)) (now (neighbours .entry)) (now («arc_weights» .entry))) (getD (now (labels .entry)) 0 0) (settings .bad)) (settings .swaps) (settings .passes) (now (labels .entry)) r (now (labels .exit)) ⌝ }
 {
     let first = labels[0];
     let bad = settings.bad;
@@ -136,7 +136,7 @@ pub fn kernighan_lin(
             last: 0,
         };
     }
-    let report = run(
+    let report = make_passes(
         starts,
         neighbours,
         arc_weights,

@@ -70,16 +70,16 @@ module _ (first : ℕ) (side : Bool) (p : List ℕ) (gains : List ℤ) (locks : 
   sofar v = best free (λ i u. leZ (getD gains u (pos 0)) (getD gains i (pos 0))) v
 
   -- what is held of them: the place, and the gain
-  pub record Held (v at : ℕ) (most : ℤ) : Type 0 where
+  pub record SoFar (v at : ℕ) (most : ℤ) : Type 0 where
     pub upto : v ≤ length p
     pub at-is : at ≡ placeOf (length p) (sofar v)
     pub most-is : most ≡ worthOf gains (sofar v)
 
-  pub held-none : Held 0 (length p) lowest
+  pub so-far-none : SoFar 0 (length p) lowest
   unfolding best
-  held-none = record { upto = omega arith; at-is = refl; most-is = refl }
+  so-far-none = record { upto = omega arith; at-is = refl; most-is = refl }
 
-  module _ (small : Within (2 * mostGain) gains) (v at : ℕ) (most : ℤ) (h : Held v at most) (l : v < length p) where
+  module _ (small : Within (2 * mostGain) gains) (v at : ℕ) (most : ℤ) (h : SoFar v at most) (l : v < length p) where
     abbrev offered : Option ℕ → Option ℕ
     offered o = offer (free v) (λ i u. leZ (getD gains u (pos 0)) (getD gains i (pos 0))) v o
 
@@ -103,19 +103,19 @@ module _ (first : ℕ) (side : Bool) (p : List ℕ) (gains : List ℤ) (locks : 
         go true q = rw q
         go false q = refl
 
-    pub turn-taken : free v && leZ most (getD gains v (pos 0)) ≡ true → Held (v + 1) v (getD gains v (pos 0))
-    turn-taken e =
+    pub step-taken : free v && leZ most (getD gains v (pos 0)) ≡ true → SoFar (v + 1) v (getD gains v (pos 0))
+    step-taken e =
         let o = more ∙ takes-v (sofar v) (rw (h .most-is) at e) in
         record { upto = omega arith; at-is = rw o refl; most-is = rw o refl }
 
-    pub turn-left : free v && leZ most (getD gains v (pos 0)) ≡ false → Held (v + 1) at most
-    turn-left e =
+    pub step-left : free v && leZ most (getD gains v (pos 0)) ≡ false → SoFar (v + 1) at most
+    step-left e =
         let o = more ∙ leaves-v (sofar v) (rw (h .most-is) at e) in
         record { upto = omega arith; at-is = rw o (h .at-is); most-is = rw o (h .most-is) }
 
-  pub held-all : (v at : ℕ) (most : ℤ) → Held v at most → length p ≤ v → at ≡ placeOf (length p) (largest (λ u. true) first side p gains locks)
+  pub so-far-all : (v at : ℕ) (most : ℤ) → SoFar v at most → length p ≤ v → at ≡ placeOf (length p) (largest (λ u. true) first side p gains locks)
   unfolding largest
-  held-all v at most h l =
+  so-far-all v at most h l =
       let u = h .upto in
       let e : v ≡ length p = omega arith in
       rw e at (h .at-is)

@@ -1,7 +1,7 @@
 -- Laws of a pass of KL, by subject.
 pub mod Sizes
 pub mod Bits
-pub mod Tells
+pub mod Updates
 pub mod Choices
 pub mod Within
 pub mod Pairs

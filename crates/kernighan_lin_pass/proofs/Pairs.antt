@@ -11,8 +11,8 @@ use lib.IntN.{ℤ, pos, _+ℤ_}
 use lib.Signed.{leZ}
 use Rattle.lists.proofs.Bests.{best-in}
 use Rattle.imbalance.specs.Load.{part}
-use Rattle.kernighan_lin_pass.specs.Gain.{added, told, onSide, largest}
-use Rattle.kernighan_lin_pass.specs.Pass.{Setting, Swap, pair}
+use Rattle.kernighan_lin_pass.specs.Gain.{added, updated, onSide, largest}
+use Rattle.kernighan_lin_pass.specs.Pass.{Terms, Swap, pair}
 use Rattle.kernighan_lin_pass.specs.inner.Steps.{placeOf, pairAt, Chose}
 use Rattle.kernighan_lin_pass.specs.declared.choose.Pair.{Pair}
 
@@ -31,7 +31,7 @@ pub place-some : (n v : ℕ) (o : Option ℕ) → v ≡ placeOf n o → (v ≡ n
 place-some n v none e q = absurd (q e)
 place-some n v (some u) e q = ap some (sym e)
 
-module _ (s : Setting) (p : List ℕ) (before : List ℤ) (locks : List ℕ) where
+module _ (s : Terms) (p : List ℕ) (before : List ℤ) (locks : List ℕ) where
   abbrev gains : List ℤ
   gains = added (s .graph) p before
 
@@ -39,10 +39,10 @@ module _ (s : Setting) (p : List ℕ) (before : List ℤ) (locks : List ℕ) whe
   choice-one = largest (s .movable) (s .first) true p gains locks
 
   abbrev choice-two : ℕ → Option ℕ
-  choice-two v = largest (s .movable) (s .first) false p (told (s .graph) p v gains) locks
+  choice-two v = largest (s .movable) (s .first) false p (updated (s .graph) p v gains) locks
 
   abbrev stop : ℕ → ℕ → Bool
-  stop v w = leZ (getD gains v (pos 0) +ℤ getD (told (s .graph) p v gains) w (pos 0)) (pos 0) && eqb (s .badLimit) 0
+  stop v w = leZ (getD gains v (pos 0) +ℤ getD (updated (s .graph) p v gains) w (pos 0)) (pos 0) && eqb (s .badLimit) 0
 
   -- "a part has no unlocked vertex left"
   pub pair-one-out : choice-one ≡ none → pair s p before locks ≡ none
@@ -58,7 +58,7 @@ module _ (s : Setting) (p : List ℕ) (before : List ℤ) (locks : List ℕ) whe
   pair-stops v w e f t = rw (e, pair) (rw f (rw t))
 
   -- "If the two sum to 0 or less and the bad limit is 0, the pass ends": a sum of 0 is bad, so such a pair is not swapped.
-  pub zero-is-bad : (v w : ℕ) → choice-one ≡ some v → choice-two v ≡ some w → getD gains v (pos 0) +ℤ getD (told (s .graph) p v gains) w (pos 0) ≡ pos 0 → s .badLimit ≡ 0 → pair s p before locks ≡ none
+  pub zero-is-bad : (v w : ℕ) → choice-one ≡ some v → choice-two v ≡ some w → getD gains v (pos 0) +ℤ getD (updated (s .graph) p v gains) w (pos 0) ≡ pos 0 → s .badLimit ≡ 0 → pair s p before locks ≡ none
   zero-is-bad v w e f z b = pair-stops v w e f (rw (z, b) refl)
 
   pub pair-goes : (v w : ℕ) → choice-one ≡ some v → choice-two v ≡ some w → stop v w ≡ false → pair s p before locks ≡ some (record { one = v; two = w })
@@ -97,11 +97,11 @@ module _ (s : Setting) (p : List ℕ) (before : List ℤ) (locks : List ℕ) whe
       clash : (t : Swap) → _≡_ {A = Option Swap} none (some t) → _≡_ {A = ℕ} 0 1
       clash t f = cc
 
-  pub chose-some : (v w : ℕ) (left : List ℤ) → pair s p before locks ≡ some (record { one = v; two = w }) → left ≡ told (s .graph) p v gains → Chose s p before locks (record { one = v; two = w }) left
+  pub chose-some : (v w : ℕ) (left : List ℤ) → pair s p before locks ≡ some (record { one = v; two = w }) → left ≡ updated (s .graph) p v gains → Chose s p before locks (record { one = v; two = w }) left
   chose-some v w left e q =
       record {
         pair-is = ap (pairAt (length p)) (sym e);
-        gains-are = λ t f. q ∙ ap (λ (x : ℕ). told (s .graph) p x gains) (same t (sym e ∙ f));
+        gains-are = λ t f. q ∙ ap (λ (x : ℕ). updated (s .graph) p x gains) (same t (sym e ∙ f));
       }
     where
       same : (t : Swap) → some (record { one = v; two = w }) ≡ some t → v ≡ t .one

@@ -14,41 +14,41 @@ use Rattle.lists.proofs.Tables.{length-table}
 use Rattle.imbalance.specs.Limit.{mostVertices}
 use Rattle.topology.specs.Graph.{Graph}
 use Rattle.topology.specs.Cut.{cut}
-use Rattle.kernighan_lin_pass.specs.Gain.{added, told}
-use Rattle.kernighan_lin_pass.specs.Pass.{Setting, Swap, State, swapped, start, pair, after, next, walk}
-use Rattle.kernighan_lin_pass.specs.inner.Steps.{Fit, Within, freshBound, swapBound, mostSwaps, mostGain, pairAt, codeOf, swapOf, Coded, back, Started, Ended}
+use Rattle.kernighan_lin_pass.specs.Gain.{added, updated}
+use Rattle.kernighan_lin_pass.specs.Pass.{Terms, Swap, State, swapped, start, pair, after, next, walk}
+use Rattle.kernighan_lin_pass.specs.inner.Steps.{Fit, Within, freshBound, swapBound, mostSwaps, mostGain, pairAt, codeOf, swapOf, Coded, back, WalkAsked, WalkDone}
 use Rattle.kernighan_lin_pass.specs.declared.choose.Pair.{Pair}
-use Rattle.kernighan_lin_pass.proofs.Within.{table-within, added-within, told-within}
+use Rattle.kernighan_lin_pass.proofs.Within.{table-within, added-within, updated-within}
 use Rattle.kernighan_lin_pass.proofs.Pairs.{largest-in, pair-in}
 use Rattle.kernighan_lin_pass.proofs.Swaps.{length-swapped}
 use Rattle.kernighan_lin_pass.proofs.Backs.{swap-twice, read-back, back-same, back-none, back-more}
 
 -- the walk ends where there is no pair
-pub walk-stop : (s : Setting) (k : ℕ) (st : State) → pair s (st .labels) (st .gains) (st .locks) ≡ none → walk s k st ≡ st
+pub walk-stop : (s : Terms) (k : ℕ) (st : State) → pair s (st .labels) (st .gains) (st .locks) ≡ none → walk s k st ≡ st
 unfolding walk next
 walk-stop s zero st e = refl
 walk-stop s (suc k) st e = rw (e, walk)
 
-pub walk-step : (s : Setting) (k : ℕ) (st : State) (t : Swap) → pair s (st .labels) (st .gains) (st .locks) ≡ some t → walk s (suc k) st ≡ walk s k (after s st t)
+pub walk-step : (s : Terms) (k : ℕ) (st : State) (t : Swap) → pair s (st .labels) (st .gains) (st .locks) ≡ some t → walk s (suc k) st ≡ walk s k (after s st t)
 unfolding walk next
 walk-step s k st t e = rw (e, walk)
 
-pub walk-none : (s : Setting) (k : ℕ) (st : State) → k ≡ 0 → walk s k st ≡ st
+pub walk-none : (s : Terms) (k : ℕ) (st : State) → k ≡ 0 → walk s k st ≡ st
 unfolding walk
 walk-none s k st e = rw e
 
-length-told : (g : Graph) (p : List ℕ) (v : ℕ) (gains : List ℤ) → length (told g p v gains) ≡ length p
-unfolding told
-length-told g p v gains = length-table (length p) _
+length-updated : (g : Graph) (p : List ℕ) (v : ℕ) (gains : List ℤ) → length (updated g p v gains) ≡ length p
+unfolding updated
+length-updated g p v gains = length-table (length p) _
 
 -- a pair is two of the vertices
-pub pair-below : (s : Setting) (p : List ℕ) (before : List ℤ) (locks : List ℕ) (t : Swap) → pair s p before locks ≡ some t → (t .one < length p) × (t .two < length p)
+pub pair-below : (s : Terms) (p : List ℕ) (before : List ℤ) (locks : List ℕ) (t : Swap) → pair s p before locks ≡ some t → (t .one < length p) × (t .two < length p)
 pair-below s p before locks t e =
     let c = pair-in s p before locks t e in
-    (largest-in (s .movable) (s .first) true p (added (s .graph) p before) locks (t .one) (c .0) .0, largest-in (s .movable) (s .first) false p (told (s .graph) p (t .one) (added (s .graph) p before)) locks (t .two) (c .1) .0)
+    (largest-in (s .movable) (s .first) true p (added (s .graph) p before) locks (t .one) (c .0) .0, largest-in (s .movable) (s .first) false p (updated (s .graph) p (t .one) (added (s .graph) p before)) locks (t .two) (c .1) .0)
 
 -- what the answer says of the pair
-pub answer-none : (s : Setting) (p : List ℕ) (before : List ℤ) (locks : List ℕ) (r : Pair) → r ≡ pairAt (length p) (pair s p before locks) → r .one ≡ length p → pair s p before locks ≡ none
+pub answer-none : (s : Terms) (p : List ℕ) (before : List ℤ) (locks : List ℕ) (r : Pair) → r ≡ pairAt (length p) (pair s p before locks) → r .one ≡ length p → pair s p before locks ≡ none
 answer-none s p before locks r e q = go (pair s p before locks) refl e
   where
     go : (o : Option Swap) → pair s p before locks ≡ o → r ≡ pairAt (length p) o → o ≡ none
@@ -58,7 +58,7 @@ answer-none s p before locks r e q = go (pair s p before locks) refl e
         let k : r .one ≡ t .one = ap (λ (x : Pair). x .one) g in
         absurd (omega arith)
 
-pub answer-some : (s : Setting) (p : List ℕ) (before : List ℤ) (locks : List ℕ) (r : Pair) → r ≡ pairAt (length p) (pair s p before locks) → (r .one ≡ length p → ⊥) → pair s p before locks ≡ some (record { one = r .one; two = r .two })
+pub answer-some : (s : Terms) (p : List ℕ) (before : List ℤ) (locks : List ℕ) (r : Pair) → r ≡ pairAt (length p) (pair s p before locks) → (r .one ≡ length p → ⊥) → pair s p before locks ≡ some (record { one = r .one; two = r .two })
 answer-some s p before locks r e q = go (pair s p before locks) e
   where
     go : (o : Option Swap) → r ≡ pairAt (length p) o → o ≡ some (record { one = r .one; two = r .two })
@@ -66,7 +66,7 @@ answer-some s p before locks r e q = go (pair s p before locks) e
     go (some t) g = rw g refl
 
 -- Where the code stands after k swaps.
-pub record On (s : Setting) (limit : ℕ) (p₀ : List ℕ) (k : ℕ) (labels : List ℕ) (gains : List ℤ) (locks codes : List ℕ) (cur least kept : ℕ) : Type 0 where
+pub record On (s : Terms) (limit : ℕ) (p₀ : List ℕ) (k : ℕ) (labels : List ℕ) (gains : List ℤ) (locks codes : List ℕ) (cur least kept : ℕ) : Type 0 where
   pub upto : k ≤ limit
   pub long : length labels ≡ length p₀
   pub gains-long : length gains ≡ length p₀
@@ -80,11 +80,11 @@ pub record On (s : Setting) (limit : ℕ) (p₀ : List ℕ) (k : ℕ) (labels : 
   pub back-is : back codes k (k - kept) labels ≡ best
   pub rest : walk s (limit - k) (record { labels = labels; gains = gains; locks = locks; made = k; kept = best }) ≡ walk s limit (start s p₀)
 
-module _ (s : Setting) (limit : ℕ) (p₀ : List ℕ) (fit : Fit (length p₀) (s .graph)) where
+module _ (s : Terms) (limit : ℕ) (p₀ : List ℕ) (fit : Fit (length p₀) (s .graph)) where
   -- before the first swap
-  pub on-start : (gains : List ℤ) (locks codes : List ℕ) (room before : ℕ) → Started s p₀ gains locks room limit before → On s limit p₀ 0 p₀ gains locks codes before before 0
+  pub on-start : (gains : List ℤ) (locks codes : List ℕ) (places before : ℕ) → WalkAsked s p₀ gains locks places limit before → On s limit p₀ 0 p₀ gains locks codes before before 0
   unfolding start
-  on-start gains locks codes room before h =
+  on-start gains locks codes places before h =
       record {
         upto = omega arith;
         long = refl;
@@ -110,7 +110,7 @@ module _ (s : Setting) (limit : ℕ) (p₀ : List ℕ) (fit : Fit (length p₀) 
     pub gains-small : limit ≤ mostSwaps → Within mostGain gains
     gains-small few u = let k′ = on .upto in omega (arith, on .within u)
 
-    ended : (labels′ : List ℕ) → labels′ ≡ labels → here ≡ walk s limit (start s p₀) → Ended s limit p₀ labels′ codes (record { made = k; kept = kept; least = least })
+    ended : (labels′ : List ℕ) → labels′ ≡ labels → here ≡ walk s limit (start s p₀) → WalkDone s limit p₀ labels′ codes (record { made = k; kept = kept; least = least })
     ended labels′ f e =
         let b : on .best ≡ walk s limit (start s p₀) .kept = ap (λ (x : State). x .kept) e in
         record {
@@ -123,19 +123,19 @@ module _ (s : Setting) (limit : ℕ) (p₀ : List ℕ) (fit : Fit (length p₀) 
         }
 
     -- the swaps are all made
-    pub on-full : limit ≤ k → Ended s limit p₀ labels codes (record { made = k; kept = kept; least = least })
+    pub on-full : limit ≤ k → WalkDone s limit p₀ labels codes (record { made = k; kept = kept; least = least })
     on-full l = let r : limit - k ≡ 0 = omega arith in ended labels refl (sym (walk-none s (limit - k) here r) ∙ on .rest)
 
     -- or there is no pair
-    pub on-none : pair s labels gains locks ≡ none → Ended s limit p₀ labels codes (record { made = k; kept = kept; least = least })
+    pub on-none : pair s labels gains locks ≡ none → WalkDone s limit p₀ labels codes (record { made = k; kept = kept; least = least })
     on-none e = ended labels refl (sym (walk-stop s (limit - k) here e) ∙ on .rest)
 
-    module _ (lk : k < limit) (t : Swap) (e : pair s labels gains locks ≡ some t) (few : length p₀ ≤ mostVertices) (room : k < length codes) where
+    module _ (lk : k < limit) (t : Swap) (e : pair s labels gains locks ≡ some t) (few : length p₀ ≤ mostVertices) (places : k < length codes) where
       abbrev labels′ : List ℕ
       labels′ = swapped labels t
 
       abbrev gains′ : List ℤ
-      gains′ = told (s .graph) labels (t .one) (added (s .graph) labels gains)
+      gains′ = updated (s .graph) labels (t .one) (added (s .graph) labels gains)
 
       abbrev locks′ : List ℕ
       locks′ = set (set locks (t .one) 1) (t .two) 1
@@ -152,7 +152,7 @@ module _ (s : Setting) (limit : ℕ) (p₀ : List ℕ) (fit : Fit (length p₀) 
           let l = below .1 in
           let q = on .long in
           let r = read-back (t .one) (t .two) (omega arith) in
-          ap swapOf (getD-set-same codes k (codeOf t) 0 room) ∙ (λ i. record { one = r .0 i; two = r .1 i })
+          ap swapOf (getD-set-same codes k (codeOf t) 0 places) ∙ (λ i. record { one = r .0 i; two = r .1 i })
 
       coded′ : Coded (length p₀) (k + 1) codes′
       coded′ = record { one = λ i l. one i l (eqb i k) refl; two = λ i l. two i l (eqb i k) refl }
@@ -198,9 +198,9 @@ module _ (s : Setting) (limit : ℕ) (p₀ : List ℕ) (fit : Fit (length p₀) 
             record {
               upto = omega arith;
               long = length-swapped labels t ∙ on .long;
-              gains-long = length-told (s .graph) labels (t .one) (added (s .graph) labels gains) ∙ on .long;
+              gains-long = length-updated (s .graph) labels (t .one) (added (s .graph) labels gains) ∙ on .long;
               locks-long = length-set (set locks (t .one) 1) (t .two) 1 ∙ length-set locks (t .one) 1 ∙ on .locks-long;
-              within = λ u. omega (arith, told-within (s .graph) labels fit-now (swapBound * k + freshBound) (added (s .graph) labels gains) (added-within (s .graph) labels fit-now (swapBound * k) gains (on .within)) (t .one) (below .0) u);
+              within = λ u. omega (arith, updated-within (s .graph) labels fit-now (swapBound * k + freshBound) (added (s .graph) labels gains) (added-within (s .graph) labels fit-now (swapBound * k) gains (on .within)) (t .one) (below .0) u);
               cur-is = now;
               best = cond b labels′ (on .best);
               least-is = least′ b;

@@ -13,11 +13,11 @@ use Rattle.lists.specs.Fill.{table}
 use Rattle.lists.proofs.Tables.{table-at, length-table}
 use Rattle.imbalance.specs.Load.{part}
 use Rattle.topology.specs.Graph.{Graph, joins}
-use Rattle.kernighan_lin_pass.specs.Gain.{fresh, added, told}
-use Rattle.kernighan_lin_pass.specs.inner.Steps.{Fit, Within, freshBound, tellBound}
+use Rattle.kernighan_lin_pass.specs.Gain.{fresh, added, updated}
+use Rattle.kernighan_lin_pass.specs.inner.Steps.{Fit, Within, freshBound, updateBound}
 use Rattle.kernighan_lin_pass.proofs.Sizes.{fresh-small, joins-small}
 use Rattle.kernighan_lin_pass.proofs.Bits.{mag-add}
-use Rattle.kernighan_lin_pass.proofs.Tells.{shift, shift-small}
+use Rattle.kernighan_lin_pass.proofs.Updates.{shift, shift-small}
 
 -- a table is within what each of its places is within
 pub table-within : (n m : ℕ) (f : ℕ → ℤ) → ((u : ℕ) → u < n → mag (f u) ≤ m) → Within m (table n f)
@@ -34,8 +34,8 @@ module _ (g : Graph) (p : List ℕ) (fit : Fit (length p) g) (m : ℕ) (gains : 
       table-within (length p) (m + freshBound) (λ u. getD gains u (pos 0) +ℤ fresh g p u)
       (λ u l. omega (arith, mag-add (getD gains u (pos 0)) (fresh g p u), h u, fresh-small (length p) g fit u l p))
 
-  pub told-within : (v : ℕ) → v < length p → Within (m + tellBound) (told g p v gains)
-  unfolding told
-  told-within v l =
-      table-within (length p) (m + tellBound) (λ u. shift (eqb (part p u) (part p v)) (getD gains u (pos 0)) (joins g v u))
+  pub updated-within : (v : ℕ) → v < length p → Within (m + updateBound) (updated g p v gains)
+  unfolding updated
+  updated-within v l =
+      table-within (length p) (m + updateBound) (λ u. shift (eqb (part p u) (part p v)) (getD gains u (pos 0)) (joins g v u))
       (λ u k. shift-small (eqb (part p u) (part p v)) (getD gains u (pos 0)) (joins g v u) m (h u) (joins-small (length p) g fit v l u))

@@ -21,8 +21,8 @@ unfoldable pub added : Graph → List ℕ → List ℤ → List ℤ
 added g p gains = table (length p) (λ u. getD gains u (pos 0) +ℤ fresh g p u)
 
 -- "for its neighbours add twice the arc weight if in its part, subtract it otherwise": v is taken, and joins g v u is the weight of its arcs to u, 0 where u is no neighbour
-unfoldable pub told : Graph → List ℕ → ℕ → List ℤ → List ℤ
-told g p v gains =
+unfoldable pub updated : Graph → List ℕ → ℕ → List ℤ → List ℤ
+updated g p v gains =
     table (length p) (λ u.
     cond (eqb (part p u) (part p v))
     (getD gains u (pos 0) +ℤ pos (2 * joins g v u))

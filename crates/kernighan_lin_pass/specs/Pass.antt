@@ -11,10 +11,10 @@ use Rattle.lists.specs.Fill.{table}
 use Rattle.imbalance.specs.Load.{part}
 use Rattle.topology.specs.Graph.{Graph}
 use Rattle.topology.specs.Cut.{cut}
-use Rattle.kernighan_lin_pass.specs.Gain.{added, told, largest}
+use Rattle.kernighan_lin_pass.specs.Gain.{added, updated, largest}
 
 -- What a swap goes by: the graph, the vertices that may be taken (all of them today), the first part, and the bad limit.
-pub record Setting : Type 0 where
+pub record Terms : Type 0 where
   pub graph : Graph
   pub movable : ℕ → Bool
   pub first : ℕ
@@ -36,7 +36,7 @@ pub record State : Type 0 where
   pub made : ℕ
   pub kept : List ℕ
 
-module _ (s : Setting) where
+module _ (s : Terms) where
   -- "Gains start at 0 in a pass", and no vertex is locked
   unfoldable pub start : List ℕ → State
   start p = record { labels = p; gains = table (length p) (λ u. pos 0); locks = table (length p) (λ u. 0); made = 0; kept = p }
@@ -47,7 +47,7 @@ module _ (s : Setting) where
       let gains = added (s .graph) p before in
       elim (largest (s .movable) (s .first) true p gains locks) [
         | none ↦ none
-        | some v ↦ (let after = told (s .graph) p v gains in
+        | some v ↦ (let after = updated (s .graph) p v gains in
             elim (largest (s .movable) (s .first) false p after locks) [
               | none ↦ none
               | some w ↦
@@ -62,7 +62,7 @@ module _ (s : Setting) where
       let p = swapped (st .labels) t in
       record {
         labels = p;
-        gains = told (s .graph) (st .labels) (t .one) (added (s .graph) (st .labels) (st .gains));
+        gains = updated (s .graph) (st .labels) (t .one) (added (s .graph) (st .labels) (st .gains));
         locks = set (set (st .locks) (t .one) 1) (t .two) 1;
         made = st .made + 1;
         kept = cond (eqb (st .made) 0 || ltb (cut (s .graph) p) (cut (s .graph) (st .kept))) p (st .kept);

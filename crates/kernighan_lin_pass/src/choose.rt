@@ -10,7 +10,7 @@ ghost use lib.Signed.{mag, leZ};
 ghost use Rattle.imbalance.specs.Limit.{mostVertices};
 ghost use Rattle.topology.specs.Graph.{inRows};
 ghost use Rattle.kernighan_lin_pass.specs.Gain.{onSide, largest};
-ghost use Rattle.kernighan_lin_pass.specs.inner.Steps.{Fit, Within, mostGain, placeOf, setting, Chose};
+ghost use Rattle.kernighan_lin_pass.specs.inner.Steps.{Fit, Within, mostGain, placeOf, termsBy, Chose};
 
 // Below every gain.
 const LOWEST: i64 = -0x4000_0000_0000_0000;
@@ -82,7 +82,7 @@ pub fn choose_pair(
     bad: u32,
 ) -> Pair
     requires { ⌜ Fit (length (now labels)) (inRows (now starts) (now neighbours) (now «arc_weights»)) × (length (now gains) ≡ length (now labels)) × (length (now locks) ≡ length (now labels)) × Within mostGain (now gains) ⌝ }
-    ensures { λ r. ⌜ Chose (setting (inRows (now (starts .entry)) (now (neighbours .entry)) (now («arc_weights» .entry))) first bad) (now (labels .entry)) (now (gains .entry)) (now (locks .entry)) r (now (gains .exit)) ⌝ }
+    ensures { λ r. ⌜ Chose (termsBy (inRows (now (starts .entry)) (now (neighbours .entry)) (now («arc_weights» .entry))) first bad) (now (labels .entry)) (now (gains .entry)) (now (locks .entry)) r (now (gains .exit)) ⌝ }
 {
     let n = labels.len();
     gain::add_fresh(starts, neighbours, arc_weights, labels, gains);
@@ -91,7 +91,7 @@ pub fn choose_pair(
         return Pair { one: n, two: n };
     }
     let g = gains[v];
-    gain::tell(starts, neighbours, arc_weights, labels, gains, v);
+    gain::update_neighbours(starts, neighbours, arc_weights, labels, gains, v);
     let w = largest_on(labels, gains, locks, first, false);
     if w == n {
         return Pair { one: n, two: n };

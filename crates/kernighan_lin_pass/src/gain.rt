@@ -3,7 +3,7 @@ ghost use mathlib.Core.Path.{_≡_};
 ghost use Prim.Native.Nat.{_*_, _<_};
 ghost use lib.ListN.{length};
 ghost use Rattle.topology.specs.Graph.{inRows};
-ghost use Rattle.kernighan_lin_pass.specs.Gain.{fresh, added, told};
+ghost use Rattle.kernighan_lin_pass.specs.Gain.{fresh, added, updated};
 ghost use Rattle.kernighan_lin_pass.specs.inner.Steps.{Fit, Within, mostGain};
 
 // What u gains by going to the other part.
@@ -55,7 +55,7 @@ pub fn add_fresh(
 }
 
 // The neighbours of v, which is taken, are told.
-pub fn tell(
+pub fn update_neighbours(
     starts: &[u32],
     neighbours: &[u32],
     arc_weights: &[u32],
@@ -64,7 +64,7 @@ pub fn tell(
     v: usize,
 )
     requires { ⌜ Fit (length (now labels)) (inRows (now starts) (now neighbours) (now «arc_weights»)) × (length (now gains) ≡ length (now labels)) × (v < length (now labels)) × Within (2 * mostGain) (now gains) ⌝ }
-    ensures { λ _. ⌜ now (gains .exit) ≡ told (inRows (now (starts .entry)) (now (neighbours .entry)) (now («arc_weights» .entry))) (now (labels .entry)) v (now (gains .entry)) ⌝ }
+    ensures { λ _. ⌜ now (gains .exit) ≡ updated (inRows (now (starts .entry)) (now (neighbours .entry)) (now («arc_weights» .entry))) (now (labels .entry)) v (now (gains .entry)) ⌝ }
 {
     let own = labels[v];
     let end = lists::index(starts[v + 1]);

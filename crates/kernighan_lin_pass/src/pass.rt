@@ -9,7 +9,7 @@ ghost use lib.Dec.{ltb, eqb};
 ghost use Rattle.topology.specs.Graph.{inRows};
 ghost use Rattle.topology.specs.Cut.{cut};
 ghost use Rattle.kernighan_lin_pass.specs.Pass.{start, walk};
-ghost use Rattle.kernighan_lin_pass.specs.inner.Steps.{Fit, Coded, Started, Ended, Roomy, setting, back};
+ghost use Rattle.kernighan_lin_pass.specs.inner.Steps.{Fit, Coded, WalkAsked, WalkDone, LentLong, termsBy, back};
 
 // The swaps made, how many of them are kept, and the cut after those.
 pub struct Walked {
@@ -42,8 +42,8 @@ fn walk_swaps(
     limit: usize,
     before: u64,
 ) -> Walked
-    requires { ⌜ Started (setting (inRows (now starts) (now neighbours) (now «arc_weights»)) first bad) (now labels) (now gains) (now locks) (length (now swaps)) limit before ⌝ }
-    ensures { λ r. ⌜ Ended (setting (inRows (now (starts .entry)) (now (neighbours .entry)) (now («arc_weights» .entry))) first bad) limit (now (labels .entry)) (now (labels .exit)) (now (swaps .exit)) r ⌝ }
+    requires { ⌜ WalkAsked (termsBy (inRows (now starts) (now neighbours) (now «arc_weights»)) first bad) (now labels) (now gains) (now locks) (length (now swaps)) limit before ⌝ }
+    ensures { λ r. ⌜ WalkDone (termsBy (inRows (now (starts .entry)) (now (neighbours .entry)) (now («arc_weights» .entry))) first bad) limit (now (labels .entry)) (now (labels .exit)) (now (swaps .exit)) r ⌝ }
 {
     let n = labels.len();
     let mut after = before;
@@ -111,8 +111,8 @@ pub fn make_pass(
     limit: usize,
     before: u64,
 ) -> u64
-    requires { ⌜ Fit (length (now labels)) (inRows (now starts) (now neighbours) (now «arc_weights»)) × Roomy (now labels) (now gains) (now locks) (length (now swaps)) limit × (before ≡ cut (inRows (now starts) (now neighbours) (now «arc_weights»)) (now labels)) ⌝ }
-    ensures { λ r. ⌜ (let g = inRows (now (starts .entry)) (now (neighbours .entry)) (now («arc_weights» .entry)) in let s = setting g first bad in
+    requires { ⌜ Fit (length (now labels)) (inRows (now starts) (now neighbours) (now «arc_weights»)) × LentLong (now labels) (now gains) (now locks) (length (now swaps)) limit × (before ≡ cut (inRows (now starts) (now neighbours) (now «arc_weights»)) (now labels)) ⌝ }
+    ensures { λ r. ⌜ (let g = inRows (now (starts .entry)) (now (neighbours .entry)) (now («arc_weights» .entry)) in let s = termsBy g first bad in
         (now (labels .exit) ≡ walk s limit (start s (now (labels .entry))) .kept) × (r ≡ cut g (now (labels .exit)))) ⌝ }
 {
     let n = labels.len();

@@ -1,4 +1,4 @@
--- Laws of `all` and `some`, below a bound and over a range. Assumes nothing.
+-- Laws of `all` and `any`, below a bound and over a range. Assumes nothing.
 use mathlib.Core.Path.{_≡_, refl, sym, _∙_}
 use mathlib.Core.Bool.{Bool, true, false, not, _&&_, _||_}
 use Prim.Native.Nat.{ℕ, zero, suc, _+_, _-_, _≤_, _<_}
@@ -6,7 +6,7 @@ use native.Mathlib.Omega.{arith}
 use native.Mathlib.Numerals.{add-one}
 use lib.Dec.{eqb}
 use borrow.Author.Tests.{eqb-true, eqb-false}
-use Rattle.lists.specs.All.{all, allFrom, some, someFrom}
+use Rattle.lists.specs.All.{all, allFrom, any, anyFrom}
 use Rattle.lists.proofs.Bools.{and-false, or-true}
 
 pub all-none : (f : ℕ → Bool) → all 0 f ≡ true
@@ -57,28 +57,28 @@ module _ (a b : ℕ) (f : ℕ → Bool) where
       let s : a + (e - a) ≡ e = omega arith in
       rw s at (all-at (b - a) (e - a) (λ i. f (a + i)) p (omega arith))
 
-pub some-none : (f : ℕ → Bool) → some 0 f ≡ false
-unfolding some
-some-none f = refl
+pub any-none : (f : ℕ → Bool) → any 0 f ≡ false
+unfolding any
+any-none f = refl
 
-pub some-more : (n : ℕ) (f : ℕ → Bool) → some n f ≡ false → f n ≡ false → some (n + 1) f ≡ false
-unfolding some
-some-more n f h t = rw (add-one, h) t
+pub any-more : (n : ℕ) (f : ℕ → Bool) → any n f ≡ false → f n ≡ false → any (n + 1) f ≡ false
+unfolding any
+any-more n f h t = rw (add-one, h) t
 
-pub some-holds : (n u : ℕ) (f : ℕ → Bool) → u < n → f u ≡ true → some n f ≡ true
-unfolding some
-some-holds zero u f h t = absurd (omega arith)
-some-holds (suc n) u f h t = go (eqb u n) refl (some-holds n u f)
+pub any-holds : (n u : ℕ) (f : ℕ → Bool) → u < n → f u ≡ true → any n f ≡ true
+unfolding any
+any-holds zero u f h t = absurd (omega arith)
+any-holds (suc n) u f h t = go (eqb u n) refl (any-holds n u f)
   where
-    go : (b : Bool) → eqb u n ≡ b → (u < n → f u ≡ true → some n f ≡ true) → some n f || f n ≡ true
-    go true e ih = rw (← eqb-true u n e, t) (or-true (some u f))
+    go : (b : Bool) → eqb u n ≡ b → (u < n → f u ≡ true → any n f ≡ true) → any n f || f n ≡ true
+    go true e ih = rw (← eqb-true u n e, t) (or-true (any u f))
     go false e ih = let ne = eqb-false u n e in rw (ih (omega (arith, ne)) t)
 
-pub some-at : (n u : ℕ) (f : ℕ → Bool) → some n f ≡ false → u < n → f u ≡ false
-some-at n u f h l = go (f u) refl
+pub any-at : (n u : ℕ) (f : ℕ → Bool) → any n f ≡ false → u < n → f u ≡ false
+any-at n u f h l = go (f u) refl
   where
     go : (b : Bool) → f u ≡ b → f u ≡ false
-    go true e = let o : _≡_ {A = ℕ} 0 1 = cc (some-holds n u f l e) in absurd (omega arith)
+    go true e = let o : _≡_ {A = ℕ} 0 1 = cc (any-holds n u f l e) in absurd (omega arith)
     go false e = e
 
 -- where not all hold, one at which it does not
@@ -93,60 +93,60 @@ all-witness (suc n) f e = go (all n f) refl (f n) refl e (all-witness n f)
     go false p b q r ih = let w = ih p in let l = w .1 in (w .0, omega arith, w .2)
 
 -- where some holds, one at which it does
-pub some-witness : (n : ℕ) (f : ℕ → Bool) → some n f ≡ true → (i : ℕ) × (i < n) × (f i ≡ true)
-unfolding some
-some-witness zero f e = let o : _≡_ {A = ℕ} 0 1 = cc in absurd (omega arith)
-some-witness (suc n) f e = go (some n f) refl (f n) refl e (some-witness n f)
+pub any-witness : (n : ℕ) (f : ℕ → Bool) → any n f ≡ true → (i : ℕ) × (i < n) × (f i ≡ true)
+unfolding any
+any-witness zero f e = let o : _≡_ {A = ℕ} 0 1 = cc in absurd (omega arith)
+any-witness (suc n) f e = go (any n f) refl (f n) refl e (any-witness n f)
   where
-    go : (a : Bool) → some n f ≡ a → (b : Bool) → f n ≡ b → a || b ≡ true → (some n f ≡ true → (i : ℕ) × (i < n) × (f i ≡ true)) → (i : ℕ) × (i < suc n) × (f i ≡ true)
+    go : (a : Bool) → any n f ≡ a → (b : Bool) → f n ≡ b → a || b ≡ true → (any n f ≡ true → (i : ℕ) × (i < n) × (f i ≡ true)) → (i : ℕ) × (i < suc n) × (f i ≡ true)
     go false p false q r ih = let o : _≡_ {A = ℕ} 0 1 = cc in absurd (omega arith)
     go false p true q r ih = (n, omega arith, q)
     go true p b q r ih = let w = ih p in let l = w .1 in (w .0, omega arith, w .2)
 
-pub some-nowhere : (n : ℕ) (f : ℕ → Bool) → ((i : ℕ) → i < n → f i ≡ false) → some n f ≡ false
-unfolding some
-some-nowhere zero f h = refl
-some-nowhere (suc n) f h = rw (some-nowhere n f (λ i l. h i (omega arith))) (h n (omega arith))
+pub any-nowhere : (n : ℕ) (f : ℕ → Bool) → ((i : ℕ) → i < n → f i ≡ false) → any n f ≡ false
+unfolding any
+any-nowhere zero f h = refl
+any-nowhere (suc n) f h = rw (any-nowhere n f (λ i l. h i (omega arith))) (h n (omega arith))
 
 -- where only u can pass the test
-pub some-only : (n u : ℕ) (f : ℕ → Bool) → u < n → ((i : ℕ) → i < n → (i ≡ u → ⊥) → f i ≡ false) → some n f ≡ f u
-some-only n u f l h = go (f u) refl
+pub any-only : (n u : ℕ) (f : ℕ → Bool) → u < n → ((i : ℕ) → i < n → (i ≡ u → ⊥) → f i ≡ false) → any n f ≡ f u
+any-only n u f l h = go (f u) refl
   where
     none : f u ≡ false → (i : ℕ) → i < n → (b : Bool) → eqb i u ≡ b → f i ≡ false
     none e i k true q = rw (eqb-true i u q) e
     none e i k false q = h i k (eqb-false i u q)
 
-    go : (b : Bool) → f u ≡ b → some n f ≡ f u
-    go true e = some-holds n u f l e ∙ sym e
-    go false e = some-nowhere n f (λ i k. none e i k (eqb i u) refl) ∙ sym e
+    go : (b : Bool) → f u ≡ b → any n f ≡ f u
+    go true e = any-holds n u f l e ∙ sym e
+    go false e = any-nowhere n f (λ i k. none e i k (eqb i u) refl) ∙ sym e
 
 module _ (a b : ℕ) (f : ℕ → Bool) where
-  pub some-from-empty : someFrom a a f ≡ false
-  unfolding someFrom some
-  some-from-empty = let r : a - a ≡ 0 = omega arith in rw r
+  pub any-from-empty : anyFrom a a f ≡ false
+  unfolding anyFrom any
+  any-from-empty = let r : a - a ≡ 0 = omega arith in rw r
 
-  pub some-from-more : a ≤ b → someFrom a (b + 1) f ≡ someFrom a b f || f b
-  unfolding someFrom some
-  some-from-more h =
+  pub any-from-more : a ≤ b → anyFrom a (b + 1) f ≡ anyFrom a b f || f b
+  unfolding anyFrom any
+  any-from-more h =
       let r : b + 1 - a ≡ suc (b - a) = omega arith in
       let s : a + (b - a) ≡ b = omega arith in
       rw r (rw s)
 
-  pub some-from-holds : (e : ℕ) → a ≤ e → e < b → f e ≡ true → someFrom a b f ≡ true
-  unfolding someFrom
-  some-from-holds e l k t =
+  pub any-from-holds : (e : ℕ) → a ≤ e → e < b → f e ≡ true → anyFrom a b f ≡ true
+  unfolding anyFrom
+  any-from-holds e l k t =
       let s : a + (e - a) ≡ e = omega arith in
-      some-holds (b - a) (e - a) (λ i. f (a + i)) (omega arith) (rw s t)
+      any-holds (b - a) (e - a) (λ i. f (a + i)) (omega arith) (rw s t)
 
-  pub some-from-none : ((e : ℕ) → a ≤ e → e < b → f e ≡ false) → someFrom a b f ≡ false
-  unfolding someFrom
-  some-from-none h = some-nowhere (b - a) (λ i. f (a + i)) (λ i l. h (a + i) (omega arith) (omega arith))
+  pub any-from-none : ((e : ℕ) → a ≤ e → e < b → f e ≡ false) → anyFrom a b f ≡ false
+  unfolding anyFrom
+  any-from-none h = any-nowhere (b - a) (λ i. f (a + i)) (λ i l. h (a + i) (omega arith) (omega arith))
 
-  pub some-from-only : (e : ℕ) → a ≤ e → e < b → ((i : ℕ) → a ≤ i → i < b → (i ≡ e → ⊥) → f i ≡ false) → someFrom a b f ≡ f e
-  unfolding someFrom
-  some-from-only e l k h =
+  pub any-from-only : (e : ℕ) → a ≤ e → e < b → ((i : ℕ) → a ≤ i → i < b → (i ≡ e → ⊥) → f i ≡ false) → anyFrom a b f ≡ f e
+  unfolding anyFrom
+  any-from-only e l k h =
       let s : a + (e - a) ≡ e = omega arith in
-      rw s at (some-only (b - a) (e - a) (λ i. f (a + i)) (omega arith) (λ i j ne. h (a + i) (omega arith) (omega arith) (λ q. ne (omega arith))))
+      rw s at (any-only (b - a) (e - a) (λ i. f (a + i)) (omega arith) (λ i j ne. h (a + i) (omega arith) (omega arith) (λ q. ne (omega arith))))
 
 -- a test that holds at each number holds at all
 pub all-every : (n : ℕ) (f : ℕ → Bool) → ((i : ℕ) → i < n → f i ≡ true) → all n f ≡ true
@@ -159,10 +159,10 @@ unfolding allFrom
 from-every a b f h = all-every (b - a) (λ i. f (a + i)) (λ i l. h (a + i) (omega arith) (omega arith))
 
 -- a test holds somewhere where its contrary does not hold everywhere
-pub some-contrary : (n : ℕ) (f g : ℕ → Bool) → ((i : ℕ) → i < n → f i ≡ not (g i)) → some n f ≡ not (all n g)
-unfolding all some
-some-contrary zero f g h = refl
-some-contrary (suc n) f g h = rw (some-contrary n f g (λ i l. h i (omega arith)), h n (omega arith)) (either (all n g) (g n))
+pub any-contrary : (n : ℕ) (f g : ℕ → Bool) → ((i : ℕ) → i < n → f i ≡ not (g i)) → any n f ≡ not (all n g)
+unfolding all any
+any-contrary zero f g h = refl
+any-contrary (suc n) f g h = rw (any-contrary n f g (λ i l. h i (omega arith)), h n (omega arith)) (either (all n g) (g n))
   where
     either : (s t : Bool) → not s || not t ≡ not (s && t)
     either true t = refl

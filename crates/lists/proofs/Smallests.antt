@@ -51,8 +51,8 @@ module _ (rules : List (Type 0)) where
   passed m = record { kept = λ z i a b. absurd (omega arith); broken = λ ne. absurd (ne refl); before = λ i a b. absurd (omega arith) }
 
   -- a rule that is kept is passed over
-  pub over : (m n k : ℕ) → ruleOf rules m → First rules (suc m) n k → First rules m n k
-  over m n k r f = record { kept = λ z i a b. at i n (eqb i m) refl (f .kept z) a b; broken = f .broken; before = λ i a b. at i k (eqb i m) refl (f .before) a b }
+  pub unruled : (m n k : ℕ) → ruleOf rules m → First rules (suc m) n k → First rules m n k
+  unruled m n k r f = record { kept = λ z i a b. at i n (eqb i m) refl (f .kept z) a b; broken = f .broken; before = λ i a b. at i k (eqb i m) refl (f .before) a b }
     where
       at : (i o : ℕ) (t : Bool) → eqb i m ≡ t → ((j : ℕ) → suc m ≤ j → j < o → ruleOf rules j) → m ≤ i → i < o → ruleOf rules i
       at i o true e h a b = rw (eqb-true i m e) r
@@ -64,7 +64,7 @@ module _ (rules : List (Type 0)) where
     where
       go : (b : Bool) → t ≡ b → First rules m n (cond b m k)
       go true e = record { kept = λ z i a b. absurd (omega arith); broken = λ ne. (l, λ r. clash t e (test .1 r)); before = λ i a b. absurd (omega arith) }
-      go false e = over m n k (test .0 e) f
+      go false e = unruled m n k (test .0 e) f
 
   -- the numbers from m up to n, and then those from n up to o
   pub thence : (m n o a b : ℕ) → n ≤ o → First rules m n a → First rules n o b → First rules m o (orElse a b)
@@ -91,7 +91,7 @@ module _ (rules : List (Type 0)) where
   -- no number is left out
   pub smallest : (k : ℕ) → ruleOf rules 0 → First rules 1 (length rules) k → Smallest rules k
   smallest k r f =
-      let g = over 0 (length rules) k r f in
+      let g = unruled 0 (length rules) k r f in
       record {
         kept = λ z i. at i (ltb i (length rules)) refl (g .kept z i (omega arith));
         done = λ all. none all (eqb k 0) refl;

@@ -12,10 +12,10 @@ unfoldable pub allFrom : ℕ → ℕ → (ℕ → Bool) → Bool
 allFrom a b f = all (b - a) (λ i. f (a + i))
 
 -- f holds at some number below n
-unfoldable pub some : ℕ → (ℕ → Bool) → Bool
-some zero f = false
-some (suc n) f = some n f || f n
+unfoldable pub any : ℕ → (ℕ → Bool) → Bool
+any zero f = false
+any (suc n) f = any n f || f n
 
 -- f holds at some number from a up to b
-unfoldable pub someFrom : ℕ → ℕ → (ℕ → Bool) → Bool
-someFrom a b f = some (b - a) (λ i. f (a + i))
+unfoldable pub anyFrom : ℕ → ℕ → (ℕ → Bool) → Bool
+anyFrom a b f = any (b - a) (λ i. f (a + i))

@@ -6,10 +6,9 @@ use Prim.Native.Nat.{ℕ, _+_, _-_, _≤_, _<_}
 use native.Mathlib.Omega.{arith}
 use lib.ListN.{length, getD}
 use lib.Dec.{ltb, eqb}
-use lib.Ieee.{Float}
 use borrow.Author.Tests.{eqb-true, lt-ltb, le-ltb, ltb-true, ltb-false, not-false}
 use Rattle.lists.proofs.Bools.{or-false}
-use Rattle.lists.proofs.Alls.{some-contrary}
+use Rattle.lists.proofs.Alls.{any-contrary}
 use Rattle.imbalance.specs.Ceiling.{unfitChoice}
 use Rattle.imbalance.specs.declared.Ceiling.{Ceiling}
 use Rattle.imbalance.specs.Limit.{labelAbove}
@@ -39,7 +38,7 @@ starts-judged g ok e = ap not (sym (e ∙ starts-alone (vertices g) (g .starts) 
 pub labels-below : (k : ℕ) (labels : List ℕ) → 1 ≤ k → labelAbove (k - 1) labels ≡ badLabels k labels
 unfolding labelAbove badLabels
 labels-below k labels l =
-    some-contrary (length labels) (λ v. ltb (k - 1) (getD labels v 0)) (λ v. ltb (getD labels v 0) k) (λ v _. either (getD labels v 0) (ltb (getD labels v 0) k) refl)
+    any-contrary (length labels) (λ v. ltb (k - 1) (getD labels v 0)) (λ v. ltb (getD labels v 0) k) (λ v _. either (getD labels v 0) (ltb (getD labels v 0) k) refl)
   where
     either : (x : ℕ) (t : Bool) → ltb x k ≡ t → ltb (k - 1) x ≡ not t
     either x true e = let m = ltb-true x k e in le-ltb (k - 1) x (omega arith)

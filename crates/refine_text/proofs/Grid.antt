@@ -10,7 +10,7 @@ use borrow.Author.Tests.{ltb-true, le-ltb}
 use lib.IntN.{negsuc}
 use lib.Ieee.{fin, ofBits, le, add, div, ofInt, mul}
 use Rattle.lists.specs.Sum.{sum, between, total}
-use Rattle.lists.specs.All.{all, allFrom, some, someFrom}
+use Rattle.lists.specs.All.{all, allFrom, any, anyFrom}
 use Rattle.lists.specs.Best.{best}
 use Rattle.lists.specs.Fill.{table, written}
 use Rattle.lists.proofs.Alls.{all-at}
@@ -54,7 +54,7 @@ printedText =
     ++ ascii "labels 0 0 1 1 0 0 1 1\n"
 
 pub printed-in-full : runText header (grid .starts) (grid .neighbours) (grid .weights) ones A ≡ printedText
-unfolding runText twoText twoShown twoLines endLine cutLine loadsLine passesLine opening passLine passLines labelsLine decimal decimalIn numbers line answer left leftBy numberOf reportOf short unfit answered arcOk graphNumber hasArc misfit oversize rowsNumber rowsOk startsOk joins heavy labelAbove legalE ofBits le unfitChoice all allFrom some someFrom written run pass walk next moveOn flips choice better allowed fits after worth member flip best gain into arcs cut load between sum table total ceilings ceiling largest ceilingOf limitOf add div ofInt mul
+unfolding runText twoText twoShown twoLines endLine cutLine loadsLine passesLine opening passLine passLines labelsLine decimal decimalIn numbers line answer left leftBy numberOf reportOf short unfit answered arcOk graphNumber hasArc misfit oversize rowsNumber rowsOk startsOk joins heavy labelAbove legalE ofBits le unfitChoice all allFrom any anyFrom written run pass walk next moveOn flips choice better allowed fits after worth member flip best gain into arcs cut load between sum table total ceilings ceiling largest ceilingOf limitOf add div ofInt mul
 printed-in-full = refl
 
 -- A's plan: eight blocks of weight 1, ten links of weight 1 both ways, and the bits of 0.25

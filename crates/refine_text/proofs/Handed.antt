@@ -10,7 +10,7 @@ use lib.Dec.{ltb, eqb}
 use borrow.Author.Tests.{eq-eqb, ne-eqb, eqb-true, le-ltb, ltb-true}
 use Rattle.lists.specs.Fill.{table, over}
 use Rattle.lists.proofs.Tables.{length-table, table-at}
-use Rattle.lists.proofs.Alls.{all-at, some-nowhere}
+use Rattle.lists.proofs.Alls.{all-at, any-nowhere}
 use Rattle.imbalance.specs.Limit.{labelAbove}
 use Rattle.plan_blocks.specs.Word.{word}
 use Rattle.plan_blocks.specs.Plan.{Plan}
@@ -110,7 +110,7 @@ labels-low s h =
     let g = accepts s h in
     let i = in-range (word s 1) (word s 2) (word s 3) (g .ranged) in
     let n = length-table (word s 1) (labelAt s) in
-    some-nowhere (length (table (word s 1) (labelAt s))) (λ v. ltb 15 (getD (table (word s 1) (labelAt s)) v 0))
+    any-nowhere (length (table (word s 1) (labelAt s))) (λ v. ltb 15 (getD (table (word s 1) (labelAt s)) v 0))
     (λ v l.
     let e = table-at (word s 1) v 0 (labelAt s) (omega arith) in
     let b = ltb-true (labelAt s v) (word s 3) (all-at (word s 1) v (λ v. ltb (labelAt s v) (word s 3)) (g .named) (omega arith)) in

@@ -10,16 +10,16 @@ use lib.Dec.{ltb, eqb}
 use borrow.Author.Tests.{eq-eqb, ne-eqb}
 use Rattle.lists.proofs.Tables.{length-table}
 use Rattle.topology.specs.Cut.{cut}
-use Rattle.fiduccia_mattheyses_pass.specs.Choice.{Setting}
+use Rattle.fiduccia_mattheyses_pass.specs.Choice.{Terms}
 use Rattle.fiduccia_mattheyses_pass.specs.Pass.{pass}
 use Rattle.fiduccia_mattheyses.specs.declared.Report.{Report as TwoReport}
 use Rattle.fiduccia_mattheyses.specs.Run.{Run, run}
-use Rattle.fiduccia_mattheyses.specs.Entry.{Plan as TwoPlan, Lent as TwoLent, number as twoNumber, reportOf as twoReportOf, refused as twoRefused, empty as twoEmpty, answer as twoAnswer}
+use Rattle.fiduccia_mattheyses.specs.Entry.{Given as TwoPlan, Lent as TwoLent, number as twoNumber, reportOf as twoReportOf, refused as twoRefused, empty as twoEmpty, answer as twoAnswer}
 use Rattle.fiduccia_mattheyses.proofs.Running.{run-more, run-last}
-use Rattle.fiduccia_mattheyses_moves.specs.Own.{Lists, lentWith, RefinedWith}
+use Rattle.fiduccia_mattheyses_records.specs.Own.{Lists, lentWith, RefinedWith}
 use Rattle.arc_swap.specs.declared.RunRecord.{RunRecord}
 use Rattle.arc_swap.specs.declared.Report.{Report as ManyReport}
-use Rattle.arc_swap.specs.Entry.{Plan as ManyPlan, Lent as ManyLent, number as manyNumber, reportOf as manyReportOf, refused as manyRefused, empty as manyEmpty, answer as manyAnswer, partsOf, Swapped}
+use Rattle.arc_swap.specs.Entry.{Given as ManyPlan, Lent as ManyLent, number as manyNumber, reportOf as manyReportOf, refused as manyRefused, empty as manyEmpty, answer as manyAnswer, partsOf, Refined}
 use Rattle.plan.specs.declared.ReadAnswer.{ReadAnswer}
 use Rattle.refine_words.specs.inner.Steps.{Put}
 use Rattle.refine_words.specs.Line.{refusal, opening, passLines, countsLine, labelsLine}
@@ -53,7 +53,7 @@ module _ (k : ℕ) (r : ManyReport) (run : RunRecord) (labels : List ℕ) {befor
       put-as refl (omega arith) (put-then (omega arith) (put-then (omega arith) a b) d)
 
 -- a run has no more passes than it may make
-rows-most : (s : Setting) (k : ℕ) (p : List ℕ) → length (run s k p .rows) ≤ k
+rows-most : (s : Terms) (k : ℕ) (p : List ℕ) → length (run s k p .rows) ≤ k
 unfolding run
 rows-most s zero p = omega arith
 rows-most s (suc k) p = go (ltb (pass s p .least) (cut (s .graph) p)) refl (rows-most s k (pass s p .labels))
@@ -102,7 +102,7 @@ module _ {p : TwoPlan} {labels : List ℕ} {r : TwoReport} {k : Lists} (h : Refi
   two-done z = rw (h .made, h .rewound, h .labels, ← h .answered, eq-eqb (r .number) 0 z)
 
 -- and of arc-swap
-module _ {p : ManyPlan} {labels : List ℕ} {r : ManyReport} {k : ManyLent} (h : Swapped p (manyLent labels) r k) where
+module _ {p : ManyPlan} {labels : List ℕ} {r : ManyReport} {k : ManyLent} (h : Refined p (manyLent labels) r k) where
   pub many-loads : length (r .loads .at) ≡ 16
   many-loads = ap (λ (x : ManyReport). length (x .loads .at)) (h .answered) ∙ many-report p _
 

@@ -12,11 +12,11 @@ use Rattle.plan_blocks.specs.Decode.{planOf, fileNumber}
 use Rattle.plan.specs.declared.ReadAnswer.{ReadAnswer}
 use Rattle.plan.specs.Read.{startsOf, headerOf}
 use Rattle.fiduccia_mattheyses.specs.declared.Report.{Report as TwoReport}
-use Rattle.fiduccia_mattheyses.specs.Entry.{Plan as TwoPlan, Lent as TwoLent, answer as twoAnswer, left as twoLeft}
-use Rattle.fiduccia_mattheyses_moves.specs.Own.{Lists, lentWith}
+use Rattle.fiduccia_mattheyses.specs.Entry.{Given as TwoPlan, Lent as TwoLent, answer as twoAnswer, left as twoLeft}
+use Rattle.fiduccia_mattheyses_records.specs.Own.{Lists, lentWith}
 use Rattle.arc_swap.specs.declared.RunRecord.{RunRecord}
 use Rattle.arc_swap.specs.declared.Report.{Report as ManyReport}
-use Rattle.arc_swap.specs.Entry.{Plan as ManyPlan, Lent as ManyLent, answer as manyAnswer, left as manyLeft, partsOf, noCounts}
+use Rattle.arc_swap.specs.Entry.{Given as ManyPlan, Lent as ManyLent, answer as manyAnswer, left as manyLeft, partsOf, noCounts}
 use Rattle.refine_words.specs.Line.{refusal, opening, passLines, countsLine, labelsLine}
 
 -- "The refine program reads a plan of at most 512 vertices and 2,048 arcs": this one has more

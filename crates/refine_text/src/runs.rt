@@ -57,7 +57,7 @@ pub(crate) fn refine_two(
     let mut gains = [0i64; 512];
     let mut made = [0u32; 64];
     let mut rewound = [0u32; 64];
-    let report = fiduccia_mattheyses_moves::with_512_moves(
+    let report = fiduccia_mattheyses_records::with_512_moves(
         starts,
         neighbours,
         arc_weights,

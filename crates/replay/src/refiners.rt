@@ -150,7 +150,7 @@ fn fiduccia_mattheyses(
     let mut gains = [7i64; 512];
     let mut made = [7u32; 1024];
     let mut rewound = [7u32; 1024];
-    let r = fiduccia_mattheyses_moves::with_512_moves(
+    let r = fiduccia_mattheyses_records::with_512_moves(
         starts,
         neighbours,
         arc_weights,

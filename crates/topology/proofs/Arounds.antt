@@ -10,9 +10,9 @@ use lib.Seq.{getD-set-same, getD-set-other}
 use lib.Dec.{eqb}
 use borrow.Author.Tests.{eq-eqb, ne-eqb, eqb-true, eqb-false}
 use Rattle.lists.specs.Sum.{sum, weigh}
-use Rattle.lists.specs.All.{someFrom}
+use Rattle.lists.specs.All.{anyFrom}
 use Rattle.lists.proofs.Bools.{and-false, or-true, or-false}
-use Rattle.lists.proofs.Alls.{some-from-empty, some-from-more}
+use Rattle.lists.proofs.Alls.{any-from-empty, any-from-more}
 use Rattle.lists.proofs.Sums.{sum-none, sum-step}
 use Rattle.lists.proofs.Totals.{sum-ext, sum-change, sum-below, sum-zero}
 use Rattle.imbalance.specs.Load.{part, Loadable}
@@ -20,7 +20,7 @@ use Rattle.imbalance.proofs.Limits.{label-most}
 use Rattle.topology.specs.Graph.{Graph, first, past, neighbour}
 use Rattle.topology.specs.Cut.{touches, partsAround, lambda}
 use Rattle.topology.specs.inner.Row.{Row, wordBound}
-use Rattle.topology.proofs.RowWalks.{Walk, enters, further, over}
+use Rattle.topology.proofs.RowWalks.{Walk, enters, further, at-end}
 
 -- a label is below 16
 pub label-below : {weights labels : List ℕ} → Loadable weights labels → (v : ℕ) → v < length labels → part labels v < 16
@@ -28,7 +28,7 @@ label-below {weights} {labels} ok v l = let a = label-most 15 labels (ok .named)
 
 -- an arc from a up to e goes into part t
 abbrev meets : Graph → List ℕ → ℕ → ℕ → ℕ → Bool
-meets g p a e t = someFrom a e (λ i. eqb (part p (neighbour g i)) t)
+meets g p a e t = anyFrom a e (λ i. eqb (part p (neighbour g i)) t)
 
 -- a part's byte once the arcs from a up to e are passed, and what the part counts
 abbrev byte : Graph → List ℕ → ℕ → ℕ → ℕ → ℕ → ℕ
@@ -83,7 +83,7 @@ module _ (g : Graph) (p : List ℕ) (u a b : ℕ) where
   }
     where
       unmet : (t : ℕ) → meets g p a a t ≡ false
-      unmet t = some-from-empty a 0 (λ i. eqb (part p (neighbour g i)) t)
+      unmet t = any-from-empty a 0 (λ i. eqb (part p (neighbour g i)) t)
 
       at : (t : ℕ) → t < 16 → (s : Bool) → eqb t own ≡ s → getD (set fresh own mark) t 0 ≡ byte g p u a a t
       at t k true n = rw (unmet t, ← o, n, eqb-true t own n, getD-set-same fresh own mark 0 l) m
@@ -95,12 +95,12 @@ module _ (g : Graph) (p : List ℕ) (u a b : ℕ) where
 
     pub ended : a ≡ first g u → b ≡ past g u → b ≤ e → count ≡ partsAround g p u
     unfolding partsAround touches
-    ended q r l = rw (over (inv .walk) l, q, r) at (inv .count-is)
+    ended q r l = rw (at-end (inv .walk) l, q, r) at (inv .count-is)
 
     -- arc e goes to v, of part t
     module _ (l : e < b) (v t : ℕ) (v-is : v ≡ neighbour g e) (t-is : t ≡ part p v) (t-below : t < 16) where
       meets-more : (x : ℕ) → meets g p a (e + 1) x ≡ meets g p a e x || eqb t x
-      meets-more x = rw (t-is, v-is) (some-from-more a e (λ i. eqb (part p (neighbour g i)) x) (inv .walk .from))
+      meets-more x = rw (t-is, v-is) (any-from-more a e (λ i. eqb (part p (neighbour g i)) x) (inv .walk .from))
 
       same : (x : ℕ) → (eqb t x ≡ true → eqb x (part p u) || meets g p a e x ≡ true) → (byte g p u a (e + 1) x ≡ byte g p u a e x) × (term g p u a (e + 1) x ≡ term g p u a e x)
       same x h =

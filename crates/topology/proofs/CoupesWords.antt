@@ -11,7 +11,7 @@ use borrow.Author.Tests.{eq-eqb, ne-eqb, ltb-true, ltb-false}
 use Rattle.lists.specs.Sum.{sum, weigh}
 use Rattle.lists.proofs.Bools.{eqb-sym}
 use Rattle.lists.proofs.Totals.{sum-ext, sum-add, sum-zero, sum-swap, sum-apart}
-use Rattle.lists.proofs.Alls.{some-from-none}
+use Rattle.lists.proofs.Alls.{any-from-none}
 use Rattle.imbalance.specs.Load.{part}
 use Rattle.imbalance.specs.Rules.{NoneAbove}
 use Rattle.topology.specs.Graph.{Graph, first, past, neighbour, joins}
@@ -107,7 +107,7 @@ module _ (g : Graph) (weights p : List ℕ) (named : NoneAbove 15 p) where
       → lambdaNear g weights p ≡ lambda g weights p
   unfolding ownNear touches
   lambda-as-said none =
-      let z = sum-ext (length p) (λ u. weigh (touches g p u (part p u)) (getD weights u 0)) (λ u. 0) (λ u l. rw (some-from-none (first g u) (past g u) (λ e. eqb (part p (neighbour g e)) (part p u)) (λ e a b. ne-eqb (part p (neighbour g e)) (part p u) (none u e l (a, b))))) ∙ sum-zero (length p) in
+      let z = sum-ext (length p) (λ u. weigh (touches g p u (part p u)) (getD weights u 0)) (λ u. 0) (λ u l. rw (any-from-none (first g u) (past g u) (λ e. eqb (part p (neighbour g e)) (part p u)) (λ e a b. ne-eqb (part p (neighbour g e)) (part p u) (none u e l (a, b))))) ∙ sum-zero (length p) in
       let q : ownNear g weights p ≡ 0 = z in
       omega (arith, lambda-and-own)
 

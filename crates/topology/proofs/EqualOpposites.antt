@@ -6,23 +6,23 @@ use Prim.Native.Nat.{ℕ, _+_, _-_}
 use native.Mathlib.Omega.{arith}
 use lib.Dec.{eqb}
 use borrow.Author.Tests.{eq-eqb, eqb-true}
-use Rattle.lists.specs.All.{someFrom}
+use Rattle.lists.specs.All.{anyFrom}
 use Rattle.lists.proofs.Bools.{and-left, and-right}
-use Rattle.lists.proofs.Alls.{all-at, all-every, from-at, from-every, some-witness, some-from-holds}
+use Rattle.lists.proofs.Alls.{all-at, all-every, from-at, from-every, any-witness, any-from-holds}
 use Rattle.topology.specs.Graph.{Graph, first, past, neighbour, weight}
 use Rattle.topology.specs.Rule.{hasArc, rowAnswered, answered}
 use Rattle.topology.specs.Rules.{Arc, Opposites}
 
 has-arc : (g : Graph) (v u w : ℕ) → (hasArc g v u w ≡ true) ↔ Arc g v u w
-unfolding hasArc someFrom
-has-arc g v u w = (there, λ a. some-from-holds (first g v) (past g v) test (a .0) (a .1 .0) (a .1 .1) (rw (eq-eqb (neighbour g (a .0)) u (a .2), eq-eqb (weight g (a .0)) w (a .3))))
+unfolding hasArc anyFrom
+has-arc g v u w = (there, λ a. any-from-holds (first g v) (past g v) test (a .0) (a .1 .0) (a .1 .1) (rw (eq-eqb (neighbour g (a .0)) u (a .2), eq-eqb (weight g (a .0)) w (a .3))))
   where
     test : ℕ → Bool
     test e = eqb (neighbour g e) u && eqb (weight g e) w
 
     there : hasArc g v u w ≡ true → Arc g v u w
     there h =
-        let r = some-witness (past g v - first g v) (λ i. test (first g v + i)) h in
+        let r = any-witness (past g v - first g v) (λ i. test (first g v + i)) h in
         let l = r .1 in
         let e = first g v + r .0 in
         let a = eqb (neighbour g e) u in

@@ -10,7 +10,7 @@ use mir.ValLaws.{toZ-ofZ}
 use Rattle.lists.proofs.Differences.{read-minus, read-minus-fits}
 use Rattle.topology.specs.Graph.{Graph, first, past, arcs}
 use Rattle.topology.specs.Rule.{Rows}
-use Rattle.topology.proofs.RowWalks.{Walk, Summed, row-of, enters, over, none-summed, all-summed, summed-small}
+use Rattle.topology.proofs.RowWalks.{Walk, Summed, row-of, enters, at-end, none-summed, all-summed, summed-small}
 
 -- the sums of the arcs from a up to e whose vertices pass the one test and the other
 pub record Sums (n : ℕ) (g : Graph) (away home : ℕ → Bool) (a b e there here : ℕ) : Type 0 where
@@ -33,7 +33,7 @@ module _ {n : ℕ} {g : Graph} {away home : ℕ → Bool} {a b e there here : �
       (u : ℕ) → a ≡ first g u → b ≡ past g u → b ≤ e
       → toZ w64 (ofZ w64 (toZ w64 there -ℤ toZ w64 here)) ≡ subℕ (arcs g u away) (arcs g u home)
   answers u p q l =
-      let end : e ≡ past g u = over (sums .walk) l ∙ q in
+      let end : e ≡ past g u = at-end (sums .walk) l ∙ q in
       toZ-ofZ w64 (toZ w64 there -ℤ toZ w64 here) (read-minus-fits there here (within .0) (within .1))
       ∙ read-minus there here (within .0) (within .1)
       ∙ ap₂ subℕ (all-summed (sums .there-is) u p end) (all-summed (sums .here-is) u p end)

@@ -7,7 +7,7 @@ use native.Mathlib.Omega.{arith}
 use lib.ListN.{length, getD}
 use lib.Dec.{ltb, eqb}
 use borrow.Author.Tests.{eq-eqb, ne-eqb, ltb-true, ltb-false}
-use Rattle.lists.proofs.Alls.{some-from-only, some-from-none}
+use Rattle.lists.proofs.Alls.{any-from-only, any-from-none}
 use Rattle.topology.specs.Graph.{Graph, first, past, neighbour, weight}
 use Rattle.topology.specs.Rule.{rowsOk, hasArc, Rows}
 use Rattle.topology.specs.inner.Lookup.{Rises, Halved, Answerable}
@@ -75,7 +75,7 @@ module _
   -- every neighbour is below u
   pub not-reached : hi ≤ r → false ≡ hasArc g v u w
   unfolding hasArc
-  not-reached l = sym (some-from-none (first g v) (past g v) test (λ e a b. let k = found .under e (omega arith) (omega arith) in other e (λ q. omega arith)))
+  not-reached l = sym (any-from-none (first g v) (past g v) test (λ e a b. let k = found .under e (omega arith) (omega arith) in other e (λ q. omega arith)))
 
   module _ (l : r < hi) where
     elsewhere : (e : ℕ) → first g v ≤ e → e < past g v → (e ≡ r → ⊥) → test e ≡ false
@@ -92,7 +92,7 @@ module _
 
     at-place : test r ≡ hasArc g v u w
     unfolding hasArc
-    at-place = let f = found .from in sym (some-from-only (first g v) (past g v) test r (omega arith) (omega arith) elsewhere)
+    at-place = let f = found .from in sym (any-from-only (first g v) (past g v) test r (omega arith) (omega arith) elsewhere)
 
     module _ (x : ℕ) (x-is : x ≡ neighbour g r) where
       -- the first neighbour that is not below u is above it

@@ -41,8 +41,8 @@ module _ {n : ℕ} {neighbours : List ℕ} {a b : ℕ} where
     pub further : e < b → Walk n neighbours a b (e + 1)
     further l = let f = walk .from in record { row = walk .row; from = omega arith; upto = omega arith; goes = walk .row .below (e + 1) }
 
-    pub over : b ≤ e → e ≡ b
-    over l = let k = walk .upto in omega arith
+    pub at-end : b ≤ e → e ≡ b
+    at-end l = let k = walk .upto in omega arith
 
 -- what arc e counts: its weight, where the vertex that it goes to passes the test
 abbrev pub counts : Graph → (ℕ → Bool) → ℕ → ℕ

@@ -5,7 +5,7 @@ use Prim.Native.Nat.{ℕ, _*_}
 use lib.ListN.{length, getD}
 use lib.Dec.{ltb, eqb}
 use Rattle.lists.specs.Sum.{sum, between, weigh}
-use Rattle.lists.specs.All.{someFrom}
+use Rattle.lists.specs.All.{anyFrom}
 use Rattle.imbalance.specs.Load.{part}
 use Rattle.topology.specs.Graph.{Graph, first, past, neighbour, weight}
 
@@ -22,7 +22,7 @@ cut g p = sum (length p) (rowCut g p)
 
 -- u has a neighbour in part t
 unfoldable pub touches : Graph → List ℕ → ℕ → ℕ → Bool
-touches g p u t = someFrom (first g u) (past g u) (λ e. eqb (part p (neighbour g e)) t)
+touches g p u t = anyFrom (first g u) (past g u) (λ e. eqb (part p (neighbour g e)) t)
 
 -- "the number of parts among neighbours other than the vertex's own"
 unfoldable pub partsAround : Graph → List ℕ → ℕ → ℕ

@@ -2,6 +2,7 @@
 
 -- ---- What document 01 says
 pub mod Graph
+pub mod Given
 pub mod Rule
 pub mod Cut
 pub mod Number

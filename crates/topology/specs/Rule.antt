@@ -5,7 +5,7 @@ use mathlib.Core.List.{List}
 use Prim.Native.Nat.{ℕ, _+_, _-_, _≤_, _<_}
 use lib.ListN.{length}
 use lib.Dec.{ltb, leb, eqb}
-use Rattle.lists.specs.All.{all, allFrom, someFrom}
+use Rattle.lists.specs.All.{all, allFrom, anyFrom}
 use Rattle.lists.specs.Number.{orElse}
 use Rattle.lists.specs.Sum.{total}
 use Rattle.imbalance.specs.Limit.{mostVertices, mostArcs, mostWeight, heavy}
@@ -41,7 +41,7 @@ rowsOk n g = startsOk n g && all n (rowOk n g)
 
 -- row v has an arc to u of weight w
 unfoldable pub hasArc : Graph → ℕ → ℕ → ℕ → Bool
-hasArc g v u w = someFrom (first g v) (past g v) (λ e. eqb (neighbour g e) u && eqb (weight g e) w)
+hasArc g v u w = anyFrom (first g v) (past g v) (λ e. eqb (neighbour g e) u && eqb (weight g e) w)
 
 -- "Arc u to v needs arc v to u of equal weight": every arc of row u
 abbrev pub rowAnswered : Graph → ℕ → Bool

@@ -1,6 +1,6 @@
 -- `arc_swap::arc_swap` meets its promise: no vertex, a refusal, or the run. Assumes nothing.
 mod Tie
-use Rattle.arc_swap.proofs.Calls.{in-order, at-empty, at-refusal, at-run}
+use Rattle.arc_swap.proofs.Entering.{ready, at-empty, at-refusal, at-run}
 use borrow.Author.Needs.{needs}
 use Rattle.arc_swap.proofs.arc_swap.Statement.{statement}
 use Rattle.arc_swap.proofs.arc_swap.Proof.Tie as tie
@@ -30,11 +30,11 @@ returns-2 c =
     let else1 : tie.Else1 = search needs in
     at-refusal _ _ (else1 .if1 .left) _ _ (c .before .before .number-of .ensures) (c .before .if2 .taken) (c .bare-report2 .ensures)
 
-swap-all-requires : tie.Need-swap-all-requires
-swap-all-requires c κs =
+refine-requires : tie.Need-refine-requires
+refine-requires c κs =
     let else2 : tie.Else2 = search needs in
     let after-number-of : tie.After-number-of = search needs in
-    in-order _ _ _ (after-number-of .number-of .ensures) (else2 .if2 .left)
+    ready _ _ _ (after-number-of .number-of .ensures) (else2 .if2 .left)
 
 same-length-2 : tie.Need-same-length-2
 same-length-2 c = search needs
@@ -44,11 +44,11 @@ same-length-3 c = search needs
 
 returns-3 : tie.Need-returns-3
 returns-3 c =
-    let after-swap-all : tie.After-swap-all = search needs in
+    let after-refine : tie.After-refine = search needs in
     let else2 : tie.Else2 = search needs in
     let after-number-of : tie.After-number-of = search needs in
     let else1 : tie.Else1 = search needs in
-    at-run _ _ (else1 .if1 .left) _ _ _ (after-number-of .number-of .ensures) (else2 .if2 .left) (after-swap-all .swap-all .ensures)
+    at-run _ _ (else1 .if1 .left) _ _ _ (after-number-of .number-of .ensures) (else2 .if2 .left) (after-refine .refine .ensures)
 
 pub arc-swap-spec : {M : Type 1} → statement M
 arc-swap-spec =
@@ -61,7 +61,7 @@ arc-swap-spec =
     bare-report-requires-2
     same-length
     returns-2
-    swap-all-requires
+    refine-requires
     same-length-2
     same-length-3
     returns-3)

@@ -1,6 +1,6 @@
 -- `arc_swap::arc_swap_counted` meets its promise: the record that it lends is at zero, and the one that it answers is what the call leaves there. Assumes nothing.
 mod Tie
-use Rattle.arc_swap.proofs.Calls.{counted}
+use Rattle.arc_swap.proofs.Entering.{counted}
 use borrow.Author.Needs.{needs}
 use Rattle.arc_swap.proofs.arc_swap_counted.Statement.{statement}
 use Rattle.arc_swap.proofs.arc_swap_counted.Proof.Tie as tie

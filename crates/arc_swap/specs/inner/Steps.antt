@@ -15,7 +15,7 @@ use Rattle.topology.specs.Graph.{Graph, inRows}
 use Rattle.topology.specs.Rule.{Rows, Symmetric, Sound}
 use Rattle.topology.specs.Cut.{cut}
 use Rattle.arc_swap_attempt.specs.Trial.{trial}
-use Rattle.arc_swap_attempt.specs.inner.Steps.{held, Named, Stood, MoveDone}
+use Rattle.arc_swap_attempt.specs.inner.Steps.{stacked, Named, Stood, MoveDone}
 use Rattle.arc_swap_attempt.specs.declared.Standing.{Standing}
 use Rattle.arc_swap_attempt.specs.declared.Trial.the-variants.{Goes}
 use Rattle.arc_swap.specs.declared.RunRecord.{RunRecord}
@@ -23,16 +23,17 @@ use Rattle.arc_swap.specs.declared.Attempted.{Attempted}
 use Rattle.arc_swap.specs.declared.Begun.{Begun}
 use Rattle.arc_swap.specs.declared.Ended.{Ended}
 use Rattle.arc_swap.specs.declared.Report.{Report}
-use Rattle.arc_swap.specs.Run.{Setting, State, onCut, run, Summed}
-use Rattle.arc_swap.specs.Entry.{Plan, Lent, graphOf, partsOf, noCounts, reportOf, leftBy}
+use Rattle.arc_swap.specs.Run.{Terms, State, onCut, run, Summed}
+use Rattle.topology.specs.Given.{graphOf}
+use Rattle.arc_swap.specs.Entry.{Given, Lent, partsOf, noCounts, reportOf, leftBy}
 
--- the setting that a function's parameters stand for
-abbrev pub settingBy : List ℕ → List ℕ → List ℕ → List ℕ → List ℕ → ℕ → ℕ → Setting
-settingBy starts neighbours arcs weights ceilings parts room =
-    record { graph = inRows starts neighbours arcs; weights = weights; ceilings = ceilings; movable = λ v. true; parts = parts; room = room }
+-- the terms that a function's parameters stand for
+abbrev pub termsBy : List ℕ → List ℕ → List ℕ → List ℕ → List ℕ → ℕ → ℕ → Terms
+termsBy starts neighbours arcs weights ceilings parts places =
+    record { graph = inRows starts neighbours arcs; weights = weights; ceilings = ceilings; movable = λ v. true; parts = parts; places = places }
 
 -- What stands still during a run of n vertices, once no number applies.
-pub record Fixed (s : Setting) (n : ℕ) : Type 0 where
+pub record Fixed (s : Terms) (n : ℕ) : Type 0 where
   pub rows : Rows n (s .graph)
   pub symmetric : Symmetric n (s .graph)
   pub weighed : length (s .weights) ≡ n
@@ -41,16 +42,16 @@ pub record Fixed (s : Setting) (n : ℕ) : Type 0 where
 
 -- every number of the list is below n
 pub data Inside (n : ℕ) : List ℕ → Type 0 where
-  nobody : Inside n []
+  no-vertex : Inside n []
   also : {x : ℕ} {xs : List ℕ} → x < n → Inside n xs → Inside n (x ∷ xs)
 
 -- The code is in order: labels below k, `top` places of the stack held, vertices all, the cut and the loads of the labels, the counts in order.
-pub record Ready (s : Setting) (n : ℕ) (labels stack : List ℕ) (top cut₀ : ℕ) (loads : List ℕ) (counts : RunRecord) : Type 0 where
+pub record Ordered (s : Terms) (n : ℕ) (labels stack : List ℕ) (top cut₀ : ℕ) (loads : List ℕ) (counts : RunRecord) : Type 0 where
   pub long : length labels ≡ n
   pub ok : Named (s .graph) (s .parts) labels
-  pub room : length stack ≡ s .room
+  pub places : length stack ≡ s .places
   pub within : top ≤ length stack
-  pub inside : Inside n (held stack top)
+  pub inside : Inside n (stacked stack top)
   pub stood : Stood (s .graph) (s .weights) labels cut₀ loads
   pub summed : Summed counts
 
@@ -75,29 +76,29 @@ abbrev pub most : ℕ
 most = 2 ^ 62
 
 -- What a function of the run asks: all in order, and counts far from the ends of their types even after `more` first pushes.
-pub record Asked (s : Setting) (labels stack : List ℕ) (top cut₀ : ℕ) (loads : List ℕ) (counts : RunRecord) (more : ℕ) : Type 0 where
+pub record Asked (s : Terms) (labels stack : List ℕ) (top cut₀ : ℕ) (loads : List ℕ) (counts : RunRecord) (more : ℕ) : Type 0 where
   pub fixed : Fixed s (length labels)
-  pub ready : Ready s (length labels) labels stack top cut₀ loads counts
+  pub ordered : Ordered s (length labels) labels stack top cut₀ loads counts
   pub modest : spent counts top cut₀ + more ≤ most
 
 -- What it answers: the defined f leads to where the code stands, the stack empty unless pushes did not fit, all in order.
-pub record Done (f : State → State) (s : Setting) (labels stack : List ℕ) (top cut₀ : ℕ) (counts : RunRecord) (more : ℕ) (labels′ stack′ : List ℕ) (counts′ : RunRecord) (c : Standing) : Type 0 where
-  pub leads : Leads f labels (held stack top) counts labels′ (held stack′ (c .top)) counts′ (not (c .fits))
+pub record Done (f : State → State) (s : Terms) (labels stack : List ℕ) (top cut₀ : ℕ) (counts : RunRecord) (more : ℕ) (labels′ stack′ : List ℕ) (counts′ : RunRecord) (c : Standing) : Type 0 where
+  pub leads : Leads f labels (stacked stack top) counts labels′ (stacked stack′ (c .top)) counts′ (not (c .fits))
   pub emptied : c .fits ≡ true → c .top ≡ 0
-  pub ready : Ready s (length labels) labels′ stack′ (c .top) (c .cut) (c .loads .at) counts′
+  pub ordered : Ordered s (length labels) labels′ stack′ (c .top) (c .cut) (c .loads .at) counts′
   pub bounded : spent counts′ (c .top) (c .cut) ≤ spent counts top cut₀ + more
 
 -- What an attempt asks: all in order, and a vertex on the stack.
-pub record AttemptAsked (s : Setting) (labels stack : List ℕ) (c : Standing) : Type 0 where
+pub record AttemptAsked (s : Terms) (labels stack : List ℕ) (c : Standing) : Type 0 where
   pub fixed : Fixed s (length labels)
   pub ok : Named (s .graph) (s .parts) labels
   pub some : 0 < c .top
   pub within : c .top ≤ length stack
-  pub inside : Inside (length labels) (held stack (c .top))
+  pub inside : Inside (length labels) (stacked stack (c .top))
   pub stood : Stood (s .graph) (s .weights) labels (c .cut) (c .loads .at)
 
 -- What it answers: what came of the vertex on top, which is off the stack now; where that one moves, the move, and else nothing more.
-pub record AttemptDone (s : Setting) (labels stack : List ℕ) (c : Standing) (labels′ stack′ : List ℕ) (r : Attempted) : Type 0 where
+pub record AttemptDone (s : Terms) (labels stack : List ℕ) (c : Standing) (labels′ stack′ : List ℕ) (r : Attempted) : Type 0 where
   pub tried : r .trial ≡ trial (s .graph) (s .parts) (s .weights) (s .ceilings) labels (getD stack (c .top - 1) 0)
   pub stays : ((t x : ℕ) → r .trial ≡ Goes t x → ⊥) → (labels′ ≡ labels) × (stack′ ≡ stack) × (r .st ≡ record { fits = c .fits; top = c .top - 1; cut = c .cut; loads = c .loads })
   pub goes : (t x : ℕ) → r .trial ≡ Goes t x → MoveDone (s .graph) (s .parts) (s .weights) labels stack (c .top - 1) (getD stack (c .top - 1) 0) t labels′ stack′ (r .st)
@@ -109,9 +110,9 @@ pub record FirstDone (g : Graph) (labels stack : List ℕ) (v : ℕ) (c : Standi
   pub alone : onCut g labels v ≡ true → (length stack ≡ 0 → ⊥) → (stack′ ≡ set stack 0 v) × (r ≡ record { fits = c .fits; top = 1; cut = c .cut; loads = c .loads })
 
 -- What a pass asks: the stack empty, and room for `more` first pushes in the counts.
-pub record TurnAsked (s : Setting) (labels stack : List ℕ) (st : Standing) (counts : RunRecord) (more : ℕ) : Type 0 where
+pub record TurnAsked (s : Terms) (labels stack : List ℕ) (st : Standing) (counts : RunRecord) (more : ℕ) : Type 0 where
   pub asked : Asked s labels stack (st .top) (st .cut) (st .loads .at) counts more
-  pub none : st .top ≡ 0
+  pub empty : st .top ≡ 0
   pub fit : st .fits ≡ true
 
 -- how a pass ends the run: 2 where pushes did not fit, 1 where the cut did not fall, 0 where the run goes on
@@ -119,24 +120,24 @@ abbrev pub endBy : ℕ → Bool → ℕ → ℕ
 endBy before fits after = cond fits (cond (ltb after before) 0 1) 2
 
 -- What the passes answer: the defined run from the labels with no counts, its end and its passes.
-pub record PassesDone (s : Setting) (labels labels′ stack′ : List ℕ) (counts′ : RunRecord) (r : Ended) : Type 0 where
-  pub leads : (hs : List ℤ) × (run s (cut (s .graph) labels + 1) 0 (at labels [] noCounts [] false) ≡ record { end = r .end; passes = r .passes; state = at labels′ (held stack′ (r .st .top)) counts′ hs (not (r .st .fits)) })
+pub record PassesDone (s : Terms) (labels labels′ stack′ : List ℕ) (counts′ : RunRecord) (r : Ended) : Type 0 where
+  pub leads : (hs : List ℤ) × (run s (cut (s .graph) labels + 1) 0 (at labels [] noCounts [] false) ≡ record { end = r .end; passes = r .passes; state = at labels′ (stacked stack′ (r .st .top)) counts′ hs (not (r .st .fits)) })
   pub stood : Stood (s .graph) (s .weights) labels′ (r .st .cut) (r .st .loads .at)
 
 -- What the run of a call asks, once no number applies. The rules themselves are `rules` of Rules.antt.
-pub record InOrder (p : Plan) (labels : List ℕ) : Type 0 where
+pub record Ready (p : Given) (labels : List ℕ) : Type 0 where
   pub sound : Sound (length labels) (p .weights) (graphOf p)
   pub named : labelAbove 15 labels ≡ false
   pub fit : unfitChoice (p .settings .ceiling) ≡ false
 
 -- What a run begins with: the number of parts, the ceilings, and an empty stack beside the cut and the loads of the labels.
-pub record Begins (p : Plan) (labels : List ℕ) (b : Begun) : Type 0 where
+pub record Begins (p : Given) (labels : List ℕ) (b : Begun) : Type 0 where
   pub parts : b .parts ≡ partsOf labels
   pub capped : b .ceilings .at ≡ ceilings (table 16 (load (p .weights) labels)) (total (p .weights)) (partsOf labels) (p .settings .ceiling)
   pub stands : b .st ≡ record { fits = true; top = 0; cut = cut (graphOf p) labels; loads = loadsOf (p .weights) labels }
 
 -- What the run of a call answers and leaves.
-pub record Ran (p : Plan) (l : Lent) (r : Report) (k : Lent) : Type 0 where
+pub record Ran (p : Given) (l : Lent) (r : Report) (k : Lent) : Type 0 where
   pub answered : r ≡ reportOf p l
   pub labels : k .labels ≡ leftBy p l .labels
   pub stack : k .stack ≡ leftBy p l .stack

@@ -19,9 +19,9 @@ use Rattle.arc_swap_attempt.specs.declared.Target.{Target}
 use Rattle.arc_swap_attempt.specs.declared.Standing.{Standing}
 
 -- what stands in the first n places of the lent stack, the top first
-unfoldable pub held : List ℕ → ℕ → List ℕ
-held stack zero = []
-held stack (suc n) = getD stack n 0 ∷ held stack n
+unfoldable pub stacked : List ℕ → ℕ → List ℕ
+stacked stack zero = []
+stacked stack (suc n) = getD stack n 0 ∷ stacked stack n
 
 -- the chosen part with its sum, or where there is none the own part with nothing
 abbrev pub picked : ℕ → (ℕ → ℕ) → Option ℕ → Target
@@ -50,12 +50,12 @@ pub record Tryable (g : Graph) (k : ℕ) (weights ceilings loads p : List ℕ) (
 -- What the pushes leave of a stack s₀ of which n places were held: "do not all fit, none is pushed".
 pub record PushDone (new s₀ : List ℕ) (n : ℕ) (s : List ℕ) (fits : Bool) (top : ℕ) : Type 0 where
   pub fits-is : fits ≡ leb (length new + n) (length s₀)
-  pub held-is : held s top ≡ cond fits (new ++ held s₀ n) (held s₀ n)
+  pub stacked-is : stacked s top ≡ cond fits (new ++ stacked s₀ n) (stacked s₀ n)
   pub within : top ≤ length s₀
 
 -- v's neighbours that are pushed once v has moved
-abbrev pub fresh : Graph → ℕ → List ℕ → ℕ → List ℕ
-fresh g k p v = pushed g k (λ u. true) p v (past g v - first g v)
+abbrev pub pushedBy : Graph → ℕ → List ℕ → ℕ → List ℕ
+pushedBy g k p v = pushed g k (λ u. true) p v (past g v - first g v)
 
 -- Where the code stands: the cut and the loads of the labels.
 pub record Stood (g : Graph) (weights p : List ℕ) (cut₀ : ℕ) (loads : List ℕ) : Type 0 where
@@ -69,7 +69,7 @@ pub record MoveAsked (g : Graph) (k : ℕ) (weights p s₀ : List ℕ) (n cut₀
   pub weighed : length weights ≡ length p
   pub light : total weights ≤ mostWeight
   pub stood : Stood g weights p cut₀ loads
-  pub room : n ≤ length s₀
+  pub places : n ≤ length s₀
   pub here : v < length p
   pub target : t < k
   pub apart : part p v ≡ t → ⊥
@@ -79,4 +79,4 @@ pub record MoveAsked (g : Graph) (k : ℕ) (weights p s₀ : List ℕ) (n cut₀
 pub record MoveDone (g : Graph) (k : ℕ) (weights p s₀ : List ℕ) (n v t : ℕ) (p′ s : List ℕ) (c : Standing) : Type 0 where
   pub labelled : p′ ≡ set p v t
   pub stood : Stood g weights p′ (c .cut) (c .loads .at)
-  pub pushes : PushDone (fresh g k p′ v) s₀ n s (c .fits) (c .top)
+  pub pushes : PushDone (pushedBy g k p′ v) s₀ n s (c .fits) (c .top)

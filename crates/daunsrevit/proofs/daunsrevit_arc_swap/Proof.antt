@@ -3,8 +3,6 @@ mod Tie
 use borrow.Author.Needs.{needs}
 use Rattle.daunsrevit.proofs.daunsrevit_arc_swap.Statement.{statement}
 use Rattle.daunsrevit.proofs.daunsrevit_arc_swap.Proof.Tie as tie
-use Rattle.daunsrevit.proofs.walk.daunsrevit_arc_swap.Reads as reads
-use Rattle.daunsrevit.proofs.walk.daunsrevit_arc_swap.Lts as lts
 
 arc-swap-requires : tie.Need-arc-swap-requires
 arc-swap-requires c κs = search needs

@@ -3,8 +3,6 @@ mod Tie
 use borrow.Author.Needs.{needs}
 use Rattle.daunsrevit.proofs.daunsrevit_fiduccia_mattheyses.Statement.{statement}
 use Rattle.daunsrevit.proofs.daunsrevit_fiduccia_mattheyses.Proof.Tie as tie
-use Rattle.daunsrevit.proofs.walk.daunsrevit_fiduccia_mattheyses.Reads as reads
-use Rattle.daunsrevit.proofs.walk.daunsrevit_fiduccia_mattheyses.Lts as lts
 
 fiduccia-mattheyses-requires : tie.Need-fiduccia-mattheyses-requires
 fiduccia-mattheyses-requires c κs = search needs

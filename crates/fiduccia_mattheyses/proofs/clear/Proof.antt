@@ -45,7 +45,7 @@ use denote.Exit.{yes}
 use denote.Signature.{plain}
 use Rattle.fiduccia_mattheyses.specs.declared.Move.{Move}
 use Rattle.lists.specs.Fill.{filled}
-use Rattle.fiduccia_mattheyses.specs.Entry.{none}
+use Rattle.fiduccia_mattheyses.specs.Entry.{noMove}
 use Rattle.lists.proofs.Fills.{length-written, written-more, written-none}
 use Rattle.fiduccia_mattheyses.proofs.Again.{LentAgain, lends-again, comes-back}
 use Rattle.fiduccia_mattheyses.proofs.walk.MoveTy.{R, behind}
@@ -98,7 +98,7 @@ module _ {M : Type 1} (𝓤 : URA M) (H : Heap 𝓤) (A : Atoms 𝓤) (W : Given
   Post = walkOf 𝓤 H A f.ended stayed (f.clauses 𝓤 H A at-mem run) .post (((κ, tt), (q, tt), tt, a, vals), tt)
 
   -- at exit, at the list ys
-  exits : (ys : List Move) → ys ≡ filled none n xs → length ys ≡ length xs → ent 𝓤 (⋆ 𝓤 H A (‵ (MutSlice (named 0) κ R .own (x γ ys) (s ys ∷ [])) ∷ ‵ (flft κ q) ∷ [])) (Post vunit)
+  exits : (ys : List Move) → ys ≡ filled noMove n xs → length ys ≡ length xs → ent 𝓤 (⋆ 𝓤 H A (‵ (MutSlice (named 0) κ R .own (x γ ys) (s ys ∷ [])) ∷ ‵ (flft κ q) ∷ [])) (Post vunit)
   exits ys e l =
       qed W (‵ (MutSlice (named 0) κ R .own (x γ ys) (s ys ∷ [])) ∷ ‵ (flft κ q) ∷ []) ∵
       suffices ! _ (ends-at 𝓤 H A f.ended stayed (f.clauses 𝓤 H A at-mem run) W (((κ, tt), (q, tt), tt, a, vals), tt) vunit tt (ys, (tt, tt)) (l, (tt, tt))) $ says ! e $
@@ -133,7 +133,7 @@ module _ {M : Type 1} (𝓤 : URA M) (H : Heap 𝓤) (A : Atoms 𝓤) (W : Given
         ∷ ‵ (fdies tyUnit l₀) ∷ ‵ (fdies slice l₁) ∷ ‵ (fdies word l₂) ∷ ‵ (fdies word l₃) ∷ ‵ (fdies tyBool l₄) ∷ ‵ (fdies tyUnit l₅) ∷ ‵ (fdies ref l₆) ∷ ‵ (fdies (sliceTy ref) l₇) ∷ []
 
     abbrev Facts : ℕ → ℕ → List Move → Type 0
-    Facts t i ys = (t + i ≡ n) × (ys ≡ filled none i xs)
+    Facts t i ys = (t + i ≡ n) × (ys ≡ filled noMove i xs)
 
     abbrev Inv : ℕ → SProp 𝓤
     Inv t = ex 𝓤 (λ (i : ℕ). ex 𝓤 (λ (ys : List Move). guard 𝓤 (Facts t i ys) (⋆ 𝓤 H A (At i ys))))
@@ -144,8 +144,8 @@ module _ {M : Type 1} (𝓤 : URA M) (H : Heap 𝓤) (A : Atoms 𝓤) (W : Given
     abbrev Left : Out → SProp 𝓤
     Left = afterBlock 𝓤 H (afterSeq 𝓤 H (Wp 𝓤 H C Λ En piece.t-3 (atReturn 𝓤 H En Post)) (atReturn 𝓤 H En Post))
 
-    as-long : (i : ℕ) (ys : List Move) → ys ≡ filled none i xs → length ys ≡ length xs
-    as-long i ys e = ap length e ∙ length-written (λ (j : ℕ). none) i xs
+    as-long : (i : ℕ) (ys : List Move) → ys ≡ filled noMove i xs → length ys ≡ length xs
+    as-long i ys e = ap length e ∙ length-written (λ (j : ℕ). noMove) i xs
 
     to-inv : (t i : ℕ) (ys : List Move) → Facts t i ys → ent 𝓤 (⋆ 𝓤 H A (At i ys)) (Inv t)
     to-inv t i ys fs =
@@ -154,7 +154,7 @@ module _ {M : Type 1} (𝓤 : URA M) (H : Heap 𝓤) (A : Atoms 𝓤) (W : Given
         (exI 𝓤 (λ (j : ℕ). ex 𝓤 (λ (ws : List Move). guard 𝓤 (Facts t j ws) (⋆ 𝓤 H A (At j ws)))) i))
 
     -- a turn that clears one record
-    more : (i : ℕ) (ys : List Move) (X : SProp 𝓤) → i < n → length ys ≡ length xs → ((zs : List Move) → zs ≡ set ys i none → ent 𝓤 (⋆ 𝓤 H A (At (i + 1) zs)) X) → ent 𝓤 (⋆ 𝓤 H A (At i ys)) (Wp 𝓤 H C Λ En piece.turn-1 (afterTurn 𝓤 H X Left))
+    more : (i : ℕ) (ys : List Move) (X : SProp 𝓤) → i < n → length ys ≡ length xs → ((zs : List Move) → zs ≡ set ys i noMove → ent 𝓤 (⋆ 𝓤 H A (At (i + 1) zs)) X) → ent 𝓤 (⋆ 𝓤 H A (At i ys)) (Wp 𝓤 H C Λ En piece.turn-1 (afterTurn 𝓤 H X Left))
     unfolding afterTurn
     more i ys X small same k =
         qed W (At i ys) ∵ exec ! C Λ En piece.turn-1 (anyQ (afterTurn 𝓤 H X Left)) $
@@ -169,8 +169,8 @@ module _ {M : Type 1} (𝓤 : URA M) (H : Heap 𝓤) (A : Atoms 𝓤) (W : Given
         move ! (2 ∷ 0 ∷ []) $ use2 W (raw (Put 𝓤 H A at-mem run .pre (to-put ν δ ys i))) (goes-put ν δ ys i i-fits within) $
         calls-at ! (fmOf 𝓤 H (W .laws) 𝓣) (Put 𝓤 H A at-mem run) known (to-put ν δ ys i) (and-then ! (load ! (from ! (stop !)) (look ! 6 refl)) (and-then ! (load ! (from ! (stop !)) (look ! 2 refl)) (and-then ! (lit ! tt) (and-then ! (lit ! tt) (no-more !))))) (λ w.
         use1 W (later (some (λ (r : Unit {0}). ((‵ (flft (ν ∷ []) fullShare) ⊛ ‵ ftrue) ⊛ ‵ (unit .own r (w ∷ []))) ⊛ raw (ensured 𝓤 H A put.ended (put.clauses 𝓤 H A at-mem run) (ν ∷ [], tt) (x δ ys, (i, (0, (0, tt)))) tt r)))) (id⊢ 𝓤 _) $ await ! tt $ pick ! (λ r.
-        split ! $ move ! (1 ∷ []) $ use1 W (some (λ (zs : List Move × (Unit {0} × (Unit {0} × (Unit {0} × Unit {0})))). ‵ (lasts put.ended (ν ∷ [], tt) (x δ ys, (i, (0, (0, tt)))) zs) ⊛ raw (fact 𝓤 (zs .0 ≡ set ys i none)))) (id⊢ 𝓤 _) $ pick ! (λ zs.
-        split ! $ move ! (1 ∷ []) $ heard ! (zs .0 ≡ set ys i none) (λ e. fsplit ! $ fsplit ! $ move ! (1 ∷ []) $ feqL ! (λ l.
+        split ! $ move ! (1 ∷ []) $ use1 W (some (λ (zs : List Move × (Unit {0} × (Unit {0} × (Unit {0} × Unit {0})))). ‵ (lasts put.ended (ν ∷ [], tt) (x δ ys, (i, (0, (0, tt)))) zs) ⊛ raw (fact 𝓤 (zs .0 ≡ set ys i noMove)))) (id⊢ 𝓤 _) $ pick ! (λ zs.
+        split ! $ move ! (1 ∷ []) $ heard ! (zs .0 ≡ set ys i noMove) (λ e. fsplit ! $ fsplit ! $ move ! (1 ∷ []) $ feqL ! (λ l.
         move ! (2 ∷ []) $ split ! $ move ! (1 ∷ []) $ peeks ! unit (Is unit) (shows 𝓤 H A unit) r (w ∷ []) (λ is.
         -- [what the result owns; the tokens; the last list; …; what is kept of the slice; _3; _4; _5; _6; _7; _1; _2; _0; …]
         land ! (from ! (stop !)) (init ! 7 refl (nothing-lawful 𝓤 H A W .typed r _ is .0)) $ drop ! $
@@ -198,7 +198,7 @@ module _ {M : Type 1} (𝓤 : URA M) (H : Heap 𝓤) (A : Atoms 𝓤) (W : Given
         room-ys = rw same room
 
     -- the turn that leaves the loop, and the rest of the body
-    ends : (ys : List Move) (X : SProp 𝓤) → ys ≡ filled none n xs → ent 𝓤 (⋆ 𝓤 H A (At n ys)) (Wp 𝓤 H C Λ En piece.turn-1 (afterTurn 𝓤 H X Left))
+    ends : (ys : List Move) (X : SProp 𝓤) → ys ≡ filled noMove n xs → ent 𝓤 (⋆ 𝓤 H A (At n ys)) (Wp 𝓤 H C Λ En piece.turn-1 (afterTurn 𝓤 H X Left))
     unfolding afterTurn
     ends ys X e =
         qed W (At n ys) ∵ exec ! C Λ En piece.turn-1 (anyQ (afterTurn 𝓤 H X Left)) $
@@ -213,10 +213,10 @@ module _ {M : Type 1} (𝓤 : URA M) (H : Heap 𝓤) (A : Atoms 𝓤) (W : Given
     turn-at : (t i : ℕ) (ys : List Move) → Facts t i ys → ent 𝓤 (⋆ 𝓤 H A (At i ys)) (Wp 𝓤 H C Λ En piece.turn-1 (afterTurn 𝓤 H (Below t) Left))
     turn-at zero i ys fs =
         let at-n : i ≡ n = omega arith in
-        subst (λ (k : ℕ). ent 𝓤 (⋆ 𝓤 H A (At k ys)) (Wp 𝓤 H C Λ En piece.turn-1 (afterTurn 𝓤 H (Below zero) Left))) (sym at-n) (ends ys (Below zero) (fs .1 ∙ ap (λ (k : ℕ). filled none k xs) at-n))
+        subst (λ (k : ℕ). ent 𝓤 (⋆ 𝓤 H A (At k ys)) (Wp 𝓤 H C Λ En piece.turn-1 (afterTurn 𝓤 H (Below zero) Left))) (sym at-n) (ends ys (Below zero) (fs .1 ∙ ap (λ (k : ℕ). filled noMove k xs) at-n))
     turn-at (suc t) i ys fs =
         more i ys (Below (suc t)) (omega arith) (as-long i ys (fs .1)) (λ zs e.
-        via 𝓤 (Inv t) (to-inv t (i + 1) zs (omega arith, written-more (λ (j : ℕ). none) i xs ys zs e (fs .1)))
+        via 𝓤 (Inv t) (to-inv t (i + 1) zs (omega arith, written-more (λ (j : ℕ). noMove) i xs ys zs e (fs .1)))
         (via 𝓤 (guard 𝓤 (t < suc t) (Inv t)) (guardI 𝓤 (t < suc t) (Inv t) (omega arith)) (exI 𝓤 (λ (u : ℕ). guard 𝓤 (u < suc t) (Inv u)) t)))
 
     turns : (t : ℕ) → ent 𝓤 (Inv t) (Wp 𝓤 H C Λ En piece.turn-1 (afterTurn 𝓤 H (Below t) Left))
@@ -224,7 +224,7 @@ module _ {M : Type 1} (𝓤 : URA M) (H : Heap 𝓤) (A : Atoms 𝓤) (W : Given
         exE 𝓤 (λ (ys : List Move). guard 𝓤 (Facts t i ys) (⋆ 𝓤 H A (At i ys))) (λ ys. guardE 𝓤 (Facts t i ys) (⋆ 𝓤 H A (At i ys)) (λ fs. turn-at t i ys fs)))
 
     loops : ent 𝓤 (⋆ 𝓤 H A (At 0 xs)) (Wp 𝓤 H C Λ En (loop piece.turn-1) Left)
-    loops = via 𝓤 (Inv n) (to-inv n 0 xs (omega arith, written-none (λ (j : ℕ). none) xs)) (loop-rule 𝓤 H (W .laws) 𝓣 _<_ (Nat·lt-wfRel .wf) En piece.turn-1 Left Inv turns n)
+    loops = via 𝓤 (Inv n) (to-inv n 0 xs (omega arith, written-none (λ (j : ℕ). noMove) xs)) (loop-rule 𝓤 H (W .laws) 𝓣 _<_ (Nat·lt-wfRel .wf) En piece.turn-1 Left Inv turns n)
 
   walk : (𝓣 : Tables 𝓤 H) → Triple 𝓤 (𝓣 .C #fiduccia_mattheyses·put-move) (Put 𝓤 H A at-mem run) → Room R (length xs) → n ≤ length xs → ent 𝓤 (onEntry 𝓤 H A f.signature (κ, tt) (q, tt) a vals) (WpFn 𝓤 H (𝓣 .C) (𝓣 .Λ) code.function (s xs ∷ vint w64 n ∷ []) Post)
   walk 𝓣 known room fits =

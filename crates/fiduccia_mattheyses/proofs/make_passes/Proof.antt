@@ -4,19 +4,19 @@ use mathlib.Core.Path.{refl, sym, _∙_}
 use Prim.Native.Nat.{_-_}
 use native.Mathlib.Omega.{arith}
 use borrow.Author.Needs.{needs}
-use Rattle.fiduccia_mattheyses.specs.inner.Steps.{settingBy}
+use Rattle.fiduccia_mattheyses.specs.inner.Steps.{termsBy}
 use Rattle.fiduccia_mattheyses.proofs.Running.{Running, running-start, rows-long, row-asked, running-full, course-ends, course-goes-on}
 use Rattle.fiduccia_mattheyses.proofs.make_passes.Statement.{statement}
 use Rattle.fiduccia_mattheyses.proofs.make_passes.Proof.Tie as tie
 
 abbrev Inv-loop : tie.InvT-loop
-Inv-loop starts neighbours arc-weights weights labels₀ gains₀ moves₀ rows-made₀ rows-rewound₀ first-cut limits pass-limit loads₀ cut₀ passes₀ labels gains moves rows-made rows-rewound loads cut passes = Running (settingBy starts neighbours arc-weights weights limits) pass-limit labels₀ moves₀ rows-made₀ rows-rewound₀ labels gains moves rows-made rows-rewound loads cut passes
+Inv-loop starts neighbours arc-weights weights labels₀ gains₀ moves₀ rows-made₀ rows-rewound₀ first-cut limits pass-limit loads₀ cut₀ passes₀ labels gains moves rows-made rows-rewound loads cut passes = Running (termsBy starts neighbours arc-weights weights limits) pass-limit labels₀ moves₀ rows-made₀ rows-rewound₀ labels gains moves rows-made rows-rewound loads cut passes
 
 abbrev μ-loop : tie.MeasureT-loop
 μ-loop starts neighbours arc-weights weights labels₀ gains₀ moves₀ rows-made₀ rows-rewound₀ first-cut limits pass-limit loads₀ cut₀ passes₀ labels gains moves rows-made rows-rewound loads cut passes = pass-limit - passes
 
 -- ---- the stations of a turn: where the loop is entered, and what the function was given
-abbrev entered : tie.After-pass Inv-loop μ-loop → tie.In-loop Inv-loop μ-loop
+abbrev entered : tie.After-make-pass Inv-loop μ-loop → tie.In-loop Inv-loop μ-loop
 entered passed = search needs
 
 abbrev given : tie.At-loop Inv-loop μ-loop → tie.Start Inv-loop μ-loop
@@ -27,16 +27,16 @@ loop-holds c =
     let start : tie.Start Inv-loop μ-loop = search needs in
     running-start _ _ _ _ _ _ _ _ _ (start .pre)
 
-pass-requires : tie.Need-pass-requires Inv-loop μ-loop
-pass-requires c κs =
+make-pass-requires : tie.Need-make-pass-requires Inv-loop μ-loop
+make-pass-requires c κs =
     let at : tie.At-loop Inv-loop μ-loop = search needs in
     at .loop .inv .asked
 
 put-row-requires : tie.Need-put-row-requires Inv-loop μ-loop
 put-row-requires c κs =
-    let passed : tie.After-pass Inv-loop μ-loop = search needs in
+    let passed : tie.After-make-pass Inv-loop μ-loop = search needs in
     let turn = entered passed in
-    row-asked _ _ _ _ _ _ _ _ _ (given (turn .before) .pre) _ _ _ _ _ _ _ _ (turn .before .loop .inv) (turn .loop-test .taken) _ _ _ (passed .pass .ensures)
+    row-asked _ _ _ _ _ _ _ _ _ (given (turn .before) .pre) _ _ _ _ _ _ _ _ (turn .before .loop .inv) (turn .loop-test .taken) _ _ _ (passed .make-pass .ensures)
 
 course-of-requires : tie.Need-course-of-requires Inv-loop μ-loop
 course-of-requires c κs = search needs
@@ -49,7 +49,7 @@ enum-told c = search needs
 
 loop-less : tie.Need-loop-less Inv-loop μ-loop
 loop-less c =
-    let after-pass : tie.After-pass Inv-loop μ-loop = search needs in
+    let after-pass : tie.After-make-pass Inv-loop μ-loop = search needs in
     let rowed : tie.After-put-row Inv-loop μ-loop = search needs in
     let turn = entered after-pass in
     omega (arith, rowed .put-row .ensures .passes-are, turn .loop-test .taken)
@@ -58,36 +58,36 @@ loop-again : tie.Need-loop-again Inv-loop μ-loop
 loop-again c =
     let tried : tie.After-course-of Inv-loop μ-loop = search needs in
     let rowed : tie.After-put-row Inv-loop μ-loop = search needs in
-    let passed : tie.After-pass Inv-loop μ-loop = search needs in
+    let passed : tie.After-make-pass Inv-loop μ-loop = search needs in
     let turn = entered passed in
-    course-goes-on _ _ _ _ _ _ _ _ _ (given (turn .before) .pre) _ _ _ _ _ _ _ _ (turn .before .loop .inv) (turn .loop-test .taken) _ (passed .pass .last .1 .1 .1 .1 .1 .0) _ _ (passed .pass .ensures) (passed .pass .kept .1 .1 .1 .1 .1 .0) _ _ _ (rowed .put-row .ensures) (sym (tried .course-of .ensures) ∙ c .enum-told .given .1)
+    course-goes-on _ _ _ _ _ _ _ _ _ (given (turn .before) .pre) _ _ _ _ _ _ _ _ (turn .before .loop .inv) (turn .loop-test .taken) _ (passed .make-pass .last .1 .1 .1 .1 .1 .0) _ _ (passed .make-pass .ensures) (passed .make-pass .kept .1 .1 .1 .1 .1 .0) _ _ _ (rowed .put-row .ensures) (sym (tried .course-of .ensures) ∙ c .enum-told .given .1)
 
 same-length : tie.Need-same-length Inv-loop μ-loop
 same-length c =
-    let passed : tie.After-pass Inv-loop μ-loop = search needs in
-    passed .pass .ensures .long ∙ entered passed .before .loop .inv .long
+    let passed : tie.After-make-pass Inv-loop μ-loop = search needs in
+    passed .make-pass .ensures .long ∙ entered passed .before .loop .inv .long
 
 same-length-2 : tie.Need-same-length-2 Inv-loop μ-loop
 same-length-2 c =
-    let passed : tie.After-pass Inv-loop μ-loop = search needs in
+    let passed : tie.After-make-pass Inv-loop μ-loop = search needs in
     let at = entered passed .before in
-    passed .pass .kept .1 .1 .1 .1 .1 .0 ∙ at .loop .inv .asked .gained ∙ at .loop .inv .long ∙ sym (given at .pre .begun .gained)
+    passed .make-pass .kept .1 .1 .1 .1 .1 .0 ∙ at .loop .inv .asked .gained ∙ at .loop .inv .long ∙ sym (given at .pre .begun .gained)
 
 same-length-3 : tie.Need-same-length-3 Inv-loop μ-loop
 same-length-3 c =
-    let passed : tie.After-pass Inv-loop μ-loop = search needs in
-    passed .pass .ensures .moves-long ∙ entered passed .before .loop .inv .moves-long
+    let passed : tie.After-make-pass Inv-loop μ-loop = search needs in
+    passed .make-pass .ensures .moves-long ∙ entered passed .before .loop .inv .moves-long
 
 same-length-4 : tie.Need-same-length-4 Inv-loop μ-loop
 same-length-4 c =
-    let after-pass : tie.After-pass Inv-loop μ-loop = search needs in
+    let after-pass : tie.After-make-pass Inv-loop μ-loop = search needs in
     let rowed : tie.After-put-row Inv-loop μ-loop = search needs in
     let at = entered after-pass .before in
     rowed .put-row .kept .0 ∙ rows-long _ _ _ _ _ _ _ _ _ (given at .pre) _ _ _ _ _ _ _ _ (at .loop .inv) .0
 
 same-length-5 : tie.Need-same-length-5 Inv-loop μ-loop
 same-length-5 c =
-    let after-pass : tie.After-pass Inv-loop μ-loop = search needs in
+    let after-pass : tie.After-make-pass Inv-loop μ-loop = search needs in
     let rowed : tie.After-put-row Inv-loop μ-loop = search needs in
     let at = entered after-pass .before in
     rowed .put-row .kept .1 .0 ∙ rows-long _ _ _ _ _ _ _ _ _ (given at .pre) _ _ _ _ _ _ _ _ (at .loop .inv) .1
@@ -96,9 +96,9 @@ returns : tie.Need-returns Inv-loop μ-loop
 returns c =
     let tried : tie.After-course-of Inv-loop μ-loop = search needs in
     let rowed : tie.After-put-row Inv-loop μ-loop = search needs in
-    let passed : tie.After-pass Inv-loop μ-loop = search needs in
+    let passed : tie.After-make-pass Inv-loop μ-loop = search needs in
     let turn = entered passed in
-    course-ends _ _ _ _ _ _ _ _ _ (given (turn .before) .pre) _ _ _ _ _ _ _ _ (turn .before .loop .inv) (turn .loop-test .taken) _ (passed .pass .last .1 .1 .1 .1 .1 .0) _ _ (passed .pass .ensures) (passed .pass .kept .1 .1 .1 .1 .1 .0) _ _ _ (rowed .put-row .ensures) _ (sym (tried .course-of .ensures) ∙ c .before .end .given .1)
+    course-ends _ _ _ _ _ _ _ _ _ (given (turn .before) .pre) _ _ _ _ _ _ _ _ (turn .before .loop .inv) (turn .loop-test .taken) _ (passed .make-pass .last .1 .1 .1 .1 .1 .0) _ _ (passed .make-pass .ensures) (passed .make-pass .kept .1 .1 .1 .1 .1 .0) _ _ _ (rowed .put-row .ensures) _ (sym (tried .course-of .ensures) ∙ c .before .end .given .1)
 
 same-length-6 : tie.Need-same-length-6 Inv-loop μ-loop
 same-length-6 c = c .before .loop .inv .long
@@ -133,7 +133,7 @@ make-passes-spec =
     Inv-loop
     μ-loop
     loop-holds
-    pass-requires
+    make-pass-requires
     put-row-requires
     course-of-requires
     enum-known-end

@@ -37,7 +37,7 @@ use denote.Triple.Table.{entered}
 use denote.Triple.Walked.{says, needs, Stays, stay-none-slice, stay-none, walkOf, goes-none-slice, goes-none, Walks, ends-at, walked, walk-meets}
 use denote.Exit.{yes}
 use Rattle.fiduccia_mattheyses.specs.declared.Move.{Move}
-use Rattle.fiduccia_mattheyses.specs.Entry.{none}
+use Rattle.fiduccia_mattheyses.specs.Entry.{noMove}
 use Rattle.fiduccia_mattheyses.proofs.Move as T
 use Rattle.fiduccia_mattheyses.proofs.Move.Laws as T′
 use Rattle.fiduccia_mattheyses.proofs.move_at.Key.{name as #fiduccia_mattheyses·move-at}
@@ -57,7 +57,7 @@ module _ {M : Type 1} (𝓤 : URA M) (H : Heap 𝓤) (A : Atoms 𝓤) (W : Given
   a = (record { ptr = (b, o); name = γ; now = ys }, (n, tt))
 
   abbrev elem : Move
-  elem = getD ys n none
+  elem = getD ys n noMove
 
   abbrev mach : Val
   mach = LL.val T.the-type T′.the-laws elem
@@ -90,13 +90,13 @@ module _ {M : Type 1} (𝓤 : URA M) (H : Heap 𝓤) (A : Atoms 𝓤) (W : Given
         rewrite ! 2 (λ (k : ℕ). ‵ (fat fullShare tyPtr l₄ 0 (vptr b k))) (sym (place-is 8 o n)) refl $
         move ! (13 ∷ []) $ fsplit ! $ fsplit ! $ move ! (1 ∷ []) $ fsplit ! $ move ! (16 ∷ []) $ split ! $ move ! (3 ∷ 0 ∷ []) $
         looks-slice ! tt T.the-row (Is T.the-row) (shows 𝓤 H A T.the-row) (LL.vals T.the-type T′.the-laws) (LL.tells T.the-type T′.the-laws) (LL.copy T.the-type T′.the-copy 𝓤 H A W) ys b o (λ q′.
-        elem-out ! T.the-row (Is T.the-row) (shows 𝓤 H A T.the-row) (LL.vals T.the-type T′.the-laws) (LL.tells T.the-type T′.the-laws) q′ ys n none b o within (λ g.
+        elem-out ! T.the-row (Is T.the-row) (shows 𝓤 H A T.the-row) (LL.vals T.the-type T′.the-laws) (LL.tells T.the-type T′.the-laws) q′ ys n noMove b o within (λ g.
         -- [moves[at]; what it owns; the others; what shuts; the fractured borrow; true; res; moves' fact; at's; _5; …; _4; …; _3; …; _2; …; _1; …; _0; …]
         use1 W (‵ (fat q′ T′.mir b (place 8 o n) mach)) (W .laws .raw-at q′ T′.mir b (place 8 o n) mach) $
         assigns ! (of-opd ! (load ! (from ! (hop ! (look ! 11 refl) (stop !))) (look ! 0 refl))) (from ! (stop !)) (init ! 9 refl (LL.lawful T.the-type T′.the-laws 𝓤 H A W .typed elem _ g .0)) $
         assigns ! (of-opd ! (load ! (from ! (stop !)) (look ! 9 refl))) (from ! (stop !)) (init ! 19 refl (LL.lawful T.the-type T′.the-laws 𝓤 H A W .typed elem _ g .0)) $
         use1 W (‵ (cellAt q′ (T.the-row .mir) (mach ∷ []) b (place 8 o n))) (W .laws .at-raw q′ T′.mir b (place 8 o n) mach) $
-        elem-back ! T.the-row q′ ys n none (mach ∷ []) b o within $ shuts-slice ! tt T.the-row q′ ys b o $
+        elem-back ! T.the-row q′ ys n noMove (mach ∷ []) b o within $ shuts-slice ! tt T.the-row q′ ys b o $
         returns ! (look ! 16 refl) $ forget ! 6 refl $ forget ! 8 refl $ forget ! 10 refl $ forget ! 12 refl $ forget ! 14 refl $ forget ! 16 refl $
         move ! (16 ∷ 17 ∷ []) $ free1 ! $ move ! (14 ∷ 15 ∷ []) $ free1 ! $ move ! (12 ∷ 13 ∷ []) $ free1 ! $ move ! (10 ∷ 11 ∷ []) $ free1 ! $ move ! (8 ∷ 9 ∷ []) $ free1 ! $ move ! (6 ∷ 7 ∷ []) $ free1 ! $ free0 ! $
         move ! (3 ∷ 1 ∷ []) $ fjoin ! $ move ! (3 ∷ 0 ∷ []) $ fjoin ! $ move ! (3 ∷ []) $ fsplit ! $ keep ! (3 ∷ 2 ∷ 0 ∷ []) $ by ! (exits g)))))))))

@@ -39,7 +39,7 @@ use denote.Triple.Table.{entered}
 use denote.Triple.Walked.{says, needs, Stays, stay-slice, stay-none, walkOf, goes-slice, goes-none, Walks, ends-at, walked, walk-meets}
 use denote.Exit.{yes}
 use Rattle.fiduccia_mattheyses.specs.declared.Move.{Move}
-use Rattle.fiduccia_mattheyses.specs.Entry.{none}
+use Rattle.fiduccia_mattheyses.specs.Entry.{noMove}
 use Rattle.fiduccia_mattheyses.proofs.Move as T
 use Rattle.fiduccia_mattheyses.proofs.Move.Laws as T′
 use Rattle.fiduccia_mattheyses.proofs.put_move.Key.{name as #fiduccia_mattheyses·put-move}
@@ -101,9 +101,9 @@ module _ {M : Type 1} (𝓤 : URA M) (H : Heap 𝓤) (A : Atoms 𝓤) (W : Given
         assigns ! (bin ! (load ! (from ! (fld ! refl (stop !))) (look-in ! 12 (sub ! 0 refl (whole !)))) (load ! (from ! (stop !)) (look ! 2 refl)) tt) (from ! (stop !)) (init ! 0 refl (tt, tt)) $
         rewrite ! 0 (λ (k : ℕ). ‵ (fat fullShare tyPtr l₇ 0 (vptr b k))) (sym (place-is 8 o n)) refl $
         move ! (17 ∷ []) $ fsplit ! $ fsplit ! $ move ! (1 ∷ []) $ fsplit ! $ move ! (20 ∷ []) $ split ! $ move ! (2 ∷ 3 ∷ 0 ∷ []) $
-        opens-slice ! tt T.the-row ys b o $ elem-out ! T.the-row (Is T.the-row) (shows 𝓤 H A T.the-row) (LL.vals T.the-type T′.the-laws) (LL.tells T.the-type T′.the-laws) fullShare ys n none b o within (λ _.
+        opens-slice ! tt T.the-row ys b o $ elem-out ! T.the-row (Is T.the-row) (shows 𝓤 H A T.the-row) (LL.vals T.the-type T′.the-laws) (LL.tells T.the-type T′.the-laws) fullShare ys n noMove b o within (λ _.
         -- [moves[at]; what it owns; the others; the open borrow; obs; auth; true; moves' fact; the others'; _7; …; _6; …; _5; …]
-        use1 W (‵ (fat fullShare T′.mir b (place 8 o n) (LL.val T.the-type T′.the-laws (getD ys n none)))) (W .laws .raw-at fullShare T′.mir b (place 8 o n) (LL.val T.the-type T′.the-laws (getD ys n none))) $
+        use1 W (‵ (fat fullShare T′.mir b (place 8 o n) (LL.val T.the-type T′.the-laws (getD ys n noMove)))) (W .laws .raw-at fullShare T′.mir b (place 8 o n) (LL.val T.the-type T′.the-laws (getD ys n noMove))) $
         assigns ! (of-opd ! (load ! (from ! (stop !)) (look ! 13 refl))) (from ! (hop ! (look ! 9 refl) (stop !))) (store ! 0 refl (tt, (record { fits = v-fits }, (record { fits = p-fits }, tt)))) $
         use1 W (‵ (cellAt fullShare (T.the-row .mir) (mach ∷ []) b (place 8 o n))) (W .laws .at-raw fullShare T′.mir b (place 8 o n) mach) $
         move ! (1 ∷ []) $ drop ! $ owned ! T.the-row (Is T.the-row) (LL.makes T.the-type T′.the-plain 𝓤 H A) h _ (LL.owes T.the-type T′.the-laws h ((refl, v-fits), ((refl, p-fits), tt))) $ move ! (1 ∷ 0 ∷ []) $ elem-put ! T.the-row fullShare ys n h (mach ∷ []) b o within $

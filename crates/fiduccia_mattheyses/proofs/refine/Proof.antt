@@ -87,7 +87,7 @@ finish-requires c κs =
     let passed : tie.After-make-passes = search needs in
     let first = start passed in
     let long = joined-long (length (first .args .labels .now)) (first .args .gains .now) (passed .make-passes .last .1 .1 .1 .1 .1 .0) (passed .make-passes .kept .1 .1 .1 .1 .1 .0) (first .pre .in-gains) in
-    (first .pre .some, omega (arith, long, first .pre .in-gains))
+    (first .pre .a-vertex, omega (arith, long, first .pre .in-gains))
 
 same-length : tie.Need-same-length
 same-length c = search needs
@@ -118,8 +118,8 @@ returns c =
     let gains = first .args .gains .now in
     let front = passed .make-passes .last .1 .1 .1 .1 .1 .0 in
     let same = passed .make-passes .kept .1 .1 .1 .1 .1 .0 in
-    let room = first .pre .in-gains in
-    ran _ _ (first .pre) _ _ _ _ _ _ _ (loads .parts-load .ensures) (weighed (asked ceilings) .total-weight .ensures) (asked ceilings .asked-ceiling .ensures) (ceilings .ceilings-of .ensures) (cut .cut-of .ensures) (limits .before .wide .ensures) (limits .index .ensures) _ _ _ _ _ (passed .make-passes .ensures) _ _ (joined-long n gains front same room) (joined-past n gains front same room) (finished .finish .ensures .0) _ (cleared .clear .ensures) _ (finished .finish .ensures .1)
+    let places = first .pre .in-gains in
+    ran _ _ (first .pre) _ _ _ _ _ _ _ (loads .parts-load .ensures) (weighed (asked ceilings) .total-weight .ensures) (asked ceilings .asked-ceiling .ensures) (ceilings .ceilings-of .ensures) (cut .cut-of .ensures) (limits .before .wide .ensures) (limits .index .ensures) _ _ _ _ _ (passed .make-passes .ensures) _ _ (joined-long n gains front same places) (joined-past n gains front same places) (finished .finish .ensures .0) _ (cleared .clear .ensures) _ (finished .finish .ensures .1)
 
 pub refine-spec : {M : Type 1} → statement M
 refine-spec =

@@ -15,7 +15,7 @@ use Rattle.imbalance.specs.Load.{part, load}
 use Rattle.imbalance.specs.inner.Moved.{loadsMoved}
 use Rattle.topology.specs.Graph.{inRows}
 use Rattle.topology.specs.Cut.{cut}
-use Rattle.fiduccia_mattheyses_pass.specs.Choice.{Setting, other, flip}
+use Rattle.fiduccia_mattheyses_pass.specs.Choice.{Terms, other, flip}
 use Rattle.fiduccia_mattheyses_pass.specs.Pass.{State, Pass, start, flips, pass}
 use Rattle.fiduccia_mattheyses_pass.specs.inner.Standing.{Fixed, Stands, Apart}
 use Rattle.fiduccia_mattheyses_pass.specs.declared.Limits.{Limits}
@@ -27,12 +27,13 @@ use Rattle.fiduccia_mattheyses.specs.declared.Ended.{Ended}
 use Rattle.fiduccia_mattheyses.specs.declared.Course.{Course}
 use Rattle.fiduccia_mattheyses.specs.declared.Course.the-variants.{Ends, GoesOn}
 use Rattle.fiduccia_mattheyses.specs.Run.{run}
-use Rattle.fiduccia_mattheyses.specs.Entry.{Plan, Lent, graphOf, askedCeiling, none, reportOf, leftBy}
+use Rattle.topology.specs.Given.{graphOf}
+use Rattle.fiduccia_mattheyses.specs.Entry.{Given, Lent, askedCeiling, noMove, reportOf, leftBy}
 use Rattle.fiduccia_mattheyses.specs.declared.Report.{Report}
 
--- the setting that a function's parameters stand for
-abbrev pub settingBy : List ℕ → List ℕ → List ℕ → List ℕ → Limits → Setting
-settingBy starts neighbours arcs weights limits =
+-- the terms that a function's parameters stand for
+abbrev pub termsBy : List ℕ → List ℕ → List ℕ → List ℕ → Limits → Terms
+termsBy starts neighbours arcs weights limits =
     record { graph = inRows starts neighbours arcs; weights = weights; ceilings = limits .ceilings .at; movable = λ v. true; badLimit = limits .bad; moveLimit = limits .moves }
 
 -- where a pass starts, with these loads and this cut
@@ -49,13 +50,13 @@ abbrev pub recorded : List ℕ → List ℕ → List Move → List Move
 recorded p vs moves = records p vs ++ drop (length vs) moves
 
 -- What the walk asks: all in order, the code standing at the pass's start, room for a record a vertex.
-pub record WalkAsked (s : Setting) (labels : List ℕ) (gains : List ℤ) (moves : List Move) (first : Standing) : Type 0 where
+pub record WalkAsked (s : Terms) (labels : List ℕ) (gains : List ℤ) (moves : List Move) (first : Standing) : Type 0 where
   pub fixed : Fixed s (length labels)
   pub stands : Stands s (length labels) (start s labels) labels gains first
-  pub room : length labels ≤ length moves
+  pub places : length labels ≤ length moves
 
 -- What the walk answers: the code stands at the end e of the defined walk from p, and each move is recorded.
-pub record WalkDone (s : Setting) (p : List ℕ) (moves₀ : List Move) (e : State) (labels : List ℕ) (gains : List ℤ) (moves : List Move) (made : ℕ) (last : Standing) : Type 0 where
+pub record WalkDone (s : Terms) (p : List ℕ) (moves₀ : List Move) (e : State) (labels : List ℕ) (gains : List ℤ) (moves : List Move) (made : ℕ) (last : Standing) : Type 0 where
   pub stands : Stands s (length p) e labels gains last
   pub moved-from : e .labels ≡ flips p (e .moved)
   pub recorded-are : moves ≡ recorded p (e .moved) moves₀
@@ -65,16 +66,16 @@ pub record WalkDone (s : Setting) (p : List ℕ) (moves₀ : List Move) (e : Sta
 -- the labels put back by k records from `from` on: "the rewind walks the records from the kept prefix on"
 unfoldable pub undone : List Move → ℕ → ℕ → List ℕ → List ℕ
 undone moves from zero p = p
-undone moves from (suc k) p = set (undone moves from k p) (getD moves (from + k) none .vertex) (getD moves (from + k) none .part)
+undone moves from (suc k) p = set (undone moves from k p) (getD moves (from + k) noMove .vertex) (getD moves (from + k) noMove .part)
 
 -- What taking a move back asks: a vertex with a weight, in the other part of the two than before the move, and loads of sixteen parts from which the weight can go.
 pub record UndoAsked (weights labels loads : List ℕ) (m : Move) : Type 0 where
   pub in-labels : m .vertex < length labels
   pub in-weights : m .vertex < length weights
-  pub two : part labels (m .vertex) < 2
+  pub two-labels : part labels (m .vertex) < 2
   pub before : m .part ≡ other (part labels (m .vertex))
   pub sixteen : length loads ≡ 16
-  pub held : getD weights (m .vertex) 0 ≤ getD loads (part labels (m .vertex)) 0
+  pub weight-within : getD weights (m .vertex) 0 ≤ getD loads (part labels (m .vertex)) 0
   pub within : getD loads (m .part) 0 ≤ mostWeight
 
 -- What it answers: the label before the move, and the loads after the vertex went back to that part.
@@ -89,28 +90,28 @@ pub record RewindAsked (weights labels : List ℕ) (moves : List Move) (loads : 
   pub before : List Move
   pub labelled : labels ≡ flips p vs
   pub recorded-are : moves ≡ recorded p vs before
-  pub room : length vs ≤ length before
+  pub places : length vs ≤ length before
   pub made-is : made ≡ length vs
   pub kept-within : kept ≤ made
   pub loaded : loads ≡ table 16 (load weights labels)
   pub weighed : length weights ≡ length p
   pub few : length weights ≤ mostVertices
   pub light : total weights ≤ mostWeight
-  pub two : (x : ℕ) → part p x < 2
+  pub two-labels : (x : ℕ) → part p x < 2
   pub apart : Apart vs
   pub inside : (i : ℕ) → i < length vs → getD vs i 0 < length p
 
 -- What a pass asks: all in order, the cut and the loads of the labels, room for the gains and the records.
-pub record PassAsked (s : Setting) (labels : List ℕ) (gains : List ℤ) (moves : List Move) (loads : List ℕ) (cut₀ : ℕ) : Type 0 where
+pub record PassAsked (s : Terms) (labels : List ℕ) (gains : List ℤ) (moves : List Move) (loads : List ℕ) (cut₀ : ℕ) : Type 0 where
   pub fixed : Fixed s (length labels)
-  pub two : (x : ℕ) → part labels x < 2
+  pub two-labels : (x : ℕ) → part labels x < 2
   pub gained : length gains ≡ length labels
-  pub room : length labels ≤ length moves
+  pub places : length labels ≤ length moves
   pub loaded : loads ≡ table 16 (load (s .weights) labels)
   pub cut-is : cut₀ ≡ cut (s .graph) labels
 
 -- What a pass answers: the defined pass from p, its cut and its loads; the list of moves is unchanged past n.
-pub record PassDone (s : Setting) (p : List ℕ) (moves₀ : List Move) (labels : List ℕ) (moves : List Move) (r : Passed) : Type 0 where
+pub record PassDone (s : Terms) (p : List ℕ) (moves₀ : List Move) (labels : List ℕ) (moves : List Move) (r : Passed) : Type 0 where
   pub labelled : labels ≡ pass s p .labels
   pub made-is : r .made ≡ pass s p .made
   pub kept-within : r .kept ≤ r .made
@@ -119,7 +120,7 @@ pub record PassDone (s : Setting) (p : List ℕ) (moves₀ : List Move) (labels 
   pub least-is : r .cut ≡ pass s p .least
   pub cut-is : r .cut ≡ cut (s .graph) labels
   pub loaded : r .loads .at ≡ table 16 (load (s .weights) labels)
-  pub two : (x : ℕ) → part labels x < 2
+  pub two-labels : (x : ℕ) → part labels x < 2
   pub long : length labels ≡ length p
   pub moves-long : length moves ≡ length moves₀
   pub moves-past : drop (length p) moves ≡ drop (length p) moves₀
@@ -143,14 +144,14 @@ unfoldable pub courseOf : ℕ → ℕ → ℕ → ℕ → Course
 courseOf before after passes limit = cond (leb before after) (Ends 1) (cond (leb limit passes) (Ends 0) GoesOn)
 
 -- What the passes ask besides: room for a row a pass.
-pub record PassesAsked (s : Setting) (limit : ℕ) (labels : List ℕ) (gains : List ℤ) (moves : List Move) (made rewound loads : List ℕ) (cut₀ : ℕ) : Type 0 where
+pub record PassesAsked (s : Terms) (limit : ℕ) (labels : List ℕ) (gains : List ℤ) (moves : List Move) (made rewound loads : List ℕ) (cut₀ : ℕ) : Type 0 where
   pub begun : PassAsked s labels gains moves loads cut₀
   pub in-made : limit ≤ length made
   pub in-rewound : limit ≤ length rewound
   pub few-passes : limit ≤ 1024
 
 -- What the passes answer: the defined run from p, its rows written, the cut and the loads of the labels left.
-pub record PassesDone (s : Setting) (limit : ℕ) (p : List ℕ) (moves₀ : List Move) (made₀ rewound₀ labels : List ℕ) (moves : List Move) (made rewound : List ℕ) (r : Ended) : Type 0 where
+pub record PassesDone (s : Terms) (limit : ℕ) (p : List ℕ) (moves₀ : List Move) (made₀ rewound₀ labels : List ℕ) (moves : List Move) (made rewound : List ℕ) (r : Ended) : Type 0 where
   pub labelled : labels ≡ run s limit p .labels
   pub end-is : r .end ≡ run s limit p .end
   pub passes-are : r .passes ≡ length (run s limit p .rows)
@@ -162,8 +163,8 @@ pub record PassesDone (s : Setting) (limit : ℕ) (p : List ℕ) (moves₀ : Lis
   pub moves-past : drop (length p) moves ≡ drop (length p) moves₀
 
 -- What the run asks: a vertex, and no number that applies.
-pub record Ready (p : Plan) (l : Lent) : Type 0 where
-  pub some : 0 < length (l .labels)
+pub record Ready (p : Given) (l : Lent) : Type 0 where
+  pub a-vertex : 0 < length (l .labels)
   pub sound : Sound (length (l .labels)) (p .weights) (graphOf p)
   pub labelled : labelAbove 1 (l .labels) ≡ false
   pub few-passes : p .settings .passes ≤ 1024
@@ -174,7 +175,7 @@ pub record Ready (p : Plan) (l : Lent) : Type 0 where
   pub in-rewound : p .settings .passes ≤ length (l .rewound)
 
 -- What the run answers.
-pub record Ran (p : Plan) (l : Lent) (r : Report) (k : Lent) : Type 0 where
+pub record Ran (p : Given) (l : Lent) (r : Report) (k : Lent) : Type 0 where
   pub answered : r ≡ reportOf p l
   pub labels : k .labels ≡ leftBy p l .labels
   pub gains : k .gains ≡ leftBy p l .gains

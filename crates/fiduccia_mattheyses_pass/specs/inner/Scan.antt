@@ -49,12 +49,12 @@ module _ (gains : List ℤ) (load ceiling : ℕ → ℕ) where
   abbrev pub may : ℕ → Bool
   may v = isFree (getD gains v (pos 0)) && leb (load v) (ceiling v)
 
-  abbrev pub over : ℕ → ℕ → Bool
-  over u v = beats (getD gains u (pos 0)) (load u) (getD gains v (pos 0)) (load v)
+  abbrev pub goesBefore : ℕ → ℕ → Bool
+  goesBefore u v = beats (getD gains u (pos 0)) (load u) (getD gains v (pos 0)) (load v)
 
   -- the pick among the vertices below n
   abbrev pub pickBelow : ℕ → Pick
-  pickBelow n = picked (λ v. getD gains v (pos 0)) (best may over n)
+  pickBelow n = picked (λ v. getD gains v (pos 0)) (best may goesBefore n)
 
 -- a move of gain 0 or less counts as bad, and ends the pass where the counter has reached the limit; a positive one clears the counter
 abbrev pub nextOf : Pick → ℕ → ℕ → Next

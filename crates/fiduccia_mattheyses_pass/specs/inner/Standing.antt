@@ -15,7 +15,7 @@ use Rattle.topology.specs.Graph.{Graph, first, past, gain}
 use Rattle.topology.specs.Rule.{Rows, Symmetric}
 use Rattle.topology.specs.Cut.{cut}
 use Rattle.fiduccia_mattheyses_pass.specs.inner.Bounds.{mostGain, mostCut, lockSize}
-use Rattle.fiduccia_mattheyses_pass.specs.Choice.{Setting, other, flip, member, worth}
+use Rattle.fiduccia_mattheyses_pass.specs.Choice.{Terms, other, flip, member, worth}
 use Rattle.fiduccia_mattheyses_pass.specs.Pass.{State}
 use Rattle.fiduccia_mattheyses_pass.specs.inner.Scan.{lock}
 use Rattle.fiduccia_mattheyses_pass.specs.inner.Update.{updated}
@@ -49,7 +49,7 @@ freshGains g labels gains = written (λ v. gain g labels v (other (part labels v
 pub record Scannable (gains : List ℤ) (labels weights loads : List ℕ) : Type 0 where
   pub gained : length gains ≡ length labels
   pub weighed : length weights ≡ length labels
-  pub two : (v : ℕ) → part labels v < 2
+  pub two-labels : (v : ℕ) → part labels v < 2
   pub sixteen : length loads ≡ 16
   pub light : (t : ℕ) → t < 2 → getD loads t 0 ≤ mostWeight
 
@@ -58,39 +58,39 @@ pub record Moveable (g : Graph) (gains : List ℤ) (labels weights : List ℕ) (
   pub rows : Rows (length labels) g
   pub scanned : Scannable gains labels weights (st .loads .at)
   pub here : v < length labels
-  pub held : getD weights v 0 ≤ getD (st .loads .at) (part labels v) 0
+  pub weight-within : getD weights v 0 ≤ getD (st .loads .at) (part labels v) 0
   pub smallGains : (x : ℕ) → mag (getD gains x (pos 0)) ≤ lockSize
   pub smallGain : mag gain ≤ mostGain
   pub smallCut : mag (st .cut) ≤ mostCut
   pub smallLeast : mag (st .least) ≤ mostCut
 
 -- the list of gains says what each free vertex's move is worth, and which vertices are locked
-abbrev pub entry : Setting → List ℕ → List ℕ → ℕ → ℤ
+abbrev pub entry : Terms → List ℕ → List ℕ → ℕ → ℤ
 entry s p locked x = cond (member x locked) lock (worth s p x)
 
-pub record Gains (s : Setting) (p locked : List ℕ) (gs : List ℤ) : Type 0 where
+pub record Gains (s : Terms) (p locked : List ℕ) (gs : List ℤ) : Type 0 where
   pub long : length gs ≡ length p
   pub each : (x : ℕ) → x < length p → getD gs x (pos 0) ≡ entry s p locked x
 
 -- What stands still during a run of n vertices, once no number applies.
-pub record Fixed (s : Setting) (n : ℕ) : Type 0 where
+pub record Fixed (s : Terms) (n : ℕ) : Type 0 where
   pub rows : Rows n (s .graph)
   pub symmetric : Symmetric n (s .graph)
   pub weighed : length (s .weights) ≡ n
   pub light : total (s .weights) ≤ mostWeight
   pub lightArcs : total (s .graph .weights) ≤ mostWeight
   pub capped : length (s .ceilings) ≡ 16
-  pub anyone : (v : ℕ) → s .movable v ≡ true
+  pub all-movable : (v : ℕ) → s .movable v ≡ true
 
 -- no vertex stands twice in the list
 abbrev pub Apart : List ℕ → Type 0
 Apart vs = (i j : ℕ) → i < j → j < length vs → getD vs i 0 ≡ getD vs j 0 → ⊥
 
 -- The code stands where the state says: labels 0 or 1 as many as vertices, gains, loads, cut, least cut, and the two counters.
-pub record Stands (s : Setting) (n : ℕ) (st : State) (labels : List ℕ) (gains : List ℤ) (c : Standing) : Type 0 where
+pub record Stands (s : Terms) (n : ℕ) (st : State) (labels : List ℕ) (gains : List ℤ) (c : Standing) : Type 0 where
   pub labelled : labels ≡ st .labels
   pub long : length labels ≡ n
-  pub two : (x : ℕ) → part labels x < 2
+  pub two-labels : (x : ℕ) → part labels x < 2
   pub gained : Gains s labels (st .moved) gains
   pub loaded : c .loads .at ≡ table 16 (load (s .weights) labels)
   pub cut-is : c .cut ≡ pos (cut (s .graph) labels)
@@ -98,7 +98,7 @@ pub record Stands (s : Setting) (n : ℕ) (st : State) (labels : List ℕ) (gain
   pub least-low : st .least ≤ mostCut
   pub kept-is : c .kept ≡ st .kept
   pub bad-is : c .bad ≡ st .bad
-  pub calm : st .bad ≤ length (st .moved)
+  pub bad-within : st .bad ≤ length (st .moved)
   pub counted : sum n (λ x. weigh (member x (st .moved)) 1) ≡ length (st .moved)
   pub apart : Apart (st .moved)
   pub inside : (i : ℕ) → i < length (st .moved) → getD (st .moved) i 0 < n

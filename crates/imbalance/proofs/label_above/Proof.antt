@@ -5,7 +5,7 @@ use Prim.Native.Nat.{_≤_, _-_}
 use lib.ListN.{length}
 use borrow.Author.Tests.{le-ltb}
 use borrow.Author.Needs.{needs}
-use Rattle.lists.proofs.Alls.{some-none, some-more}
+use Rattle.lists.proofs.Alls.{any-none, any-more}
 use Rattle.imbalance.proofs.Limits.{aboveTo, label-over, label-none}
 use Rattle.imbalance.proofs.label_above.Statement.{statement}
 use Rattle.imbalance.proofs.label_above.Tie as tie
@@ -17,7 +17,7 @@ abbrev μ-loop : tie.MeasureT-loop
 μ-loop labels most v₀ v = length labels - v
 
 loop-holds : tie.Need-loop-holds Inv-loop μ-loop
-loop-holds c = (search needs, some-none _)
+loop-holds c = (search needs, any-none _)
 
 mul-if1 : tie.Need-mul-if1 Inv-loop μ-loop
 mul-if1 c = search needs
@@ -41,7 +41,7 @@ loop-less c = search needs
 loop-again : tie.Need-loop-again Inv-loop μ-loop
 loop-again c =
     let entered : tie.At-loop Inv-loop μ-loop = search needs in
-    (search needs, some-more _ _ (entered .loop .inv .1) (le-ltb _ _ (c .if1 .left)))
+    (search needs, any-more _ _ (entered .loop .inv .1) (le-ltb _ _ (c .if1 .left)))
 
 returns-2 : tie.Need-returns-2 Inv-loop μ-loop
 returns-2 c =

@@ -7,12 +7,12 @@ use lib.ListN.{length, drop}
 use lib.Seq.{length-take-le, length-front}
 use lib.IntN.{pos}
 use borrow.Author.Needs.{needs}
-use Rattle.kernighan_lin.specs.Entry.{Plan, Lent}
-use Rattle.kernighan_lin.proofs.Entries.{Admitted, admitted, filled-front, at-refusal, at-run}
+use Rattle.kernighan_lin.specs.Entry.{Given, Lent}
+use Rattle.kernighan_lin.proofs.Entering.{Admitted, admitted, filled-front, at-refusal, at-run}
 use Rattle.kernighan_lin.proofs.kernighan_lin.Statement.{statement}
 use Rattle.kernighan_lin.proofs.kernighan_lin.Tie as tie
 
-abbrev planned : tie.Start → Plan
+abbrev planned : tie.Start → Given
 planned s = record { starts = s .args .starts .now; neighbours = s .args .neighbours .now; arcs = s .args .arc-weights .now; weights = s .args .weights .now; settings = s .args .settings }
 
 abbrev lent : tie.Start → Lent
@@ -29,43 +29,43 @@ ok c =
 
 -- each list after the run is as long as it was, and its front as long as was lent
 gains-whole :
-    (c : tie.After-run)
+    (c : tie.After-make-passes)
     → let given : tie.Start = search needs in
-    let f = c .run .last .1 .1 .1 .1 .0 in
+    let f = c .make-passes .last .1 .1 .1 .1 .0 in
     let n = length (given .args .labels .now) in
     (length (f ++ drop n (given .args .gains .now)) ≡ length (given .args .gains .now)) × (length f ≡ n)
 gains-whole c =
     let else1 : tie.Else1 = search needs in
     let given : tie.Start = search needs in
     let n = length (given .args .labels .now) in
-    let k = c .run .kept .1 .1 .1 .1 .0 in
-    (length-front (given .args .gains .now) (c .run .last .1 .1 .1 .1 .0) n k, k ∙ length-take-le n (given .args .gains .now) (ok else1 .in-gains))
+    let k = c .make-passes .kept .1 .1 .1 .1 .0 in
+    (length-front (given .args .gains .now) (c .make-passes .last .1 .1 .1 .1 .0) n k, k ∙ length-take-le n (given .args .gains .now) (ok else1 .in-gains))
 
 locks-whole :
-    (c : tie.After-run)
+    (c : tie.After-make-passes)
     → let given : tie.Start = search needs in
-    let f = c .run .last .1 .1 .1 .1 .1 .0 in
+    let f = c .make-passes .last .1 .1 .1 .1 .1 .0 in
     let n = length (given .args .labels .now) in
     (length (f ++ drop n (given .args .locks .now)) ≡ length (given .args .locks .now)) × (length f ≡ n)
 locks-whole c =
     let else1 : tie.Else1 = search needs in
     let given : tie.Start = search needs in
     let n = length (given .args .labels .now) in
-    let k = c .run .kept .1 .1 .1 .1 .1 .0 in
-    (length-front (given .args .locks .now) (c .run .last .1 .1 .1 .1 .1 .0) n k, k ∙ length-take-le n (given .args .locks .now) (ok else1 .in-locks))
+    let k = c .make-passes .kept .1 .1 .1 .1 .1 .0 in
+    (length-front (given .args .locks .now) (c .make-passes .last .1 .1 .1 .1 .1 .0) n k, k ∙ length-take-le n (given .args .locks .now) (ok else1 .in-locks))
 
 swaps-whole :
-    (c : tie.After-run)
+    (c : tie.After-make-passes)
     → let given : tie.Start = search needs in
-    let f = c .run .last .1 .1 .1 .1 .1 .1 .0 in
+    let f = c .make-passes .last .1 .1 .1 .1 .1 .1 .0 in
     let n = length (given .args .labels .now) / 2 in
     (length (f ++ drop n (given .args .swaps .now)) ≡ length (given .args .swaps .now)) × (length f ≡ n)
 swaps-whole c =
     let else1 : tie.Else1 = search needs in
     let given : tie.Start = search needs in
     let n = length (given .args .labels .now) / 2 in
-    let k = c .run .kept .1 .1 .1 .1 .1 .1 .0 in (
-      length-front (given .args .swaps .now) (c .run .last .1 .1 .1 .1 .1 .1 .0) n k,
+    let k = c .make-passes .kept .1 .1 .1 .1 .1 .1 .0 in (
+      length-front (given .args .swaps .now) (c .make-passes .last .1 .1 .1 .1 .1 .1 .0) n k,
       k ∙ length-take-le n (given .args .swaps .now) (ok else1 .in-swaps),
     )
 
@@ -80,43 +80,43 @@ returns c =
     let given : tie.Start = search needs in
     at-refusal (planned given) (lent given) _ (c .before .number-of .result) (c .before .number-of .ensures) (c .if1 .taken) refl
 
-slice-relend-prefix-run : tie.Need-slice-relend-prefix-run
-slice-relend-prefix-run c = ok (c .before) .in-gains
+slice-relend-prefix-make-passes : tie.Need-slice-relend-prefix-make-passes
+slice-relend-prefix-make-passes c = ok (c .before) .in-gains
 
-slice-aggregate-run : tie.Need-slice-aggregate-run
-slice-aggregate-run c =
+slice-aggregate-make-passes : tie.Need-slice-aggregate-make-passes
+slice-aggregate-make-passes c =
     let given : tie.Start = search needs in
     sym (length-take-le (length (given .args .labels .now)) (given .args .gains .now) (ok (c .before .before) .in-gains))
 
-slice-relend-prefix-run-2 : tie.Need-slice-relend-prefix-run-2
-slice-relend-prefix-run-2 c = ok (c .before .before) .in-locks
+slice-relend-prefix-make-passes-2 : tie.Need-slice-relend-prefix-make-passes-2
+slice-relend-prefix-make-passes-2 c = ok (c .before .before) .in-locks
 
-slice-aggregate-run-2 : tie.Need-slice-aggregate-run-2
-slice-aggregate-run-2 c =
+slice-aggregate-make-passes-2 : tie.Need-slice-aggregate-make-passes-2
+slice-aggregate-make-passes-2 c =
     let else1 : tie.Else1 = search needs in
     let given : tie.Start = search needs in
     sym (length-take-le (length (given .args .labels .now)) (given .args .locks .now) (ok else1 .in-locks))
 
-slice-relend-prefix-run-3 : tie.Need-slice-relend-prefix-run-3
-slice-relend-prefix-run-3 c =
+slice-relend-prefix-make-passes-3 : tie.Need-slice-relend-prefix-make-passes-3
+slice-relend-prefix-make-passes-3 c =
     let else1 : tie.Else1 = search needs in
     ok else1 .in-swaps
 
-slice-aggregate-run-3 : tie.Need-slice-aggregate-run-3
-slice-aggregate-run-3 c =
+slice-aggregate-make-passes-3 : tie.Need-slice-aggregate-make-passes-3
+slice-aggregate-make-passes-3 c =
     let else1 : tie.Else1 = search needs in
     let given : tie.Start = search needs in
     sym (length-take-le (length (given .args .labels .now) / 2) (given .args .swaps .now) (ok else1 .in-swaps))
 
-run-requires : tie.Need-run-requires
-run-requires c κs =
+make-passes-requires : tie.Need-make-passes-requires
+make-passes-requires c κs =
     let else1 : tie.Else1 = search needs in
     let given : tie.Start = search needs in
     let a = ok else1 in
     let n = length (given .args .labels .now) in
     record {
       fit = a .fit;
-      some-vertex = a .some-vertex;
+      a-vertex = a .a-vertex;
       gains-long = length-take-le n (given .args .gains .now) (a .in-gains);
       locks-long = length-take-le n (given .args .locks .now) (a .in-locks);
       swaps-long = length-take-le (n / 2) (given .args .swaps .now) (a .in-swaps);
@@ -125,21 +125,21 @@ run-requires c κs =
 
 clear-gains-requires : tie.Need-clear-gains-requires
 clear-gains-requires c κs =
-    let after-run : tie.After-run = search needs in
+    let after-make-passes : tie.After-make-passes = search needs in
     let else1 : tie.Else1 = search needs in
-    rw (gains-whole after-run .0) (ok else1 .in-gains)
+    rw (gains-whole after-make-passes .0) (ok else1 .in-gains)
 
 clear-bytes-requires : tie.Need-clear-bytes-requires
 clear-bytes-requires c κs =
-    let after-run : tie.After-run = search needs in
+    let after-make-passes : tie.After-make-passes = search needs in
     let else1 : tie.Else1 = search needs in
-    rw (locks-whole after-run .0) (ok else1 .in-locks)
+    rw (locks-whole after-make-passes .0) (ok else1 .in-locks)
 
 clear-numbers-requires : tie.Need-clear-numbers-requires
 clear-numbers-requires c κs =
-    let after-run : tie.After-run = search needs in
+    let after-make-passes : tie.After-make-passes = search needs in
     let else1 : tie.Else1 = search needs in
-    omega (arith, swaps-whole after-run .0, ok else1 .in-swaps)
+    omega (arith, swaps-whole after-make-passes .0, ok else1 .in-swaps)
 
 same-length-2 : tie.Need-same-length-2
 same-length-2 c = search needs
@@ -147,19 +147,19 @@ same-length-2 c = search needs
 same-length-3 : tie.Need-same-length-3
 same-length-3 c =
     let after-clear-gains : tie.After-clear-gains = search needs in
-    let after-run : tie.After-run = search needs in
-    after-clear-gains .clear-gains .kept .0 ∙ gains-whole after-run .0
+    let after-make-passes : tie.After-make-passes = search needs in
+    after-clear-gains .clear-gains .kept .0 ∙ gains-whole after-make-passes .0
 
 same-length-4 : tie.Need-same-length-4
 same-length-4 c =
     let after-clear-bytes : tie.After-clear-bytes = search needs in
-    let after-run : tie.After-run = search needs in
-    after-clear-bytes .clear-bytes .kept .0 ∙ locks-whole after-run .0
+    let after-make-passes : tie.After-make-passes = search needs in
+    after-clear-bytes .clear-bytes .kept .0 ∙ locks-whole after-make-passes .0
 
 same-length-5 : tie.Need-same-length-5
 same-length-5 c =
-    let after-run : tie.After-run = search needs in
-    c .before .before .clear-numbers .kept .0 ∙ swaps-whole after-run .0
+    let after-make-passes : tie.After-make-passes = search needs in
+    c .before .before .clear-numbers .kept .0 ∙ swaps-whole after-make-passes .0
 
 -- the stations that lie far back, each from a nearer one
 abbrev start-of : tie.After-number-of → tie.Start
@@ -169,20 +169,20 @@ returns-2 : tie.Need-returns-2
 returns-2 c =
     let after-clear-bytes : tie.After-clear-bytes = search needs in
     let after-clear-gains : tie.After-clear-gains = search needs in
-    let after-run : tie.After-run = search needs in
+    let after-make-passes : tie.After-make-passes = search needs in
     let else1 : tie.Else1 = search needs in
     let after-number-of : tie.After-number-of = search needs in
     let given = start-of after-number-of in
-    let r = after-run .run in
+    let r = after-make-passes .make-passes in
     let a = ok else1 in
     let n = length (given .args .labels .now) in
     at-run (planned given) (lent given) _ _ (after-number-of .number-of .result) (after-number-of .number-of .ensures) (else1 .if1 .left) (r .ensures)
     (after-clear-gains .clear-gains .ensures
-    ∙ filled-front (pos 0) n (r .last .1 .1 .1 .1 .0) (given .args .gains .now) (a .in-gains) (gains-whole after-run .1))
+    ∙ filled-front (pos 0) n (r .last .1 .1 .1 .1 .0) (given .args .gains .now) (a .in-gains) (gains-whole after-make-passes .1))
     (after-clear-bytes .clear-bytes .ensures
-    ∙ filled-front 0 n (r .last .1 .1 .1 .1 .1 .0) (given .args .locks .now) (a .in-locks) (locks-whole after-run .1))
+    ∙ filled-front 0 n (r .last .1 .1 .1 .1 .1 .0) (given .args .locks .now) (a .in-locks) (locks-whole after-make-passes .1))
     (c .before .before .clear-numbers .ensures
-    ∙ filled-front 0 (n / 2) (r .last .1 .1 .1 .1 .1 .1 .0) (given .args .swaps .now) (a .in-swaps) (swaps-whole after-run .1))
+    ∙ filled-front 0 (n / 2) (r .last .1 .1 .1 .1 .1 .1 .0) (given .args .swaps .now) (a .in-swaps) (swaps-whole after-make-passes .1))
 
 pub kernighan-lin-spec : {M : Type 1} → statement M
 kernighan-lin-spec =
@@ -191,13 +191,13 @@ kernighan-lin-spec =
     number-of-requires
     same-length
     returns
-    slice-relend-prefix-run
-    slice-aggregate-run
-    slice-relend-prefix-run-2
-    slice-aggregate-run-2
-    slice-relend-prefix-run-3
-    slice-aggregate-run-3
-    run-requires
+    slice-relend-prefix-make-passes
+    slice-aggregate-make-passes
+    slice-relend-prefix-make-passes-2
+    slice-aggregate-make-passes-2
+    slice-relend-prefix-make-passes-3
+    slice-aggregate-make-passes-3
+    make-passes-requires
     clear-gains-requires
     clear-bytes-requires
     clear-numbers-requires

@@ -13,8 +13,8 @@ use Rattle.imbalance.specs.Limit.{mostVertices, mostWeight}
 use Rattle.topology.specs.Graph.{Graph}
 use Rattle.topology.specs.Rule.{Rows, Symmetric}
 use Rattle.topology.specs.Cut.{cut}
-use Rattle.kernighan_lin_pass.specs.Gain.{added, told}
-use Rattle.kernighan_lin_pass.specs.Pass.{Setting, Swap, swapped, pair, start, walk}
+use Rattle.kernighan_lin_pass.specs.Gain.{added, updated}
+use Rattle.kernighan_lin_pass.specs.Pass.{Terms, Swap, swapped, pair, start, walk}
 use Rattle.kernighan_lin_pass.specs.declared.choose.Pair.{Pair}
 use Rattle.kernighan_lin_pass.specs.declared.pass.Walked.{Walked}
 
@@ -33,12 +33,12 @@ abbrev pub freshBound : ℕ
 freshBound = mostWeight + 1
 
 -- what telling changes of a gain at most: twice a row's weight
-abbrev pub tellBound : ℕ
-tellBound = 2 * mostWeight
+abbrev pub updateBound : ℕ
+updateBound = 2 * mostWeight
 
 -- what a swap changes of a gain at most
 abbrev pub swapBound : ℕ
-swapBound = freshBound + tellBound
+swapBound = freshBound + updateBound
 
 -- no pass makes more swaps: each takes two vertices
 abbrev pub mostSwaps : ℕ
@@ -58,14 +58,14 @@ abbrev pub pairAt : ℕ → Option Swap → Pair
 pairAt n none = record { one = n; two = n }
 pairAt n (some t) = record { one = t .one; two = t .two }
 
--- today's setting: every vertex may be taken
-abbrev pub setting : Graph → ℕ → ℕ → Setting
-setting g first badLimit = record { graph = g; movable = λ v. true; first = first; badLimit = badLimit }
+-- the terms of a run in which every vertex may be taken
+abbrev pub termsBy : Graph → ℕ → ℕ → Terms
+termsBy g first badLimit = record { graph = g; movable = λ v. true; first = first; badLimit = badLimit }
 
 -- What choosing the next pair answers, and leaves in the gains where there is one.
-pub record Chose (s : Setting) (p : List ℕ) (before : List ℤ) (locks : List ℕ) (r : Pair) (gains : List ℤ) : Type 0 where
+pub record Chose (s : Terms) (p : List ℕ) (before : List ℤ) (locks : List ℕ) (r : Pair) (gains : List ℤ) : Type 0 where
   pub pair-is : r ≡ pairAt (length p) (pair s p before locks)
-  pub gains-are : (t : Swap) → pair s p before locks ≡ some t → gains ≡ told (s .graph) p (t .one) (added (s .graph) p before)
+  pub gains-are : (t : Swap) → pair s p before locks ≡ some t → gains ≡ updated (s .graph) p (t .one) (added (s .graph) p before)
 
 -- a swap in the lent list is one number: the first vertex times this, and the second, which is below it
 abbrev pub codeBase : ℕ
@@ -88,16 +88,16 @@ back codes m zero p = p
 back codes m (suc j) p = back codes (m - 1) j (swapped p (swapOf (getD codes (m - 1) 0)))
 
 -- What the swaps of a pass start from: gains and locks at 0, room for the swaps, and the cut.
-pub record Started (s : Setting) (p : List ℕ) (gains : List ℤ) (locks : List ℕ) (room limit before : ℕ) : Type 0 where
+pub record WalkAsked (s : Terms) (p : List ℕ) (gains : List ℤ) (locks : List ℕ) (places limit before : ℕ) : Type 0 where
   pub fit : Fit (length p) (s .graph)
   pub gains-are : gains ≡ table (length p) (λ u. pos 0)
   pub locks-are : locks ≡ table (length p) (λ u. 0)
-  pub room-for : limit ≤ room
+  pub places-for : limit ≤ places
   pub few : limit ≤ mostSwaps
   pub cut-is : before ≡ cut (s .graph) p
 
 -- What they leave: undoing the swaps from the last down to those kept gives the labels that the pass leaves.
-pub record Ended (s : Setting) (limit : ℕ) (p labels codes : List ℕ) (r : Walked) : Type 0 where
+pub record WalkDone (s : Terms) (limit : ℕ) (p labels codes : List ℕ) (r : Walked) : Type 0 where
   pub upto : r .made ≤ limit
   pub kept-upto : r .kept ≤ r .made
   pub coded : Coded (length p) (r .made) codes
@@ -106,8 +106,8 @@ pub record Ended (s : Setting) (limit : ℕ) (p labels codes : List ℕ) (r : Wa
   pub least-is : r .least ≡ cut (s .graph) (walk s limit (start s p) .kept)
 
 -- What a pass asks of the lists: those lent are as long as is needed.
-pub record Roomy (p : List ℕ) (gains : List ℤ) (locks : List ℕ) (room limit : ℕ) : Type 0 where
+pub record LentLong (p : List ℕ) (gains : List ℤ) (locks : List ℕ) (places limit : ℕ) : Type 0 where
   pub gains-long : length gains ≡ length p
   pub locks-long : length locks ≡ length p
-  pub room-for : limit ≤ room
+  pub places-for : limit ≤ places
   pub few : limit ≤ mostSwaps

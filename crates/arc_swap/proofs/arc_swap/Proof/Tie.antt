@@ -11,9 +11,9 @@ use Rattle.arc_swap.proofs.arc_swap.Statement
 use Rattle.arc_swap.proofs.number.number_of.Met as Met'
 use Rattle.arc_swap.proofs.number.number_of.Reads as Reads''
 use Rattle.arc_swap.proofs.number.number_of.Symbol as Symbol'
-use Rattle.arc_swap.proofs.swap_all.Met as Met''
-use Rattle.arc_swap.proofs.walk.swap_all.Reads as Reads'3
-use Rattle.arc_swap.proofs.swap_all.Symbol as Symbol''
+use Rattle.arc_swap.proofs.refine.Met as Met''
+use Rattle.arc_swap.proofs.walk.refine.Reads as Reads'3
+use Rattle.arc_swap.proofs.refine.Symbol as Symbol''
 use Rattle.arc_swap.proofs.zero_run.Met as Met'3
 use Rattle.arc_swap.proofs.walk.zero_run.Reads as Reads'4
 use Rattle.arc_swap.proofs.zero_run.Symbol as Symbol'3
@@ -72,17 +72,17 @@ After-bare-report2 = Lts.After-bare-report2 (Reads'4.Asked, Reads'4.Learnt, Read
 abbrev pub Else2 : Type 0
 Else2 = Lts.Else2 (Reads'4.Asked, Reads'4.Learnt, Reads.Asked, Reads.Learnt, Reads''.Asked, Reads''.Learnt, Reads'3.Asked, Reads'3.Learnt) Reads'.Pre Reads'.Post
 
-abbrev pub After-swap-all-arg : Type 0
-After-swap-all-arg = Lts.After-swap-all-arg (Reads'4.Asked, Reads'4.Learnt, Reads.Asked, Reads.Learnt, Reads''.Asked, Reads''.Learnt, Reads'3.Asked, Reads'3.Learnt) Reads'.Pre Reads'.Post
+abbrev pub After-refine-arg : Type 0
+After-refine-arg = Lts.After-refine-arg (Reads'4.Asked, Reads'4.Learnt, Reads.Asked, Reads.Learnt, Reads''.Asked, Reads''.Learnt, Reads'3.Asked, Reads'3.Learnt) Reads'.Pre Reads'.Post
 
-abbrev pub After-swap-all-arg2 : Type 0
-After-swap-all-arg2 = Lts.After-swap-all-arg2 (Reads'4.Asked, Reads'4.Learnt, Reads.Asked, Reads.Learnt, Reads''.Asked, Reads''.Learnt, Reads'3.Asked, Reads'3.Learnt) Reads'.Pre Reads'.Post
+abbrev pub After-refine-arg2 : Type 0
+After-refine-arg2 = Lts.After-refine-arg2 (Reads'4.Asked, Reads'4.Learnt, Reads.Asked, Reads.Learnt, Reads''.Asked, Reads''.Learnt, Reads'3.Asked, Reads'3.Learnt) Reads'.Pre Reads'.Post
 
-abbrev pub After-swap-all-arg3 : Type 0
-After-swap-all-arg3 = Lts.After-swap-all-arg3 (Reads'4.Asked, Reads'4.Learnt, Reads.Asked, Reads.Learnt, Reads''.Asked, Reads''.Learnt, Reads'3.Asked, Reads'3.Learnt) Reads'.Pre Reads'.Post
+abbrev pub After-refine-arg3 : Type 0
+After-refine-arg3 = Lts.After-refine-arg3 (Reads'4.Asked, Reads'4.Learnt, Reads.Asked, Reads.Learnt, Reads''.Asked, Reads''.Learnt, Reads'3.Asked, Reads'3.Learnt) Reads'.Pre Reads'.Post
 
-abbrev pub After-swap-all : Type 0
-After-swap-all = Lts.After-swap-all (Reads'4.Asked, Reads'4.Learnt, Reads.Asked, Reads.Learnt, Reads''.Asked, Reads''.Learnt, Reads'3.Asked, Reads'3.Learnt) Reads'.Pre Reads'.Post
+abbrev pub After-refine : Type 0
+After-refine = Lts.After-refine (Reads'4.Asked, Reads'4.Learnt, Reads.Asked, Reads.Learnt, Reads''.Asked, Reads''.Learnt, Reads'3.Asked, Reads'3.Learnt) Reads'.Pre Reads'.Post
 
 abbrev pub After-labels : Type 0
 After-labels = Lts.After-labels (Reads'4.Asked, Reads'4.Learnt, Reads.Asked, Reads.Learnt, Reads''.Asked, Reads''.Learnt, Reads'3.Asked, Reads'3.Learnt) Reads'.Pre Reads'.Post
@@ -117,8 +117,8 @@ Need-same-length = Lts.Need-same-length (Reads'4.Asked, Reads'4.Learnt, Reads.As
 abbrev pub Need-returns-2 : Type 0
 Need-returns-2 = Lts.Need-returns-2 (Reads'4.Asked, Reads'4.Learnt, Reads.Asked, Reads.Learnt, Reads''.Asked, Reads''.Learnt, Reads'3.Asked, Reads'3.Learnt) Reads'.Pre Reads'.Post
 
-abbrev pub Need-swap-all-requires : Type 0
-Need-swap-all-requires = Lts.Need-swap-all-requires (Reads'4.Asked, Reads'4.Learnt, Reads.Asked, Reads.Learnt, Reads''.Asked, Reads''.Learnt, Reads'3.Asked, Reads'3.Learnt) Reads'.Pre Reads'.Post
+abbrev pub Need-refine-requires : Type 0
+Need-refine-requires = Lts.Need-refine-requires (Reads'4.Asked, Reads'4.Learnt, Reads.Asked, Reads.Learnt, Reads''.Asked, Reads''.Learnt, Reads'3.Asked, Reads'3.Learnt) Reads'.Pre Reads'.Post
 
 abbrev pub Need-same-length-2 : Type 0
 Need-same-length-2 = Lts.Need-same-length-2 (Reads'4.Asked, Reads'4.Learnt, Reads.Asked, Reads.Learnt, Reads''.Asked, Reads''.Learnt, Reads'3.Asked, Reads'3.Learnt) Reads'.Pre Reads'.Post
@@ -130,9 +130,9 @@ abbrev pub Need-returns-3 : Type 0
 Need-returns-3 = Lts.Need-returns-3 (Reads'4.Asked, Reads'4.Learnt, Reads.Asked, Reads.Learnt, Reads''.Asked, Reads''.Learnt, Reads'3.Asked, Reads'3.Learnt) Reads'.Pre Reads'.Post
 
 module _ {M : Type 1} where
-  pub spec : (answer : Need-zero-run-requires) → (answer : Need-bare-report-requires) → (answer : Need-returns) → (answer : Need-number-of-requires) → (answer : Need-bare-report-requires-2) → (answer : Need-same-length) → (answer : Need-returns-2) → (answer : Need-swap-all-requires) → (answer : Need-same-length-2) → (answer : Need-same-length-3) → (answer : Need-returns-3) → Lts.Closed (Reads'4.Asked, Reads'4.Learnt, Reads.Asked, Reads.Learnt, Reads''.Asked, Reads''.Learnt, Reads'3.Asked, Reads'3.Learnt) Reads'.Pre Reads'.Post M
+  pub spec : (answer : Need-zero-run-requires) → (answer : Need-bare-report-requires) → (answer : Need-returns) → (answer : Need-number-of-requires) → (answer : Need-bare-report-requires-2) → (answer : Need-same-length) → (answer : Need-returns-2) → (answer : Need-refine-requires) → (answer : Need-same-length-2) → (answer : Need-same-length-3) → (answer : Need-returns-3) → Lts.Closed (Reads'4.Asked, Reads'4.Learnt, Reads.Asked, Reads.Learnt, Reads''.Asked, Reads''.Learnt, Reads'3.Asked, Reads'3.Learnt) Reads'.Pre Reads'.Post M
   spec = λ answer answer' answer'' answer'3 answer'4 answer'5 answer'6 answer'7 answer'8 answer'9 answer'10. Lts.spec (Reads'4.Asked, Reads'4.Learnt, Reads.Asked, Reads.Learnt, Reads''.Asked, Reads''.Learnt, Reads'3.Asked, Reads'3.Learnt) Reads'.Pre Reads'.Post answer answer' answer'' answer'3 answer'4 answer'5 answer'6 answer'7 answer'8 answer'9 answer'10
 
   pub close : Lts.Closed (Reads'4.Asked, Reads'4.Learnt, Reads.Asked, Reads.Learnt, Reads''.Asked, Reads''.Learnt, Reads'3.Asked, Reads'3.Learnt) Reads'.Pre Reads'.Post M → Statement.statement M
   unfolding Code.routine Running.tablesOf
-  close = λ closed 𝓤 H 𝓜 𝓖 𝓡. Written.close 7 Kinds.ps Kinds.r Reads'.Ghost Reads'.requires Reads'.ensures Reads'.pre-read Reads'.Pinned Reads'.Owned Reads'.post-read record { M = M; 𝓤 = 𝓤; H = H; 𝓜 = 𝓜; 𝓖 = 𝓖; 𝓡 = 𝓡 } Code.env Key.name Code.function (Code.unfolded 𝓤 H 𝓜 𝓡) (λ κs a g. tt) (λ κs. Reads'.owns κs record { M = M; 𝓤 = 𝓤; H = H; 𝓜 = 𝓜; 𝓖 = 𝓖; 𝓡 = 𝓡 }) (Reads'.passes record { M = M; 𝓤 = 𝓤; H = H; 𝓜 = 𝓜; 𝓖 = 𝓖; 𝓡 = 𝓡 }) λ g. closed 𝓤 H (𝓖 .A) (Running.givenOf 𝓤 H 𝓜 𝓖) (Run.Over 𝓤 H 𝓜 𝓖 𝓡 Code.env) (Reads'4.known record { M = M; 𝓤 = 𝓤; H = H; 𝓜 = 𝓜; 𝓖 = 𝓖; 𝓡 = 𝓡 } Code.env Symbol'3.name Symbol'3.routine Code.calls-arc-swap·zero-run (Met'3.met 𝓤 H 𝓜 𝓖 𝓡)) (Reads.known record { M = M; 𝓤 = 𝓤; H = H; 𝓜 = 𝓜; 𝓖 = 𝓖; 𝓡 = 𝓡 } Code.env Symbol.name Symbol.routine Code.calls-arc-swap·answers·bare-report (Met.met 𝓤 H 𝓜 𝓖 𝓡)) (Reads''.known record { M = M; 𝓤 = 𝓤; H = H; 𝓜 = 𝓜; 𝓖 = 𝓖; 𝓡 = 𝓡 } Code.env Symbol'.name Symbol'.routine Code.calls-arc-swap·number·number-of (Met'.met 𝓤 H 𝓜 𝓖 𝓡)) (Reads'3.known record { M = M; 𝓤 = 𝓤; H = H; 𝓜 = 𝓜; 𝓖 = 𝓖; 𝓡 = 𝓡 } Code.env Symbol''.name Symbol''.routine Code.calls-arc-swap·swap-all (Met''.met 𝓤 H 𝓜 𝓖 𝓡))
+  close = λ closed 𝓤 H 𝓜 𝓖 𝓡. Written.close 7 Kinds.ps Kinds.r Reads'.Ghost Reads'.requires Reads'.ensures Reads'.pre-read Reads'.Pinned Reads'.Owned Reads'.post-read record { M = M; 𝓤 = 𝓤; H = H; 𝓜 = 𝓜; 𝓖 = 𝓖; 𝓡 = 𝓡 } Code.env Key.name Code.function (Code.unfolded 𝓤 H 𝓜 𝓡) (λ κs a g. tt) (λ κs. Reads'.owns κs record { M = M; 𝓤 = 𝓤; H = H; 𝓜 = 𝓜; 𝓖 = 𝓖; 𝓡 = 𝓡 }) (Reads'.passes record { M = M; 𝓤 = 𝓤; H = H; 𝓜 = 𝓜; 𝓖 = 𝓖; 𝓡 = 𝓡 }) λ g. closed 𝓤 H (𝓖 .A) (Running.givenOf 𝓤 H 𝓜 𝓖) (Run.Over 𝓤 H 𝓜 𝓖 𝓡 Code.env) (Reads'4.known record { M = M; 𝓤 = 𝓤; H = H; 𝓜 = 𝓜; 𝓖 = 𝓖; 𝓡 = 𝓡 } Code.env Symbol'3.name Symbol'3.routine Code.calls-arc-swap·zero-run (Met'3.met 𝓤 H 𝓜 𝓖 𝓡)) (Reads.known record { M = M; 𝓤 = 𝓤; H = H; 𝓜 = 𝓜; 𝓖 = 𝓖; 𝓡 = 𝓡 } Code.env Symbol.name Symbol.routine Code.calls-arc-swap·answers·bare-report (Met.met 𝓤 H 𝓜 𝓖 𝓡)) (Reads''.known record { M = M; 𝓤 = 𝓤; H = H; 𝓜 = 𝓜; 𝓖 = 𝓖; 𝓡 = 𝓡 } Code.env Symbol'.name Symbol'.routine Code.calls-arc-swap·number·number-of (Met'.met 𝓤 H 𝓜 𝓖 𝓡)) (Reads'3.known record { M = M; 𝓤 = 𝓤; H = H; 𝓜 = 𝓜; 𝓖 = 𝓖; 𝓡 = 𝓡 } Code.env Symbol''.name Symbol''.routine Code.calls-arc-swap·refine (Met''.met 𝓤 H 𝓜 𝓖 𝓡))

@@ -1,4 +1,4 @@
-use Rattle.arc_swap.proofs.Calls.{ceilings-asked, begins}
+use Rattle.arc_swap.proofs.Entering.{ceilings-asked, begins}
 use borrow.Author.Needs.{needs}
 use Rattle.arc_swap.proofs.steps.begin_run.Statement.{statement}
 use Rattle.arc_swap.proofs.steps.begin_run.Tie as tie

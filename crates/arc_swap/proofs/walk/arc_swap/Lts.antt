@@ -336,7 +336,7 @@ abbrev b24 : Syntax.Body
 b24 = Syntax.assign (Syntax.place 20 List.[]) (Syntax.addrOf (Syntax.place 8 (List._∷_ (Syntax.deref RunRecordTy.by-value) List.[])))
 
 abbrev b25 : Syntax.Body
-b25 = Syntax.call "arc_swap::swap_all" (List._∷_ (Syntax.copy (Syntax.place 1 List.[])) (List._∷_ (Syntax.copy (Syntax.place 2 List.[])) (List._∷_ (Syntax.copy (Syntax.place 3 List.[])) (List._∷_ (Syntax.copy (Syntax.place 4 List.[])) (List._∷_ (Syntax.copy (Syntax.place 17 List.[])) (List._∷_ (Syntax.copy (Syntax.place 19 List.[])) (List._∷_ (Syntax.copy (Syntax.place 7 List.[])) (List._∷_ (Syntax.copy (Syntax.place 20 List.[])) List.[])))))))) (Syntax.place 0 List.[])
+b25 = Syntax.call "arc_swap::refine" (List._∷_ (Syntax.copy (Syntax.place 1 List.[])) (List._∷_ (Syntax.copy (Syntax.place 2 List.[])) (List._∷_ (Syntax.copy (Syntax.place 3 List.[])) (List._∷_ (Syntax.copy (Syntax.place 4 List.[])) (List._∷_ (Syntax.copy (Syntax.place 17 List.[])) (List._∷_ (Syntax.copy (Syntax.place 19 List.[])) (List._∷_ (Syntax.copy (Syntax.place 7 List.[])) (List._∷_ (Syntax.copy (Syntax.place 20 List.[])) List.[])))))))) (Syntax.place 0 List.[])
 
 abbrev b26 : Syntax.Body
 b26 = Syntax.return
@@ -768,7 +768,7 @@ module _ (claims· : Claims) where
   module _ (Pre· : (κs : Lifetimes.Lfts 7) → Kinds.Dens κs ps → Type 0) (Post· : (κs : Lifetimes.Lfts 7) → (a : Kinds.Dens κs ps) → Kinds.Plain 7 ps r κs) where
     module _ (M : Type 1) where
       abbrev pub Closed : Type 2
-      Closed = (𝓤 : URA.URA M) (H : Wp.Heap 𝓤) (A : Atoms.Atoms 𝓤) (W : Kit.Given 𝓤 H A) (𝓣 : Wp.Tables 𝓤 H) (known0 : Plain.Known 𝓤 H A W 𝓣 1 ps·0 r·0 (claims· .0) (claims· .1) "arc_swap::zero_run") (known1 : Plain.Known 𝓤 H A W 𝓣 0 ps·1 r·1 (claims· .2) (claims· .3) "arc_swap::answers::bare_report") (known2 : Plain.Known 𝓤 H A W 𝓣 5 ps·2 r·2 (claims· .4) (claims· .5) "arc_swap::number::number_of") (known3 : Plain.Known 𝓤 H A W 𝓣 7 ps·3 r·3 (claims· .6) (claims· .7) "arc_swap::swap_all") → Statement.Triple 𝓤 (Wp.WpFn 𝓤 H (𝓣 .C) (𝓣 .Λ) (Function.fnOf 7 ps r xs m hs body)) (Function.plainOf 𝓤 H A 7 ps r Pre· Post·)
+      Closed = (𝓤 : URA.URA M) (H : Wp.Heap 𝓤) (A : Atoms.Atoms 𝓤) (W : Kit.Given 𝓤 H A) (𝓣 : Wp.Tables 𝓤 H) (known0 : Plain.Known 𝓤 H A W 𝓣 1 ps·0 r·0 (claims· .0) (claims· .1) "arc_swap::zero_run") (known1 : Plain.Known 𝓤 H A W 𝓣 0 ps·1 r·1 (claims· .2) (claims· .3) "arc_swap::answers::bare_report") (known2 : Plain.Known 𝓤 H A W 𝓣 5 ps·2 r·2 (claims· .4) (claims· .5) "arc_swap::number::number_of") (known3 : Plain.Known 𝓤 H A W 𝓣 7 ps·3 r·3 (claims· .6) (claims· .7) "arc_swap::refine") → Statement.Triple 𝓤 (Wp.WpFn 𝓤 H (𝓣 .C) (𝓣 .Λ) (Function.fnOf 7 ps r xs m hs body)) (Function.plainOf 𝓤 H A 7 ps r Pre· Post·)
 
     module _ where
       abbrev at0 : Typed.TF T21 O1
@@ -971,7 +971,7 @@ module _ (claims· : Claims) where
 
       module _ {M : Type 1} (𝓤 : URA.URA M) (H : Wp.Heap 𝓤) (A : Atoms.Atoms 𝓤) (W : Kit.Given 𝓤 H A) (𝓣 : Wp.Tables 𝓤 H) where
         abbrev Knowns : Type 1
-        Knowns = Plain.Known 𝓤 H A W 𝓣 1 ps·0 r·0 (claims· .0) (claims· .1) "arc_swap::zero_run" × Plain.Known 𝓤 H A W 𝓣 0 ps·1 r·1 (claims· .2) (claims· .3) "arc_swap::answers::bare_report" × Plain.Known 𝓤 H A W 𝓣 5 ps·2 r·2 (claims· .4) (claims· .5) "arc_swap::number::number_of" × Plain.Known 𝓤 H A W 𝓣 7 ps·3 r·3 (claims· .6) (claims· .7) "arc_swap::swap_all"
+        Knowns = Plain.Known 𝓤 H A W 𝓣 1 ps·0 r·0 (claims· .0) (claims· .1) "arc_swap::zero_run" × Plain.Known 𝓤 H A W 𝓣 0 ps·1 r·1 (claims· .2) (claims· .3) "arc_swap::answers::bare_report" × Plain.Known 𝓤 H A W 𝓣 5 ps·2 r·2 (claims· .4) (claims· .5) "arc_swap::number::number_of" × Plain.Known 𝓤 H A W 𝓣 7 ps·3 r·3 (claims· .6) (claims· .7) "arc_swap::refine"
 
       module _ (κs : Lifetimes.Lfts 7) (qs : Lifetimes.Shares 7) where
         abbrev g8 : List.List Row.Entry
@@ -1348,7 +1348,7 @@ module _ (claims· : Claims) where
           d36 = Typed.g-pre 𝓤 H A W 𝓣 E G46 G47 b26 Δ0 (Typed.pass T46 T47 s43) at35 (Scalar.g-room 𝓤 H A W E G46 7 type·15 (Local.room-whole 𝓤 H A W (Declared.row Settings.the-type) type·15 Path'.refl)) d35
 
           d37 : Typed.Typed 𝓤 H A 𝓣 E G45 b27 Δ0 at37
-          d37 = Typed.s-seq 𝓤 H A W 𝓣 E G45 G46 b25 b26 Δ0 (Typed.both s42) at36 (Plain.t-call-plain 𝓤 H A W 𝓣 7 ps·3 r·3 (claims· .6) (claims· .7) "arc_swap::swap_all" (known .3) E (λ pos β. β) G45 (record { pos = 1; ty = Syntax.tyRef (Syntax.named 0) Syntax.imm (Syntax.tyInt Syntax.w32); ref = λ x. x }, (record { pos = 2; ty = Syntax.tyRef (Syntax.named 1) Syntax.imm (Syntax.tyInt Syntax.w32); ref = λ x. x }, (record { pos = 3; ty = Syntax.tyRef (Syntax.named 2) Syntax.imm (Syntax.tyInt Syntax.w32); ref = λ x. x }, (record { pos = 4; ty = Syntax.tyRef (Syntax.named 3) Syntax.imm (Syntax.tyInt Syntax.w32); ref = λ x. x }, (record { pos = 17; ty = Syntax.tyRef Syntax.erased Syntax.mut (Syntax.tyInt Syntax.w32); ref = λ x. x }, (record { pos = 19; ty = Syntax.tyRef Syntax.erased Syntax.mut (Syntax.tyInt Syntax.w32); ref = λ x. x }, (record { pos = 7; st = List.[]; d = 0; at = λ x. x }, (record { pos = 20; ty = Syntax.tyRef Syntax.erased Syntax.mut RunRecordTy.behind; ref = λ x. x }, tt)))))))) 0 (List._∷_ 0 (List._∷_ 1 (List._∷_ 2 (List._∷_ 3 (List._∷_ 9 (List._∷_ 10 (List._∷_ 11 List.[]))))))) (Call.sub-id 𝓤 H A W (G45 .slots)) (ShrSlice.spares-sslice 𝓤 H A W (Referent.rtF (Referent.fInt Syntax.w32)) type·7 0, Shared.reads-sslice 𝓤 H A W (Referent.rtF (Referent.fInt Syntax.w32)) type·7 0, Path'.refl, (ShrSlice.spares-sslice 𝓤 H A W (Referent.rtF (Referent.fInt Syntax.w32)) type·8 1, Shared.reads-sslice 𝓤 H A W (Referent.rtF (Referent.fInt Syntax.w32)) type·8 1, Path'.refl, (ShrSlice.spares-sslice 𝓤 H A W (Referent.rtF (Referent.fInt Syntax.w32)) type·9 2, Shared.reads-sslice 𝓤 H A W (Referent.rtF (Referent.fInt Syntax.w32)) type·9 2, Path'.refl, (ShrSlice.spares-sslice 𝓤 H A W (Referent.rtF (Referent.fInt Syntax.w32)) type·10 3, Shared.reads-sslice 𝓤 H A W (Referent.rtF (Referent.fInt Syntax.w32)) type·10 3, Path'.refl, (Reads.as-is 𝓤 H A (Mut.mslice (Referent.rtF (Referent.fInt Syntax.w32)) type·3 9), Mut.reads-mslice 𝓤 H A W (Referent.rtF (Referent.fInt Syntax.w32)) type·3 9, Path'.refl, (Reads.as-is 𝓤 H A (Mut.mslice (Referent.rtF (Referent.fInt Syntax.w32)) type·3 10), Mut.reads-mslice 𝓤 H A W (Referent.rtF (Referent.fInt Syntax.w32)) type·3 10, Path'.refl, ((Yields.yields-copy 𝓤 H A W (λ ρ. Unit) (Declared.row Settings.the-type) Path'.refl (Copies.cStruct Settings.the-type Laws'.the-laws Laws'.the-copy .copy 𝓤 H A W) (Rows.whole (Declared.row Settings.the-type)) (λ x. x) (λ x. x) (λ ρ told. Local.mem-whole 𝓤 H A W (Declared.row Settings.the-type) ρ) λ ρ told. Local.whole-mem 𝓤 H A W (Declared.row Settings.the-type) ρ, Path'.refl), (Reads.as-is 𝓤 H A (Rows.mref RunRecordTy.R type·0 11), Reads.reads-mref 𝓤 H A W RunRecordTy.R type·0 11, Path'.refl, tt)))))))) (Reads.room-gone 𝓤 H A type·6) (tt, (tt, (tt, (tt, (tt, (tt, (tt, tt))))))) Path'.refl) d36
+          d37 = Typed.s-seq 𝓤 H A W 𝓣 E G45 G46 b25 b26 Δ0 (Typed.both s42) at36 (Plain.t-call-plain 𝓤 H A W 𝓣 7 ps·3 r·3 (claims· .6) (claims· .7) "arc_swap::refine" (known .3) E (λ pos β. β) G45 (record { pos = 1; ty = Syntax.tyRef (Syntax.named 0) Syntax.imm (Syntax.tyInt Syntax.w32); ref = λ x. x }, (record { pos = 2; ty = Syntax.tyRef (Syntax.named 1) Syntax.imm (Syntax.tyInt Syntax.w32); ref = λ x. x }, (record { pos = 3; ty = Syntax.tyRef (Syntax.named 2) Syntax.imm (Syntax.tyInt Syntax.w32); ref = λ x. x }, (record { pos = 4; ty = Syntax.tyRef (Syntax.named 3) Syntax.imm (Syntax.tyInt Syntax.w32); ref = λ x. x }, (record { pos = 17; ty = Syntax.tyRef Syntax.erased Syntax.mut (Syntax.tyInt Syntax.w32); ref = λ x. x }, (record { pos = 19; ty = Syntax.tyRef Syntax.erased Syntax.mut (Syntax.tyInt Syntax.w32); ref = λ x. x }, (record { pos = 7; st = List.[]; d = 0; at = λ x. x }, (record { pos = 20; ty = Syntax.tyRef Syntax.erased Syntax.mut RunRecordTy.behind; ref = λ x. x }, tt)))))))) 0 (List._∷_ 0 (List._∷_ 1 (List._∷_ 2 (List._∷_ 3 (List._∷_ 9 (List._∷_ 10 (List._∷_ 11 List.[]))))))) (Call.sub-id 𝓤 H A W (G45 .slots)) (ShrSlice.spares-sslice 𝓤 H A W (Referent.rtF (Referent.fInt Syntax.w32)) type·7 0, Shared.reads-sslice 𝓤 H A W (Referent.rtF (Referent.fInt Syntax.w32)) type·7 0, Path'.refl, (ShrSlice.spares-sslice 𝓤 H A W (Referent.rtF (Referent.fInt Syntax.w32)) type·8 1, Shared.reads-sslice 𝓤 H A W (Referent.rtF (Referent.fInt Syntax.w32)) type·8 1, Path'.refl, (ShrSlice.spares-sslice 𝓤 H A W (Referent.rtF (Referent.fInt Syntax.w32)) type·9 2, Shared.reads-sslice 𝓤 H A W (Referent.rtF (Referent.fInt Syntax.w32)) type·9 2, Path'.refl, (ShrSlice.spares-sslice 𝓤 H A W (Referent.rtF (Referent.fInt Syntax.w32)) type·10 3, Shared.reads-sslice 𝓤 H A W (Referent.rtF (Referent.fInt Syntax.w32)) type·10 3, Path'.refl, (Reads.as-is 𝓤 H A (Mut.mslice (Referent.rtF (Referent.fInt Syntax.w32)) type·3 9), Mut.reads-mslice 𝓤 H A W (Referent.rtF (Referent.fInt Syntax.w32)) type·3 9, Path'.refl, (Reads.as-is 𝓤 H A (Mut.mslice (Referent.rtF (Referent.fInt Syntax.w32)) type·3 10), Mut.reads-mslice 𝓤 H A W (Referent.rtF (Referent.fInt Syntax.w32)) type·3 10, Path'.refl, ((Yields.yields-copy 𝓤 H A W (λ ρ. Unit) (Declared.row Settings.the-type) Path'.refl (Copies.cStruct Settings.the-type Laws'.the-laws Laws'.the-copy .copy 𝓤 H A W) (Rows.whole (Declared.row Settings.the-type)) (λ x. x) (λ x. x) (λ ρ told. Local.mem-whole 𝓤 H A W (Declared.row Settings.the-type) ρ) λ ρ told. Local.whole-mem 𝓤 H A W (Declared.row Settings.the-type) ρ, Path'.refl), (Reads.as-is 𝓤 H A (Rows.mref RunRecordTy.R type·0 11), Reads.reads-mref 𝓤 H A W RunRecordTy.R type·0 11, Path'.refl, tt)))))))) (Reads.room-gone 𝓤 H A type·6) (tt, (tt, (tt, (tt, (tt, (tt, (tt, tt))))))) Path'.refl) d36
 
           d38 : Typed.Typed 𝓤 H A 𝓣 E G44 b28 Δ0 at38
           d38 = Typed.s-seq 𝓤 H A W 𝓣 E G44 G45 b24 b27 Δ0 (Typed.give s41) at37 (Reborrow.t-mref-relend 𝓤 H A W E 𝓣 G44 8 20 6 11 RunRecordTy.R RunRecordTy.by-value type·13 type·0 (Row.lease (κs .1 .1 .1 .1 .1 .1 .0) (qs .1 .1 .1 .1 .1 .1 .0)) (λ x. x) (Reads.as-is 𝓤 H A (Rows.mref RunRecordTy.R type·13 6)) (Reads.room-gone 𝓤 H A type·0) Path'.refl tt Path'.refl Path'.refl λ b o. tt) d37
@@ -1718,70 +1718,70 @@ module _ (claims· : Claims) where
       m30 = λ before given. s36 .next (m29 before given)
 
       module _ (before· : Else2) where
-        pub record After-swap-all-arg·own : Type 0 where
+        pub record After-refine-arg·own : Type 0 where
           pub given : s35 .gives (m28 (before· .before))
 
-      pub record After-swap-all-arg : Type 0 where
+      pub record After-refine-arg : Type 0 where
         pub before : Else2
-        pub swap-all-arg : After-swap-all-arg·own before
+        pub refine-arg : After-refine-arg·own before
 
-      abbrev pub m31 : (before : After-swap-all-arg) → (given : s38 .gives (m30 (before .before) (before .swap-all-arg .given))) → Typed.Mo T42
-      m31 = λ before given. s38 .next (m30 (before .before) (before .swap-all-arg .given)) given
+      abbrev pub m31 : (before : After-refine-arg) → (given : s38 .gives (m30 (before .before) (before .refine-arg .given))) → Typed.Mo T42
+      m31 = λ before given. s38 .next (m30 (before .before) (before .refine-arg .given)) given
 
-      abbrev pub m32 : (before : After-swap-all-arg) → (given : s38 .gives (m30 (before .before) (before .swap-all-arg .given))) → Typed.Mo T43
+      abbrev pub m32 : (before : After-refine-arg) → (given : s38 .gives (m30 (before .before) (before .refine-arg .given))) → Typed.Mo T43
       m32 = λ before given. s39 .next (m31 before given)
 
-      module _ (before· : After-swap-all-arg) where
-        pub record After-swap-all-arg2·own : Type 0 where
-          pub given : s38 .gives (m30 (before· .before) (before· .swap-all-arg .given))
+      module _ (before· : After-refine-arg) where
+        pub record After-refine-arg2·own : Type 0 where
+          pub given : s38 .gives (m30 (before· .before) (before· .refine-arg .given))
 
-      pub record After-swap-all-arg2 : Type 0 where
-        pub before : After-swap-all-arg
-        pub swap-all-arg2 : After-swap-all-arg2·own before
+      pub record After-refine-arg2 : Type 0 where
+        pub before : After-refine-arg
+        pub refine-arg2 : After-refine-arg2·own before
 
-      abbrev pub m33 : (before : After-swap-all-arg2) → (given : s41 .gives (m32 (before .before) (before .swap-all-arg2 .given))) → Typed.Mo T45
-      m33 = λ before given. s41 .next (m32 (before .before) (before .swap-all-arg2 .given)) given
+      abbrev pub m33 : (before : After-refine-arg2) → (given : s41 .gives (m32 (before .before) (before .refine-arg2 .given))) → Typed.Mo T45
+      m33 = λ before given. s41 .next (m32 (before .before) (before .refine-arg2 .given)) given
 
-      module _ (before· : After-swap-all-arg2) where
-        pub record After-swap-all-arg3·own : Type 0 where
-          pub given : s41 .gives (m32 (before· .before) (before· .swap-all-arg2 .given))
+      module _ (before· : After-refine-arg2) where
+        pub record After-refine-arg3·own : Type 0 where
+          pub given : s41 .gives (m32 (before· .before) (before· .refine-arg2 .given))
 
-      pub record After-swap-all-arg3 : Type 0 where
-        pub before : After-swap-all-arg2
-        pub swap-all-arg3 : After-swap-all-arg3·own before
+      pub record After-refine-arg3 : Type 0 where
+        pub before : After-refine-arg2
+        pub refine-arg3 : After-refine-arg3·own before
 
-      abbrev pub Need-swap-all-requires : Type 0
-      Need-swap-all-requires = (c : After-swap-all-arg3) → s42 .asks (m33 (c .before) (c .swap-all-arg3 .given))
+      abbrev pub Need-refine-requires : Type 0
+      Need-refine-requires = (c : After-refine-arg3) → s42 .asks (m33 (c .before) (c .refine-arg3 .given))
 
-      abbrev pub m34 : (before : After-swap-all-arg3) → (given : s42 .gives (m33 (before .before) (before .swap-all-arg3 .given))) → Typed.Mo T46
-      m34 = λ before given. s42 .next (m33 (before .before) (before .swap-all-arg3 .given)) given
+      abbrev pub m34 : (before : After-refine-arg3) → (given : s42 .gives (m33 (before .before) (before .refine-arg3 .given))) → Typed.Mo T46
+      m34 = λ before given. s42 .next (m33 (before .before) (before .refine-arg3 .given)) given
 
-      module _ (before· : After-swap-all-arg3) where
-        abbrev pub After-swap-all·own : Type 0
-        After-swap-all·own = Called.Called ps·3 r·3 (claims· .7) T45 (record { pos = 1; ty = Syntax.tyRef (Syntax.named 0) Syntax.imm (Syntax.tyInt Syntax.w32); ref = λ x. x }, (record { pos = 2; ty = Syntax.tyRef (Syntax.named 1) Syntax.imm (Syntax.tyInt Syntax.w32); ref = λ x. x }, (record { pos = 3; ty = Syntax.tyRef (Syntax.named 2) Syntax.imm (Syntax.tyInt Syntax.w32); ref = λ x. x }, (record { pos = 4; ty = Syntax.tyRef (Syntax.named 3) Syntax.imm (Syntax.tyInt Syntax.w32); ref = λ x. x }, (record { pos = 17; ty = Syntax.tyRef Syntax.erased Syntax.mut (Syntax.tyInt Syntax.w32); ref = λ x. x }, (record { pos = 19; ty = Syntax.tyRef Syntax.erased Syntax.mut (Syntax.tyInt Syntax.w32); ref = λ x. x }, (record { pos = 7; st = List.[]; d = 0; at = λ x. x }, (record { pos = 20; ty = Syntax.tyRef Syntax.erased Syntax.mut RunRecordTy.behind; ref = λ x. x }, tt)))))))) (m33 (before· .before) (before· .swap-all-arg3 .given))
+      module _ (before· : After-refine-arg3) where
+        abbrev pub After-refine·own : Type 0
+        After-refine·own = Called.Called ps·3 r·3 (claims· .7) T45 (record { pos = 1; ty = Syntax.tyRef (Syntax.named 0) Syntax.imm (Syntax.tyInt Syntax.w32); ref = λ x. x }, (record { pos = 2; ty = Syntax.tyRef (Syntax.named 1) Syntax.imm (Syntax.tyInt Syntax.w32); ref = λ x. x }, (record { pos = 3; ty = Syntax.tyRef (Syntax.named 2) Syntax.imm (Syntax.tyInt Syntax.w32); ref = λ x. x }, (record { pos = 4; ty = Syntax.tyRef (Syntax.named 3) Syntax.imm (Syntax.tyInt Syntax.w32); ref = λ x. x }, (record { pos = 17; ty = Syntax.tyRef Syntax.erased Syntax.mut (Syntax.tyInt Syntax.w32); ref = λ x. x }, (record { pos = 19; ty = Syntax.tyRef Syntax.erased Syntax.mut (Syntax.tyInt Syntax.w32); ref = λ x. x }, (record { pos = 7; st = List.[]; d = 0; at = λ x. x }, (record { pos = 20; ty = Syntax.tyRef Syntax.erased Syntax.mut RunRecordTy.behind; ref = λ x. x }, tt)))))))) (m33 (before· .before) (before· .refine-arg3 .given))
 
-      pub record After-swap-all : Type 0 where
-        pub before : After-swap-all-arg3
-        pub swap-all : After-swap-all·own before
+      pub record After-refine : Type 0 where
+        pub before : After-refine-arg3
+        pub refine : After-refine·own before
 
-      abbrev pub After-swap-all·gave : (c : After-swap-all) → s42 .gives (m33 (c .before .before) (c .before .swap-all-arg3 .given))
-      After-swap-all·gave = λ c. Called.given ps·3 r·3 (claims· .7) T45 (record { pos = 1; ty = Syntax.tyRef (Syntax.named 0) Syntax.imm (Syntax.tyInt Syntax.w32); ref = λ x. x }, (record { pos = 2; ty = Syntax.tyRef (Syntax.named 1) Syntax.imm (Syntax.tyInt Syntax.w32); ref = λ x. x }, (record { pos = 3; ty = Syntax.tyRef (Syntax.named 2) Syntax.imm (Syntax.tyInt Syntax.w32); ref = λ x. x }, (record { pos = 4; ty = Syntax.tyRef (Syntax.named 3) Syntax.imm (Syntax.tyInt Syntax.w32); ref = λ x. x }, (record { pos = 17; ty = Syntax.tyRef Syntax.erased Syntax.mut (Syntax.tyInt Syntax.w32); ref = λ x. x }, (record { pos = 19; ty = Syntax.tyRef Syntax.erased Syntax.mut (Syntax.tyInt Syntax.w32); ref = λ x. x }, (record { pos = 7; st = List.[]; d = 0; at = λ x. x }, (record { pos = 20; ty = Syntax.tyRef Syntax.erased Syntax.mut RunRecordTy.behind; ref = λ x. x }, tt)))))))) (m33 (c .before .before) (c .before .swap-all-arg3 .given)) (c .swap-all)
+      abbrev pub After-refine·gave : (c : After-refine) → s42 .gives (m33 (c .before .before) (c .before .refine-arg3 .given))
+      After-refine·gave = λ c. Called.given ps·3 r·3 (claims· .7) T45 (record { pos = 1; ty = Syntax.tyRef (Syntax.named 0) Syntax.imm (Syntax.tyInt Syntax.w32); ref = λ x. x }, (record { pos = 2; ty = Syntax.tyRef (Syntax.named 1) Syntax.imm (Syntax.tyInt Syntax.w32); ref = λ x. x }, (record { pos = 3; ty = Syntax.tyRef (Syntax.named 2) Syntax.imm (Syntax.tyInt Syntax.w32); ref = λ x. x }, (record { pos = 4; ty = Syntax.tyRef (Syntax.named 3) Syntax.imm (Syntax.tyInt Syntax.w32); ref = λ x. x }, (record { pos = 17; ty = Syntax.tyRef Syntax.erased Syntax.mut (Syntax.tyInt Syntax.w32); ref = λ x. x }, (record { pos = 19; ty = Syntax.tyRef Syntax.erased Syntax.mut (Syntax.tyInt Syntax.w32); ref = λ x. x }, (record { pos = 7; st = List.[]; d = 0; at = λ x. x }, (record { pos = 20; ty = Syntax.tyRef Syntax.erased Syntax.mut RunRecordTy.behind; ref = λ x. x }, tt)))))))) (m33 (c .before .before) (c .before .refine-arg3 .given)) (c .refine)
 
-      abbrev pub m35 : (before : After-swap-all-arg3) → (given : s42 .gives (m33 (before .before) (before .swap-all-arg3 .given))) → Typed.Mo T47
+      abbrev pub m35 : (before : After-refine-arg3) → (given : s42 .gives (m33 (before .before) (before .refine-arg3 .given))) → Typed.Mo T47
       m35 = λ before given. s43 (m34 before given)
 
-      abbrev pub m36 : (before : After-swap-all-arg3) → (given : s42 .gives (m33 (before .before) (before .swap-all-arg3 .given))) → Typed.Mo T48
+      abbrev pub m36 : (before : After-refine-arg3) → (given : s42 .gives (m33 (before .before) (before .refine-arg3 .given))) → Typed.Mo T48
       m36 = λ before given. s44 (m35 before given)
 
-      abbrev pub m37 : (before : After-swap-all) → (given : s46 .gives (m36 (before .before) (After-swap-all·gave before))) → Typed.Mo T50
-      m37 = λ before given. s46 .next (m36 (before .before) (After-swap-all·gave before)) given
+      abbrev pub m37 : (before : After-refine) → (given : s46 .gives (m36 (before .before) (After-refine·gave before))) → Typed.Mo T50
+      m37 = λ before given. s46 .next (m36 (before .before) (After-refine·gave before)) given
 
-      module _ (before· : After-swap-all) where
+      module _ (before· : After-refine) where
         pub record After-labels·own : Type 0 where
-          pub given : s46 .gives (m36 (before· .before) (After-swap-all·gave before·))
+          pub given : s46 .gives (m36 (before· .before) (After-refine·gave before·))
 
       pub record After-labels : Type 0 where
-        pub before : After-swap-all
+        pub before : After-refine
         pub labels : After-labels·own before
 
       abbrev pub m38 : (before : After-labels) → (given : s47 .gives (m37 (before .before) (before .labels .given))) → Typed.Mo T51
@@ -1829,12 +1829,12 @@ module _ (claims· : Claims) where
       abbrev pub Need-returns-3 : Type 0
       Need-returns-3 = (c : After-slice-known4) → Post· (c .before .before .before .before .before .before .before .before .before .before .before .before .before .before .before .before .before .before .κs) (dens (c .before .before .before .before .before .before .before .before .before .before .before .before .before .before .before .before .before .before .κs) (c .before .before .before .before .before .before .before .before .before .before .before .before .before .before .before .before .before .before .args)) (Function.resV r (c .before .before .before .before .before .before .before .before .before .before .before .before .before .before .before .before .before .before .κs) (m41 (c .before) (c .slice-known4 .given) .0)) (Clauses.atExit (Kinds.endedOf 7 ps r) (c .before .before .before .before .before .before .before .before .before .before .before .before .before .before .before .before .before .before .κs) (dens (c .before .before .before .before .before .before .before .before .before .before .before .before .before .before .before .before .before .before .κs) (c .before .before .before .before .before .before .before .before .before .before .before .before .before .before .before .before .before .before .args)) (Enter.lastsP (c .before .before .before .before .before .before .before .before .before .before .before .before .before .before .before .before .before .before .κs) 1 ps xs (dens (c .before .before .before .before .before .before .before .before .before .before .before .before .before .before .before .before .before .before .κs) (c .before .before .before .before .before .before .before .before .before .before .before .before .before .before .before .before .before .before .args)) (m41 (c .before) (c .slice-known4 .given) .1)))
 
-      module _ (zero-run-requires : Need-zero-run-requires) (bare-report-requires : Need-bare-report-requires) (returns : Need-returns) (number-of-requires : Need-number-of-requires) (bare-report-requires-2 : Need-bare-report-requires-2) (same-length : Need-same-length) (returns-2 : Need-returns-2) (swap-all-requires : Need-swap-all-requires) (same-length-2 : Need-same-length-2) (same-length-3 : Need-same-length-3) (returns-3 : Need-returns-3) where
-        lay11 : (c : After-swap-all) → at36 (W0 (c .before .before .before .before .before .before .before .before .before .before .before .before .before .before .κs) (c .before .before .before .before .before .before .before .before .before .before .before .before .before .before .args)) (m34 (c .before) (After-swap-all·gave c))
-        lay11 = λ c. (Path'.refl, λ g. λ g'. (Path'.refl, λ g''. λ g'3. (Path'.refl, ((Path'.refl, (Path'.refl, (Path'.refl, (Path'.refl, (MutSlice.fix-len (Row.get 5 (T58 .locals) (m41 record { before = record { before = record { before = record { before = c .before; swap-all = c .swap-all }; labels = record { given = g } }; slice-known3 = record { given = g' } }; stack = record { given = g'' } } g'3) .ptr) (Row.get 5 (T58 .locals) (m41 record { before = record { before = record { before = record { before = c .before; swap-all = c .swap-all }; labels = record { given = g } }; slice-known3 = record { given = g' } }; stack = record { given = g'' } } g'3) .name) (Row.get 5 (T58 .locals) (m41 record { before = record { before = record { before = record { before = c .before; swap-all = c .swap-all }; labels = record { given = g } }; slice-known3 = record { given = g' } }; stack = record { given = g'' } } g'3) .now) (dens (c .before .before .before .before .before .before .before .before .before .before .before .before .before .before .κs) (c .before .before .before .before .before .before .before .before .before .before .before .before .before .before .args) .1 .1 .1 .1 .0 .now) (same-length-2 record { before = record { before = record { before = record { before = record { before = c .before; swap-all = c .swap-all }; labels = record { given = g } }; slice-known3 = record { given = g' } }; stack = record { given = g'' } }; slice-known4 = record { given = g'3 } }), (MutSlice.fix-len (Row.get 6 (T58 .locals) (m41 record { before = record { before = record { before = record { before = c .before; swap-all = c .swap-all }; labels = record { given = g } }; slice-known3 = record { given = g' } }; stack = record { given = g'' } } g'3) .ptr) (Row.get 6 (T58 .locals) (m41 record { before = record { before = record { before = record { before = c .before; swap-all = c .swap-all }; labels = record { given = g } }; slice-known3 = record { given = g' } }; stack = record { given = g'' } } g'3) .name) (Row.get 6 (T58 .locals) (m41 record { before = record { before = record { before = record { before = c .before; swap-all = c .swap-all }; labels = record { given = g } }; slice-known3 = record { given = g' } }; stack = record { given = g'' } } g'3) .now) (dens (c .before .before .before .before .before .before .before .before .before .before .before .before .before .before .κs) (c .before .before .before .before .before .before .before .before .before .before .before .before .before .before .args) .1 .1 .1 .1 .1 .0 .now) (same-length-3 record { before = record { before = record { before = record { before = record { before = c .before; swap-all = c .swap-all }; labels = record { given = g } }; slice-known3 = record { given = g' } }; stack = record { given = g'' } }; slice-known4 = record { given = g'3 } }), (tt, (Path'.refl, tt)))))))), returns-3 record { before = record { before = record { before = record { before = record { before = c .before; swap-all = c .swap-all }; labels = record { given = g } }; slice-known3 = record { given = g' } }; stack = record { given = g'' } }; slice-known4 = record { given = g'3 } }))))
+      module _ (zero-run-requires : Need-zero-run-requires) (bare-report-requires : Need-bare-report-requires) (returns : Need-returns) (number-of-requires : Need-number-of-requires) (bare-report-requires-2 : Need-bare-report-requires-2) (same-length : Need-same-length) (returns-2 : Need-returns-2) (refine-requires : Need-refine-requires) (same-length-2 : Need-same-length-2) (same-length-3 : Need-same-length-3) (returns-3 : Need-returns-3) where
+        lay11 : (c : After-refine) → at36 (W0 (c .before .before .before .before .before .before .before .before .before .before .before .before .before .before .κs) (c .before .before .before .before .before .before .before .before .before .before .before .before .before .before .args)) (m34 (c .before) (After-refine·gave c))
+        lay11 = λ c. (Path'.refl, λ g. λ g'. (Path'.refl, λ g''. λ g'3. (Path'.refl, ((Path'.refl, (Path'.refl, (Path'.refl, (Path'.refl, (MutSlice.fix-len (Row.get 5 (T58 .locals) (m41 record { before = record { before = record { before = record { before = c .before; refine = c .refine }; labels = record { given = g } }; slice-known3 = record { given = g' } }; stack = record { given = g'' } } g'3) .ptr) (Row.get 5 (T58 .locals) (m41 record { before = record { before = record { before = record { before = c .before; refine = c .refine }; labels = record { given = g } }; slice-known3 = record { given = g' } }; stack = record { given = g'' } } g'3) .name) (Row.get 5 (T58 .locals) (m41 record { before = record { before = record { before = record { before = c .before; refine = c .refine }; labels = record { given = g } }; slice-known3 = record { given = g' } }; stack = record { given = g'' } } g'3) .now) (dens (c .before .before .before .before .before .before .before .before .before .before .before .before .before .before .κs) (c .before .before .before .before .before .before .before .before .before .before .before .before .before .before .args) .1 .1 .1 .1 .0 .now) (same-length-2 record { before = record { before = record { before = record { before = record { before = c .before; refine = c .refine }; labels = record { given = g } }; slice-known3 = record { given = g' } }; stack = record { given = g'' } }; slice-known4 = record { given = g'3 } }), (MutSlice.fix-len (Row.get 6 (T58 .locals) (m41 record { before = record { before = record { before = record { before = c .before; refine = c .refine }; labels = record { given = g } }; slice-known3 = record { given = g' } }; stack = record { given = g'' } } g'3) .ptr) (Row.get 6 (T58 .locals) (m41 record { before = record { before = record { before = record { before = c .before; refine = c .refine }; labels = record { given = g } }; slice-known3 = record { given = g' } }; stack = record { given = g'' } } g'3) .name) (Row.get 6 (T58 .locals) (m41 record { before = record { before = record { before = record { before = c .before; refine = c .refine }; labels = record { given = g } }; slice-known3 = record { given = g' } }; stack = record { given = g'' } } g'3) .now) (dens (c .before .before .before .before .before .before .before .before .before .before .before .before .before .before .κs) (c .before .before .before .before .before .before .before .before .before .before .before .before .before .before .args) .1 .1 .1 .1 .1 .0 .now) (same-length-3 record { before = record { before = record { before = record { before = record { before = c .before; refine = c .refine }; labels = record { given = g } }; slice-known3 = record { given = g' } }; stack = record { given = g'' } }; slice-known4 = record { given = g'3 } }), (tt, (Path'.refl, tt)))))))), returns-3 record { before = record { before = record { before = record { before = record { before = c .before; refine = c .refine }; labels = record { given = g } }; slice-known3 = record { given = g' } }; stack = record { given = g'' } }; slice-known4 = record { given = g'3 } }))))
 
         lay10 : (c : Else2) → at45 (W0 (c .before .before .before .before .before .before .before .before .before .before .κs) (c .before .before .before .before .before .before .before .before .before .before .args)) (m28 (c .before))
-        lay10 = λ c. λ g. (Path'.refl, λ g'. (Path'.refl, λ g''. (swap-all-requires record { before = record { before = record { before = record { before = c .before; if2 = c .if2 }; swap-all-arg = record { given = g } }; swap-all-arg2 = record { given = g' } }; swap-all-arg3 = record { given = g'' } }, λ g'3. lay11 record { before = record { before = record { before = record { before = record { before = c .before; if2 = c .if2 }; swap-all-arg = record { given = g } }; swap-all-arg2 = record { given = g' } }; swap-all-arg3 = record { given = g'' } }; swap-all = Called.called ps·3 r·3 (claims· .7) T45 (record { pos = 1; ty = Syntax.tyRef (Syntax.named 0) Syntax.imm (Syntax.tyInt Syntax.w32); ref = λ x. x }, (record { pos = 2; ty = Syntax.tyRef (Syntax.named 1) Syntax.imm (Syntax.tyInt Syntax.w32); ref = λ x. x }, (record { pos = 3; ty = Syntax.tyRef (Syntax.named 2) Syntax.imm (Syntax.tyInt Syntax.w32); ref = λ x. x }, (record { pos = 4; ty = Syntax.tyRef (Syntax.named 3) Syntax.imm (Syntax.tyInt Syntax.w32); ref = λ x. x }, (record { pos = 17; ty = Syntax.tyRef Syntax.erased Syntax.mut (Syntax.tyInt Syntax.w32); ref = λ x. x }, (record { pos = 19; ty = Syntax.tyRef Syntax.erased Syntax.mut (Syntax.tyInt Syntax.w32); ref = λ x. x }, (record { pos = 7; st = List.[]; d = 0; at = λ x. x }, (record { pos = 20; ty = Syntax.tyRef Syntax.erased Syntax.mut RunRecordTy.behind; ref = λ x. x }, tt)))))))) (m33 record { before = record { before = record { before = c .before; if2 = c .if2 }; swap-all-arg = record { given = g } }; swap-all-arg2 = record { given = g' } } g'') g'3 })))
+        lay10 = λ c. λ g. (Path'.refl, λ g'. (Path'.refl, λ g''. (refine-requires record { before = record { before = record { before = record { before = c .before; if2 = c .if2 }; refine-arg = record { given = g } }; refine-arg2 = record { given = g' } }; refine-arg3 = record { given = g'' } }, λ g'3. lay11 record { before = record { before = record { before = record { before = record { before = c .before; if2 = c .if2 }; refine-arg = record { given = g } }; refine-arg2 = record { given = g' } }; refine-arg3 = record { given = g'' } }; refine = Called.called ps·3 r·3 (claims· .7) T45 (record { pos = 1; ty = Syntax.tyRef (Syntax.named 0) Syntax.imm (Syntax.tyInt Syntax.w32); ref = λ x. x }, (record { pos = 2; ty = Syntax.tyRef (Syntax.named 1) Syntax.imm (Syntax.tyInt Syntax.w32); ref = λ x. x }, (record { pos = 3; ty = Syntax.tyRef (Syntax.named 2) Syntax.imm (Syntax.tyInt Syntax.w32); ref = λ x. x }, (record { pos = 4; ty = Syntax.tyRef (Syntax.named 3) Syntax.imm (Syntax.tyInt Syntax.w32); ref = λ x. x }, (record { pos = 17; ty = Syntax.tyRef Syntax.erased Syntax.mut (Syntax.tyInt Syntax.w32); ref = λ x. x }, (record { pos = 19; ty = Syntax.tyRef Syntax.erased Syntax.mut (Syntax.tyInt Syntax.w32); ref = λ x. x }, (record { pos = 7; st = List.[]; d = 0; at = λ x. x }, (record { pos = 20; ty = Syntax.tyRef Syntax.erased Syntax.mut RunRecordTy.behind; ref = λ x. x }, tt)))))))) (m33 record { before = record { before = record { before = c .before; if2 = c .if2 }; refine-arg = record { given = g } }; refine-arg2 = record { given = g' } } g'') g'3 })))
 
         lay9 : (c : Else2) → at21 (W2 (c .before .before) (After-number-of·gave (c .before))) (m23 (c .before .before) (After-number-of·gave (c .before)))
         lay9 = λ c. lay10 record { before = c .before; if2 = c .if2 }
@@ -1870,6 +1870,6 @@ module _ (claims· : Claims) where
           pub asked : (a : Kinds.Dens κs ps) → (good : Kinds.GoodsP κs ps a) → (pre : Pre· κs a) → (bs : List.List Nat.ℕ) → Φ (Any.wantQ 7 ps r xs m κs qs a (Post· κs a)) (Function.init 7 ps r xs m κs qs a)
           asked = λ a good pre bs. laid record { κs = κs; args = record { starts = a .0; neighbours = a .1 .0; arc-weights = a .1 .1 .0; weights = a .1 .1 .1 .0; labels = a .1 .1 .1 .1 .0; stack = a .1 .1 .1 .1 .1 .0; settings = a .1 .1 .1 .1 .1 .1 .0; run = a .1 .1 .1 .1 .1 .1 .1 .0 }; good = good; pre = pre }
 
-        module _ {M : Type 1} (𝓤 : URA.URA M) (H : Wp.Heap 𝓤) (A : Atoms.Atoms 𝓤) (W : Kit.Given 𝓤 H A) (𝓣 : Wp.Tables 𝓤 H) (known0 : Plain.Known 𝓤 H A W 𝓣 1 ps·0 r·0 (claims· .0) (claims· .1) "arc_swap::zero_run") (known1 : Plain.Known 𝓤 H A W 𝓣 0 ps·1 r·1 (claims· .2) (claims· .3) "arc_swap::answers::bare_report") (known2 : Plain.Known 𝓤 H A W 𝓣 5 ps·2 r·2 (claims· .4) (claims· .5) "arc_swap::number::number_of") (known3 : Plain.Known 𝓤 H A W 𝓣 7 ps·3 r·3 (claims· .6) (claims· .7) "arc_swap::swap_all") where
+        module _ {M : Type 1} (𝓤 : URA.URA M) (H : Wp.Heap 𝓤) (A : Atoms.Atoms 𝓤) (W : Kit.Given 𝓤 H A) (𝓣 : Wp.Tables 𝓤 H) (known0 : Plain.Known 𝓤 H A W 𝓣 1 ps·0 r·0 (claims· .0) (claims· .1) "arc_swap::zero_run") (known1 : Plain.Known 𝓤 H A W 𝓣 0 ps·1 r·1 (claims· .2) (claims· .3) "arc_swap::answers::bare_report") (known2 : Plain.Known 𝓤 H A W 𝓣 5 ps·2 r·2 (claims· .4) (claims· .5) "arc_swap::number::number_of") (known3 : Plain.Known 𝓤 H A W 𝓣 7 ps·3 r·3 (claims· .6) (claims· .7) "arc_swap::refine") where
           pub spec : Statement.Triple 𝓤 (Wp.WpFn 𝓤 H (𝓣 .C) (𝓣 .Λ) (Function.fnOf 7 ps r xs m hs body)) (Function.plainOf 𝓤 H A 7 ps r Pre· Post·)
           spec = Plain.t-fn-plain 𝓤 H A W 𝓣 7 ps r xs m hs body (λ κs qs bs. Φ) (λ κs qs bs bd. typed κs qs 𝓤 H A W 𝓣 (known0, known1, known2, known3) bs bd) Pre· Post· asked

@@ -2,7 +2,7 @@
 use Prim.Native.Nat.{_<_, _-_}
 use native.Mathlib.Omega.{arith}
 use Rattle.topology.specs.Graph.{inRows}
-use Rattle.arc_swap_attempt.proofs.Rowsums.{Passed, begins, room, turn, ended}
+use Rattle.arc_swap_attempt.proofs.Rowsums.{Passed, begins, places, turn, ended}
 use borrow.Author.Needs.{needs}
 use Rattle.arc_swap_attempt.proofs.gains.sums_of.Statement.{statement}
 use Rattle.arc_swap_attempt.proofs.gains.sums_of.Tie as tie
@@ -81,7 +81,7 @@ add-at : tie.Need-add-at Inv-loop μ-loop
 add-at c =
     let entered : tie.At-loop Inv-loop μ-loop = search needs in
     let l = entered .loop in
-    omega (arith, room (l .inv) _ (named (c .before .before)), c .wide .ensures, c .before .shared-slice-known9 .given (l .e))
+    omega (arith, places (l .inv) _ (named (c .before .before)), c .wide .ensures, c .before .shared-slice-known9 .given (l .e))
 
 mul-at-2 : tie.Need-mul-at-2 Inv-loop μ-loop
 mul-at-2 c = omega (arith, named (c .before .before))

@@ -38,7 +38,7 @@ slice-write-labels c = search needs
 push-neighbours-requires : tie.Need-push-neighbours-requires
 push-neighbours-requires c κs =
     let given : tie.Start = search needs in
-    (named-move _ _ _ _ _ (given .pre .ok) (given .pre .here) (given .pre .target), (simp length-set (given .pre .here)), given .pre .room)
+    (named-move _ _ _ _ _ (given .pre .ok) (given .pre .here) (given .pre .target), (simp length-set (given .pre .here)), given .pre .places)
 
 -- src/moves.rt:86:14
 sub-t27 : tie.Need-sub-t27

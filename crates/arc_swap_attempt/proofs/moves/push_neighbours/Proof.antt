@@ -10,10 +10,10 @@ use Rattle.arc_swap_attempt.proofs.moves.push_neighbours.Statement.{sta
 use Rattle.arc_swap_attempt.proofs.moves.push_neighbours.Tie as tie
 
 abbrev Inv-loop : tie.InvT-loop
-Inv-loop starts neighbours arc-weights labels stack₀ parts held v end e₀ top₀ stack e top = Pushing (inRows starts neighbours arc-weights) parts labels v stack₀ held end e stack top
+Inv-loop starts neighbours arc-weights labels stack₀ parts used v end e₀ top₀ stack e top = Pushing (inRows starts neighbours arc-weights) parts labels v stack₀ used end e stack top
 
 abbrev μ-loop : tie.MeasureT-loop
-μ-loop starts neighbours arc-weights labels stack₀ parts held v end e₀ top₀ stack e top = end - e
+μ-loop starts neighbours arc-weights labels stack₀ parts used v end e₀ top₀ stack e top = end - e
 
 add-index : tie.Need-add-index Inv-loop μ-loop
 add-index c = search needs
@@ -50,8 +50,8 @@ shared-slice-read-u c = search needs
 index-requires-3 : tie.Need-index-requires-3 Inv-loop μ-loop
 index-requires-3 c κs = search needs
 
-glad-requires : tie.Need-glad-requires Inv-loop μ-loop
-glad-requires c κs =
+has-gain-requires : tie.Need-has-gain-requires Inv-loop μ-loop
+has-gain-requires c κs =
     let given : tie.Start Inv-loop μ-loop = search needs in
     (given .pre .0, search needs)
 
@@ -64,7 +64,7 @@ returns c =
     let turn : tie.In-loop Inv-loop μ-loop = search needs in
     let given : tie.Start Inv-loop μ-loop = search needs in
     no-room _ _ _ _ _ _ (given .pre .2) _ _ _ _ (turn .before .loop .inv) (turn .loop-test .taken) _ refl _
-    (rw (after-index3 .index3 .ensures) at (c .before .before .glad .ensures)) (c .before .if1 .taken)
+    (rw (after-index3 .index3 .ensures) at (c .before .before .has-gain .ensures)) (c .before .if1 .taken)
     (c .if2 .taken ∙ turn .before .loop .inv .long)
 
 mul-stack : tie.Need-mul-stack Inv-loop μ-loop
@@ -88,7 +88,7 @@ loop-again c =
     let given : tie.Start Inv-loop μ-loop = search needs in
     let i = turn .before .loop .inv in
     let t = turn .loop-test .taken in
-    let g = rw (c .before .before .index3 .ensures) at (c .before .glad .ensures) in
+    let g = rw (c .before .before .index3 .ensures) at (c .before .has-gain .ensures) in
     let n = given .pre .2 in
     ⊎-elim
     (λ w. rw (w .2, w .3) (pushes-one _ _ _ _ _ _ n _ _ _ _ i t _ refl _ g (w .0 .taken) (omega (arith, w .1 .left, i .within, i .long))))
@@ -120,7 +120,7 @@ push-neighbours-spec =
     mul-u
     shared-slice-read-u
     index-requires-3
-    glad-requires
+    has-gain-requires
     same-length
     returns
     mul-stack

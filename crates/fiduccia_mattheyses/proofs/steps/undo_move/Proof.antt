@@ -18,7 +18,7 @@ sub-moved-loads : tie.Need-sub-moved-loads
 sub-moved-loads c =
     let placed : tie.After-index = search needs in
     let given : tie.Start = search needs in
-    rw (placed .index .ensures) (omega (arith, given .pre .two))
+    rw (placed .index .ensures) (omega (arith, given .pre .two-labels))
 
 mul-moved-loads : tie.Need-mul-moved-loads
 mul-moved-loads c = search needs
@@ -30,8 +30,8 @@ moved-loads-requires : tie.Need-moved-loads-requires
 moved-loads-requires c κs =
     let placed : tie.After-index = search needs in
     let given : tie.Start = search needs in
-    let two = given .pre .two in
-    rw (placed .index .ensures) (omega arith, omega arith, given .pre .sixteen, given .pre .held, rw (given .pre .before) at (given .pre .within))
+    let two-labels = given .pre .two-labels in
+    rw (placed .index .ensures) (omega arith, omega arith, given .pre .sixteen, given .pre .weight-within, rw (given .pre .before) at (given .pre .within))
 
 mul-labels : tie.Need-mul-labels
 mul-labels c = search needs

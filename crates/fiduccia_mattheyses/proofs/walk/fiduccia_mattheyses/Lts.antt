@@ -1,10 +1,10 @@
 -- Made by tools/walkgen.py: do not edit.
 use Rattle.fiduccia_mattheyses.proofs.walk.MoveTy
 use Prim.Native.Nat
+use Rattle.fiduccia_mattheyses.proofs.Lengths
+use Rattle.fiduccia_mattheyses.proofs.Lengths.Laws
 use Rattle.fiduccia_mattheyses.proofs.Report
-use Rattle.fiduccia_mattheyses.proofs.Report.Laws
-use Rattle.fiduccia_mattheyses.proofs.Room
-use Rattle.fiduccia_mattheyses.proofs.Room.Laws as Laws'
+use Rattle.fiduccia_mattheyses.proofs.Report.Laws as Laws'
 use Rattle.fiduccia_mattheyses.proofs.Settings
 use Rattle.fiduccia_mattheyses.proofs.Settings.Laws as Laws''
 use borrow.Author.Called
@@ -58,7 +58,7 @@ use prog.Wp
 use types.Kit
 
 abbrev pub type·0 : Syntax.Ty
-type·0 = Syntax.tyStruct (List._∷_ 102 (List._∷_ 105 (List._∷_ 100 (List._∷_ 117 (List._∷_ 99 (List._∷_ 99 (List._∷_ 105 (List._∷_ 97 (List._∷_ 95 (List._∷_ 109 (List._∷_ 97 (List._∷_ 116 (List._∷_ 116 (List._∷_ 104 (List._∷_ 101 (List._∷_ 121 (List._∷_ 115 (List._∷_ 101 (List._∷_ 115 (List._∷_ 58 (List._∷_ 58 (List._∷_ 82 (List._∷_ 111 (List._∷_ 111 (List._∷_ 109 List.[]))))))))))))))))))))))))) (Syntax.tcons (Syntax.tyInt Syntax.w64) (Syntax.tcons (Syntax.tyInt Syntax.w64) (Syntax.tcons (Syntax.tyInt Syntax.w64) (Syntax.tcons (Syntax.tyInt Syntax.w64) Syntax.tnil))))
+type·0 = Syntax.tyStruct (List._∷_ 102 (List._∷_ 105 (List._∷_ 100 (List._∷_ 117 (List._∷_ 99 (List._∷_ 99 (List._∷_ 105 (List._∷_ 97 (List._∷_ 95 (List._∷_ 109 (List._∷_ 97 (List._∷_ 116 (List._∷_ 116 (List._∷_ 104 (List._∷_ 101 (List._∷_ 121 (List._∷_ 115 (List._∷_ 101 (List._∷_ 115 (List._∷_ 58 (List._∷_ 58 (List._∷_ 76 (List._∷_ 101 (List._∷_ 110 (List._∷_ 103 (List._∷_ 116 (List._∷_ 104 (List._∷_ 115 List.[])))))))))))))))))))))))))))) (Syntax.tcons (Syntax.tyInt Syntax.w64) (Syntax.tcons (Syntax.tyInt Syntax.w64) (Syntax.tcons (Syntax.tyInt Syntax.w64) (Syntax.tcons (Syntax.tyInt Syntax.w64) Syntax.tnil))))
 
 abbrev pub type·1 : Syntax.Ty
 type·1 = Syntax.tyRef Syntax.erased Syntax.imm (Syntax.tyInt Syntax.w32)
@@ -226,13 +226,13 @@ abbrev pub row·34 : Row.Entry
 row·34 = (15, Rows.sc-here (Row.sInt Syntax.w64))
 
 abbrev pub row·35 : Row.Entry
-row·35 = (11, Rows.whole (Declared.row (Apart.apartT Room.the-type)))
+row·35 = (11, Rows.whole (Declared.row (Apart.apartT Lengths.the-type)))
 
 abbrev pub row·36 : Row.Entry
 row·36 = (5, Reshare.mslice-owedS (Referent.rtF (Referent.fInt Syntax.w32)) type·15 4 9 Row.off)
 
 abbrev pub row·37 : Row.Entry
-row·37 = (11, Rows.whole (Declared.row Room.the-type))
+row·37 = (11, Rows.whole (Declared.row Lengths.the-type))
 
 abbrev pub row·38 : Row.Entry
 row·38 = (12, Rows.sc-here (Row.sInt Syntax.w32))
@@ -280,7 +280,7 @@ abbrev pub ps : List.List (Kinds.PK 9)
 ps = List._∷_ (ShrSlice.pShrS (Referent.rtF (Referent.fInt Syntax.w32)) 0 tt) (List._∷_ (ShrSlice.pShrS (Referent.rtF (Referent.fInt Syntax.w32)) 1 tt) (List._∷_ (ShrSlice.pShrS (Referent.rtF (Referent.fInt Syntax.w32)) 2 tt) (List._∷_ (ShrSlice.pShrS (Referent.rtF (Referent.fInt Syntax.w32)) 3 tt) (List._∷_ (MutSlice.pMutS (Referent.rtF (Referent.fInt Syntax.w32)) 4 tt) (List._∷_ (MutSlice.pMutS (Signed.SInt Syntax.w64) 5 tt) (List._∷_ (MutSlice.pMutS MoveTy.R 6 tt) (List._∷_ (MutSlice.pMutS (Referent.rtF (Referent.fInt Syntax.w32)) 7 tt) (List._∷_ (MutSlice.pMutS (Referent.rtF (Referent.fInt Syntax.w32)) 8 tt) (List._∷_ (Value.pVal record { ty = Declared.row Settings.the-type; one = Path'.refl; val = Laws'3.val Settings.the-type Laws''.the-laws; tells = Laws'3.tells Settings.the-type Laws''.the-laws; still = Laws'3.still Settings.the-type Laws''.the-copy Exit.yes; row = Rows.whole (Declared.row Settings.the-type); rd = λ x. x; mk = λ x. x } λ M 𝓤 H A W. record { copies = Laws'3.copy Settings.the-type Laws''.the-copy 𝓤 H A W; lawful = Laws'3.lawful Settings.the-type Laws''.the-laws 𝓤 H A W; makes = Laws'3.makes Settings.the-type Laws''.the-plain 𝓤 H A; in-mem = Local.mem-whole 𝓤 H A W (Declared.row Settings.the-type); of-mem = Local.whole-mem 𝓤 H A W (Declared.row Settings.the-type) }) List.[])))))))))
 
 abbrev pub r : Kinds.RK 9
-r = Value.rVal record { ty = Declared.row Report.the-type; one = Path'.refl; val = Laws'3.val Report.the-type Laws.the-laws; tells = Laws'3.tells Report.the-type Laws.the-laws; still = Laws'3.still Report.the-type Laws.the-copy Exit.yes; row = Rows.whole (Declared.row Report.the-type); rd = λ x. x; mk = λ x. x } λ M 𝓤 H A W. record { copies = Laws'3.copy Report.the-type Laws.the-copy 𝓤 H A W; lawful = Laws'3.lawful Report.the-type Laws.the-laws 𝓤 H A W; makes = Laws'3.makes Report.the-type Laws.the-plain 𝓤 H A; in-mem = Local.mem-whole 𝓤 H A W (Declared.row Report.the-type); of-mem = Local.whole-mem 𝓤 H A W (Declared.row Report.the-type) }
+r = Value.rVal record { ty = Declared.row Report.the-type; one = Path'.refl; val = Laws'3.val Report.the-type Laws'.the-laws; tells = Laws'3.tells Report.the-type Laws'.the-laws; still = Laws'3.still Report.the-type Laws'.the-copy Exit.yes; row = Rows.whole (Declared.row Report.the-type); rd = λ x. x; mk = λ x. x } λ M 𝓤 H A W. record { copies = Laws'3.copy Report.the-type Laws'.the-copy 𝓤 H A W; lawful = Laws'3.lawful Report.the-type Laws'.the-laws 𝓤 H A W; makes = Laws'3.makes Report.the-type Laws'.the-plain 𝓤 H A; in-mem = Local.mem-whole 𝓤 H A W (Declared.row Report.the-type); of-mem = Local.whole-mem 𝓤 H A W (Declared.row Report.the-type) }
 
 abbrev pub xs : List.List Syntax.Ty
 xs = List._∷_ type·0 (List._∷_ (Syntax.tyInt Syntax.w32) (List._∷_ (Syntax.tyInt Syntax.w64) (List._∷_ (Syntax.tyInt Syntax.w64) (List._∷_ (Syntax.tyInt Syntax.w64) (List._∷_ (Syntax.tyInt Syntax.w64) (List._∷_ type·1 (List._∷_ type·2 (List._∷_ Syntax.tyBool (List._∷_ type·3 (List._∷_ type·4 (List._∷_ type·5 (List._∷_ type·6 (List._∷_ type·7 (List._∷_ type·8 (List._∷_ type·3 (List._∷_ type·4 (List._∷_ type·3 (List._∷_ type·4 List.[]))))))))))))))))))
@@ -289,7 +289,7 @@ abbrev pub m : Nat.ℕ
 m = 6
 
 abbrev pub ps·0 : List.List (Kinds.PK 5)
-ps·0 = List._∷_ (ShrSlice.pShrS (Referent.rtF (Referent.fInt Syntax.w32)) 0 tt) (List._∷_ (ShrSlice.pShrS (Referent.rtF (Referent.fInt Syntax.w32)) 1 tt) (List._∷_ (ShrSlice.pShrS (Referent.rtF (Referent.fInt Syntax.w32)) 2 tt) (List._∷_ (ShrSlice.pShrS (Referent.rtF (Referent.fInt Syntax.w32)) 3 tt) (List._∷_ (ShrSlice.pShrS (Referent.rtF (Referent.fInt Syntax.w32)) 4 tt) (List._∷_ (Value.pVal record { ty = Declared.row Room.the-type; one = Path'.refl; val = Laws'3.val Room.the-type Laws'.the-laws; tells = Laws'3.tells Room.the-type Laws'.the-laws; still = Laws'3.still Room.the-type Laws'.the-copy Exit.yes; row = Rows.whole (Declared.row Room.the-type); rd = λ x. x; mk = λ x. x } λ M 𝓤 H A W. record { copies = Laws'3.copy Room.the-type Laws'.the-copy 𝓤 H A W; lawful = Laws'3.lawful Room.the-type Laws'.the-laws 𝓤 H A W; makes = Laws'3.makes Room.the-type Laws'.the-plain 𝓤 H A; in-mem = Local.mem-whole 𝓤 H A W (Declared.row Room.the-type); of-mem = Local.whole-mem 𝓤 H A W (Declared.row Room.the-type) }) (List._∷_ (Value.pVal record { ty = Declared.row Settings.the-type; one = Path'.refl; val = Laws'3.val Settings.the-type Laws''.the-laws; tells = Laws'3.tells Settings.the-type Laws''.the-laws; still = Laws'3.still Settings.the-type Laws''.the-copy Exit.yes; row = Rows.whole (Declared.row Settings.the-type); rd = λ x. x; mk = λ x. x } λ M 𝓤 H A W. record { copies = Laws'3.copy Settings.the-type Laws''.the-copy 𝓤 H A W; lawful = Laws'3.lawful Settings.the-type Laws''.the-laws 𝓤 H A W; makes = Laws'3.makes Settings.the-type Laws''.the-plain 𝓤 H A; in-mem = Local.mem-whole 𝓤 H A W (Declared.row Settings.the-type); of-mem = Local.whole-mem 𝓤 H A W (Declared.row Settings.the-type) }) List.[]))))))
+ps·0 = List._∷_ (ShrSlice.pShrS (Referent.rtF (Referent.fInt Syntax.w32)) 0 tt) (List._∷_ (ShrSlice.pShrS (Referent.rtF (Referent.fInt Syntax.w32)) 1 tt) (List._∷_ (ShrSlice.pShrS (Referent.rtF (Referent.fInt Syntax.w32)) 2 tt) (List._∷_ (ShrSlice.pShrS (Referent.rtF (Referent.fInt Syntax.w32)) 3 tt) (List._∷_ (ShrSlice.pShrS (Referent.rtF (Referent.fInt Syntax.w32)) 4 tt) (List._∷_ (Value.pVal record { ty = Declared.row Lengths.the-type; one = Path'.refl; val = Laws'3.val Lengths.the-type Laws.the-laws; tells = Laws'3.tells Lengths.the-type Laws.the-laws; still = Laws'3.still Lengths.the-type Laws.the-copy Exit.yes; row = Rows.whole (Declared.row Lengths.the-type); rd = λ x. x; mk = λ x. x } λ M 𝓤 H A W. record { copies = Laws'3.copy Lengths.the-type Laws.the-copy 𝓤 H A W; lawful = Laws'3.lawful Lengths.the-type Laws.the-laws 𝓤 H A W; makes = Laws'3.makes Lengths.the-type Laws.the-plain 𝓤 H A; in-mem = Local.mem-whole 𝓤 H A W (Declared.row Lengths.the-type); of-mem = Local.whole-mem 𝓤 H A W (Declared.row Lengths.the-type) }) (List._∷_ (Value.pVal record { ty = Declared.row Settings.the-type; one = Path'.refl; val = Laws'3.val Settings.the-type Laws''.the-laws; tells = Laws'3.tells Settings.the-type Laws''.the-laws; still = Laws'3.still Settings.the-type Laws''.the-copy Exit.yes; row = Rows.whole (Declared.row Settings.the-type); rd = λ x. x; mk = λ x. x } λ M 𝓤 H A W. record { copies = Laws'3.copy Settings.the-type Laws''.the-copy 𝓤 H A W; lawful = Laws'3.lawful Settings.the-type Laws''.the-laws 𝓤 H A W; makes = Laws'3.makes Settings.the-type Laws''.the-plain 𝓤 H A; in-mem = Local.mem-whole 𝓤 H A W (Declared.row Settings.the-type); of-mem = Local.whole-mem 𝓤 H A W (Declared.row Settings.the-type) }) List.[]))))))
 
 abbrev pub r·0 : Kinds.RK 5
 r·0 = Num.rNum Syntax.w32
@@ -298,13 +298,13 @@ abbrev pub ps·1 : List.List (Kinds.PK 0)
 ps·1 = List._∷_ (Num.pNum Syntax.w32) (List._∷_ (Num.pNum Syntax.w32) List.[])
 
 abbrev pub r·1 : Kinds.RK 0
-r·1 = Value.rVal record { ty = Declared.row Report.the-type; one = Path'.refl; val = Laws'3.val Report.the-type Laws.the-laws; tells = Laws'3.tells Report.the-type Laws.the-laws; still = Laws'3.still Report.the-type Laws.the-copy Exit.yes; row = Rows.whole (Declared.row Report.the-type); rd = λ x. x; mk = λ x. x } λ M 𝓤 H A W. record { copies = Laws'3.copy Report.the-type Laws.the-copy 𝓤 H A W; lawful = Laws'3.lawful Report.the-type Laws.the-laws 𝓤 H A W; makes = Laws'3.makes Report.the-type Laws.the-plain 𝓤 H A; in-mem = Local.mem-whole 𝓤 H A W (Declared.row Report.the-type); of-mem = Local.whole-mem 𝓤 H A W (Declared.row Report.the-type) }
+r·1 = Value.rVal record { ty = Declared.row Report.the-type; one = Path'.refl; val = Laws'3.val Report.the-type Laws'.the-laws; tells = Laws'3.tells Report.the-type Laws'.the-laws; still = Laws'3.still Report.the-type Laws'.the-copy Exit.yes; row = Rows.whole (Declared.row Report.the-type); rd = λ x. x; mk = λ x. x } λ M 𝓤 H A W. record { copies = Laws'3.copy Report.the-type Laws'.the-copy 𝓤 H A W; lawful = Laws'3.lawful Report.the-type Laws'.the-laws 𝓤 H A W; makes = Laws'3.makes Report.the-type Laws'.the-plain 𝓤 H A; in-mem = Local.mem-whole 𝓤 H A W (Declared.row Report.the-type); of-mem = Local.whole-mem 𝓤 H A W (Declared.row Report.the-type) }
 
 abbrev pub ps·2 : List.List (Kinds.PK 9)
 ps·2 = List._∷_ (ShrSlice.pShrS (Referent.rtF (Referent.fInt Syntax.w32)) 0 tt) (List._∷_ (ShrSlice.pShrS (Referent.rtF (Referent.fInt Syntax.w32)) 1 tt) (List._∷_ (ShrSlice.pShrS (Referent.rtF (Referent.fInt Syntax.w32)) 2 tt) (List._∷_ (ShrSlice.pShrS (Referent.rtF (Referent.fInt Syntax.w32)) 3 tt) (List._∷_ (MutSlice.pMutS (Referent.rtF (Referent.fInt Syntax.w32)) 4 tt) (List._∷_ (MutSlice.pMutS (Signed.SInt Syntax.w64) 5 tt) (List._∷_ (MutSlice.pMutS MoveTy.R 6 tt) (List._∷_ (MutSlice.pMutS (Referent.rtF (Referent.fInt Syntax.w32)) 7 tt) (List._∷_ (MutSlice.pMutS (Referent.rtF (Referent.fInt Syntax.w32)) 8 tt) (List._∷_ (Value.pVal record { ty = Declared.row Settings.the-type; one = Path'.refl; val = Laws'3.val Settings.the-type Laws''.the-laws; tells = Laws'3.tells Settings.the-type Laws''.the-laws; still = Laws'3.still Settings.the-type Laws''.the-copy Exit.yes; row = Rows.whole (Declared.row Settings.the-type); rd = λ x. x; mk = λ x. x } λ M 𝓤 H A W. record { copies = Laws'3.copy Settings.the-type Laws''.the-copy 𝓤 H A W; lawful = Laws'3.lawful Settings.the-type Laws''.the-laws 𝓤 H A W; makes = Laws'3.makes Settings.the-type Laws''.the-plain 𝓤 H A; in-mem = Local.mem-whole 𝓤 H A W (Declared.row Settings.the-type); of-mem = Local.whole-mem 𝓤 H A W (Declared.row Settings.the-type) }) List.[])))))))))
 
 abbrev pub r·2 : Kinds.RK 9
-r·2 = Value.rVal record { ty = Declared.row Report.the-type; one = Path'.refl; val = Laws'3.val Report.the-type Laws.the-laws; tells = Laws'3.tells Report.the-type Laws.the-laws; still = Laws'3.still Report.the-type Laws.the-copy Exit.yes; row = Rows.whole (Declared.row Report.the-type); rd = λ x. x; mk = λ x. x } λ M 𝓤 H A W. record { copies = Laws'3.copy Report.the-type Laws.the-copy 𝓤 H A W; lawful = Laws'3.lawful Report.the-type Laws.the-laws 𝓤 H A W; makes = Laws'3.makes Report.the-type Laws.the-plain 𝓤 H A; in-mem = Local.mem-whole 𝓤 H A W (Declared.row Report.the-type); of-mem = Local.whole-mem 𝓤 H A W (Declared.row Report.the-type) }
+r·2 = Value.rVal record { ty = Declared.row Report.the-type; one = Path'.refl; val = Laws'3.val Report.the-type Laws'.the-laws; tells = Laws'3.tells Report.the-type Laws'.the-laws; still = Laws'3.still Report.the-type Laws'.the-copy Exit.yes; row = Rows.whole (Declared.row Report.the-type); rd = λ x. x; mk = λ x. x } λ M 𝓤 H A W. record { copies = Laws'3.copy Report.the-type Laws'.the-copy 𝓤 H A W; lawful = Laws'3.lawful Report.the-type Laws'.the-laws 𝓤 H A W; makes = Laws'3.makes Report.the-type Laws'.the-plain 𝓤 H A; in-mem = Local.mem-whole 𝓤 H A W (Declared.row Report.the-type); of-mem = Local.whole-mem 𝓤 H A W (Declared.row Report.the-type) }
 
 abbrev pub hs : List.List Syntax.Home
 hs = List._∷_ Syntax.valueLocal (List._∷_ Syntax.valueLocal (List._∷_ Syntax.valueLocal (List._∷_ Syntax.valueLocal (List._∷_ Syntax.valueLocal (List._∷_ Syntax.valueLocal (List._∷_ Syntax.valueLocal (List._∷_ Syntax.valueLocal (List._∷_ Syntax.valueLocal (List._∷_ Syntax.valueLocal (List._∷_ Syntax.valueLocal (List._∷_ Syntax.valueLocal (List._∷_ Syntax.valueLocal (List._∷_ Syntax.valueLocal (List._∷_ Syntax.valueLocal (List._∷_ Syntax.valueLocal (List._∷_ Syntax.valueLocal (List._∷_ Syntax.valueLocal (List._∷_ Syntax.valueLocal (List._∷_ Syntax.valueLocal (List._∷_ Syntax.valueLocal (List._∷_ Syntax.valueLocal (List._∷_ Syntax.valueLocal (List._∷_ Syntax.valueLocal (List._∷_ Syntax.valueLocal (List._∷_ Syntax.valueLocal (List._∷_ Syntax.valueLocal (List._∷_ Syntax.valueLocal (List._∷_ Syntax.valueLocal (List._∷_ Syntax.valueLocal List.[])))))))))))))))))))))))))))))
@@ -863,7 +863,7 @@ module _ (claims· : Claims) where
   s10 = Scalar.n-use T11 (Scalar.oFld 9 (List._∷_ (Syntax.field 1) List.[]) (Syntax.tyInt Syntax.w64) 8 Shared.lenV) 16 (Rows.sc-here (Row.sInt Syntax.w64)) (Row.sInt Syntax.w64 .of)
 
   abbrev s11 : Typed.Mo T12 → Typed.Mo T13
-  s11 = Make.n-struct-make (Apart.apartT Room.the-type) T12 11 λ m. (m .1 .1 .1 .1 .1 .1 .1 .1 .1 .1 .1 .1 .1 .0, (m .1 .1 .1 .1 .1 .1 .1 .1 .1 .1 .1 .1 .1 .1 .0, (m .1 .1 .1 .1 .1 .1 .1 .1 .1 .1 .1 .1 .1 .1 .1 .0, (m .1 .1 .1 .1 .1 .1 .1 .1 .1 .1 .1 .1 .1 .1 .1 .1 .0, tt))))
+  s11 = Make.n-struct-make (Apart.apartT Lengths.the-type) T12 11 λ m. (m .1 .1 .1 .1 .1 .1 .1 .1 .1 .1 .1 .1 .1 .0, (m .1 .1 .1 .1 .1 .1 .1 .1 .1 .1 .1 .1 .1 .1 .0, (m .1 .1 .1 .1 .1 .1 .1 .1 .1 .1 .1 .1 .1 .1 .1 .0, (m .1 .1 .1 .1 .1 .1 .1 .1 .1 .1 .1 .1 .1 .1 .1 .1 .0, tt))))
 
   abbrev s12 : Typed.Mo T13 → Typed.Mo T14
   s12 = Scalar.n-room T13 13 (Syntax.tyInt Syntax.w64)
@@ -884,7 +884,7 @@ module _ (claims· : Claims) where
   s18 = Relend.k-sl-aggregate (Referent.rtF (Referent.fInt Syntax.w32)) (Relend.asShr (Referent.rtF (Referent.fInt Syntax.w32))) T19 17 18 9 type·1 type·1 (λ x. x) (Scalar.oFld 5 (List._∷_ (Syntax.field 1) List.[]) (Syntax.tyInt Syntax.w64) 8 λ v. Shared.lenV (v .0))
 
   abbrev s19 : Typed.Mo T20 → Typed.Mo T21
-  s19 = AtSlots.n-as-by T20 11 (Rows.whole (Declared.row Room.the-type)) λ v. Room.struct .make v tt
+  s19 = AtSlots.n-as-by T20 11 (Rows.whole (Declared.row Lengths.the-type)) λ v. Lengths.struct .make v tt
 
   abbrev s20 : Typed.Both T21 T22
   s20 = Call.callB ps·0 r·0 (claims· .0) (claims· .1) T21 (record { pos = 1; ty = Syntax.tyRef (Syntax.named 0) Syntax.imm (Syntax.tyInt Syntax.w32); ref = λ x. x }, (record { pos = 2; ty = Syntax.tyRef (Syntax.named 1) Syntax.imm (Syntax.tyInt Syntax.w32); ref = λ x. x }, (record { pos = 3; ty = Syntax.tyRef (Syntax.named 2) Syntax.imm (Syntax.tyInt Syntax.w32); ref = λ x. x }, (record { pos = 4; ty = Syntax.tyRef (Syntax.named 3) Syntax.imm (Syntax.tyInt Syntax.w32); ref = λ x. x }, (record { pos = 18; ty = Syntax.tyRef Syntax.erased Syntax.imm (Syntax.tyInt Syntax.w32); ref = λ x. x }, (record { pos = 11; st = List.[]; d = 0; at = λ x. x }, (record { pos = 10; st = List.[]; d = 0; at = λ x. x }, tt))))))) 12 (List._∷_ 0 (List._∷_ 1 (List._∷_ 2 (List._∷_ 3 (List._∷_ 9 List.[]))))) (Syntax.tyInt Syntax.w32)
@@ -1790,16 +1790,16 @@ module _ (claims· : Claims) where
           d61 = Typed.g-pre 𝓤 H A W 𝓣 E G24 G25 b48 Δ0 (λ Ψ. Ψ) at60 (Lifetime.g-end 𝓤 H A W E G24 9 Path'.refl) d60
 
           d62 : Typed.Typed 𝓤 H A 𝓣 E G23 b48 Δ0 at62
-          d62 = Typed.g-pre 𝓤 H A W 𝓣 E G23 G24 b48 Δ0 (Typed.pass T23 T24 s22) at61 (Scalar.g-room 𝓤 H A W E G23 11 type·0 (Local.room-whole 𝓤 H A W (Declared.row Room.the-type) type·0 Path'.refl)) d61
+          d62 = Typed.g-pre 𝓤 H A W 𝓣 E G23 G24 b48 Δ0 (Typed.pass T23 T24 s22) at61 (Scalar.g-room 𝓤 H A W E G23 11 type·0 (Local.room-whole 𝓤 H A W (Declared.row Lengths.the-type) type·0 Path'.refl)) d61
 
           d63 : Typed.Typed 𝓤 H A 𝓣 E G22 b48 Δ0 at63
           d63 = Typed.g-pre 𝓤 H A W 𝓣 E G22 G23 b48 Δ0 (Typed.pass T22 T23 s21) at62 (Scalar.g-room 𝓤 H A W E G22 18 type·2 (Shared.room-sslice 𝓤 H A W (Referent.rtF (Referent.fInt Syntax.w32)) type·1 9)) d62
 
           d64 : Typed.Typed 𝓤 H A 𝓣 E G21 b49 Δ0 at64
-          d64 = Typed.s-seq 𝓤 H A W 𝓣 E G21 G22 b7 b48 Δ0 (Typed.both s20) at63 (Plain.t-call-plain 𝓤 H A W 𝓣 5 ps·0 r·0 (claims· .0) (claims· .1) "fiduccia_mattheyses::number::call_number" (known .0) E (λ pos β. β) G21 (record { pos = 1; ty = Syntax.tyRef (Syntax.named 0) Syntax.imm (Syntax.tyInt Syntax.w32); ref = λ x. x }, (record { pos = 2; ty = Syntax.tyRef (Syntax.named 1) Syntax.imm (Syntax.tyInt Syntax.w32); ref = λ x. x }, (record { pos = 3; ty = Syntax.tyRef (Syntax.named 2) Syntax.imm (Syntax.tyInt Syntax.w32); ref = λ x. x }, (record { pos = 4; ty = Syntax.tyRef (Syntax.named 3) Syntax.imm (Syntax.tyInt Syntax.w32); ref = λ x. x }, (record { pos = 18; ty = Syntax.tyRef Syntax.erased Syntax.imm (Syntax.tyInt Syntax.w32); ref = λ x. x }, (record { pos = 11; st = List.[]; d = 0; at = λ x. x }, (record { pos = 10; st = List.[]; d = 0; at = λ x. x }, tt))))))) 12 (List._∷_ 0 (List._∷_ 1 (List._∷_ 2 (List._∷_ 3 (List._∷_ 9 List.[]))))) (Call.sub-id 𝓤 H A W (G21 .slots)) (ShrSlice.spares-sslice 𝓤 H A W (Referent.rtF (Referent.fInt Syntax.w32)) type·11 0, Shared.reads-sslice 𝓤 H A W (Referent.rtF (Referent.fInt Syntax.w32)) type·11 0, Path'.refl, (ShrSlice.spares-sslice 𝓤 H A W (Referent.rtF (Referent.fInt Syntax.w32)) type·12 1, Shared.reads-sslice 𝓤 H A W (Referent.rtF (Referent.fInt Syntax.w32)) type·12 1, Path'.refl, (ShrSlice.spares-sslice 𝓤 H A W (Referent.rtF (Referent.fInt Syntax.w32)) type·13 2, Shared.reads-sslice 𝓤 H A W (Referent.rtF (Referent.fInt Syntax.w32)) type·13 2, Path'.refl, (ShrSlice.spares-sslice 𝓤 H A W (Referent.rtF (Referent.fInt Syntax.w32)) type·14 3, Shared.reads-sslice 𝓤 H A W (Referent.rtF (Referent.fInt Syntax.w32)) type·14 3, Path'.refl, (ShrSlice.spares-sslice 𝓤 H A W (Referent.rtF (Referent.fInt Syntax.w32)) type·1 9, Shared.reads-sslice 𝓤 H A W (Referent.rtF (Referent.fInt Syntax.w32)) type·1 9, Path'.refl, ((Yields.yields-copy 𝓤 H A W (λ ρ. Unit) (Declared.row Room.the-type) Path'.refl (Copies.cStruct Room.the-type Laws'.the-laws Laws'.the-copy .copy 𝓤 H A W) (Rows.whole (Declared.row Room.the-type)) (λ x. x) (λ x. x) (λ ρ told. Local.mem-whole 𝓤 H A W (Declared.row Room.the-type) ρ) λ ρ told. Local.whole-mem 𝓤 H A W (Declared.row Room.the-type) ρ, Path'.refl), ((Yields.yields-copy 𝓤 H A W (λ ρ. Unit) (Declared.row Settings.the-type) Path'.refl (Copies.cStruct Settings.the-type Laws''.the-laws Laws''.the-copy .copy 𝓤 H A W) (Rows.whole (Declared.row Settings.the-type)) (λ x. x) (λ x. x) (λ ρ told. Local.mem-whole 𝓤 H A W (Declared.row Settings.the-type) ρ) λ ρ told. Local.whole-mem 𝓤 H A W (Declared.row Settings.the-type) ρ, Path'.refl), tt))))))) (Reads.room-gone 𝓤 H A (Syntax.tyInt Syntax.w32)) (tt, (tt, (tt, (tt, (tt, tt))))) Path'.refl) d63
+          d64 = Typed.s-seq 𝓤 H A W 𝓣 E G21 G22 b7 b48 Δ0 (Typed.both s20) at63 (Plain.t-call-plain 𝓤 H A W 𝓣 5 ps·0 r·0 (claims· .0) (claims· .1) "fiduccia_mattheyses::number::call_number" (known .0) E (λ pos β. β) G21 (record { pos = 1; ty = Syntax.tyRef (Syntax.named 0) Syntax.imm (Syntax.tyInt Syntax.w32); ref = λ x. x }, (record { pos = 2; ty = Syntax.tyRef (Syntax.named 1) Syntax.imm (Syntax.tyInt Syntax.w32); ref = λ x. x }, (record { pos = 3; ty = Syntax.tyRef (Syntax.named 2) Syntax.imm (Syntax.tyInt Syntax.w32); ref = λ x. x }, (record { pos = 4; ty = Syntax.tyRef (Syntax.named 3) Syntax.imm (Syntax.tyInt Syntax.w32); ref = λ x. x }, (record { pos = 18; ty = Syntax.tyRef Syntax.erased Syntax.imm (Syntax.tyInt Syntax.w32); ref = λ x. x }, (record { pos = 11; st = List.[]; d = 0; at = λ x. x }, (record { pos = 10; st = List.[]; d = 0; at = λ x. x }, tt))))))) 12 (List._∷_ 0 (List._∷_ 1 (List._∷_ 2 (List._∷_ 3 (List._∷_ 9 List.[]))))) (Call.sub-id 𝓤 H A W (G21 .slots)) (ShrSlice.spares-sslice 𝓤 H A W (Referent.rtF (Referent.fInt Syntax.w32)) type·11 0, Shared.reads-sslice 𝓤 H A W (Referent.rtF (Referent.fInt Syntax.w32)) type·11 0, Path'.refl, (ShrSlice.spares-sslice 𝓤 H A W (Referent.rtF (Referent.fInt Syntax.w32)) type·12 1, Shared.reads-sslice 𝓤 H A W (Referent.rtF (Referent.fInt Syntax.w32)) type·12 1, Path'.refl, (ShrSlice.spares-sslice 𝓤 H A W (Referent.rtF (Referent.fInt Syntax.w32)) type·13 2, Shared.reads-sslice 𝓤 H A W (Referent.rtF (Referent.fInt Syntax.w32)) type·13 2, Path'.refl, (ShrSlice.spares-sslice 𝓤 H A W (Referent.rtF (Referent.fInt Syntax.w32)) type·14 3, Shared.reads-sslice 𝓤 H A W (Referent.rtF (Referent.fInt Syntax.w32)) type·14 3, Path'.refl, (ShrSlice.spares-sslice 𝓤 H A W (Referent.rtF (Referent.fInt Syntax.w32)) type·1 9, Shared.reads-sslice 𝓤 H A W (Referent.rtF (Referent.fInt Syntax.w32)) type·1 9, Path'.refl, ((Yields.yields-copy 𝓤 H A W (λ ρ. Unit) (Declared.row Lengths.the-type) Path'.refl (Copies.cStruct Lengths.the-type Laws.the-laws Laws.the-copy .copy 𝓤 H A W) (Rows.whole (Declared.row Lengths.the-type)) (λ x. x) (λ x. x) (λ ρ told. Local.mem-whole 𝓤 H A W (Declared.row Lengths.the-type) ρ) λ ρ told. Local.whole-mem 𝓤 H A W (Declared.row Lengths.the-type) ρ, Path'.refl), ((Yields.yields-copy 𝓤 H A W (λ ρ. Unit) (Declared.row Settings.the-type) Path'.refl (Copies.cStruct Settings.the-type Laws''.the-laws Laws''.the-copy .copy 𝓤 H A W) (Rows.whole (Declared.row Settings.the-type)) (λ x. x) (λ x. x) (λ ρ told. Local.mem-whole 𝓤 H A W (Declared.row Settings.the-type) ρ) λ ρ told. Local.whole-mem 𝓤 H A W (Declared.row Settings.the-type) ρ, Path'.refl), tt))))))) (Reads.room-gone 𝓤 H A (Syntax.tyInt Syntax.w32)) (tt, (tt, (tt, (tt, (tt, tt))))) Path'.refl) d63
 
           d65 : Typed.Typed 𝓤 H A 𝓣 E G20 b49 Δ0 at65
-          d65 = Typed.g-pre 𝓤 H A W 𝓣 E G20 G21 b49 Δ0 (Typed.pass T20 T21 s19) at64 (AtSlots.g-as-by 𝓤 H A W E (λ ρ. Unit) G20 11 (Rows.whole (Declared.row Room.the-type)) (λ v. Room.struct .make v tt) (Own.told-none 𝓤 H A (G20 .slots)) λ ρ told v b. Apart.folds 𝓤 H A Room.the-type (Room.struct .Ghost) (Room.struct .make) (λ v g. Path'.refl) ρ v tt b) d64
+          d65 = Typed.g-pre 𝓤 H A W 𝓣 E G20 G21 b49 Δ0 (Typed.pass T20 T21 s19) at64 (AtSlots.g-as-by 𝓤 H A W E (λ ρ. Unit) G20 11 (Rows.whole (Declared.row Lengths.the-type)) (λ v. Lengths.struct .make v tt) (Own.told-none 𝓤 H A (G20 .slots)) λ ρ told v b. Apart.folds 𝓤 H A Lengths.the-type (Lengths.struct .Ghost) (Lengths.struct .make) (λ v g. Path'.refl) ρ v tt b) d64
 
           d66 : Typed.Typed 𝓤 H A 𝓣 E G19 b50 Δ0 at66
           d66 = Typed.s-seq 𝓤 H A W 𝓣 E G19 G20 b6 b49 Δ0 (Typed.ask s18) at65 (Relend.t-sl-aggregate 𝓤 H A W E (Referent.rtF (Referent.fInt Syntax.w32)) 𝓣 (Relend.asShr (Referent.rtF (Referent.fInt Syntax.w32))) G19 17 18 9 type·1 type·1 (λ x. x) (Scalar.oFld 5 (List._∷_ (Syntax.field 1) List.[]) (Syntax.tyInt Syntax.w64) 8 λ v. Shared.lenV (v .0)) (Reads.as-is 𝓤 H A (Relend.ssptr (Referent.rtF (Referent.fInt Syntax.w32)) type·1 9)) (Reads.room-gone 𝓤 H A type·2) (Reshare.reads-owedS-len 𝓤 H A W (Referent.rtF (Referent.fInt Syntax.w32)) type·15 4 9 (Row.lease (κs .1 .1 .1 .1 .0) (qs .1 .1 .1 .1 .0)) 8 Path'.refl, Path'.refl) Path'.refl Path'.refl λ b o k. tt) d65
@@ -1823,7 +1823,7 @@ module _ (claims· : Claims) where
           d72 = Typed.g-pre 𝓤 H A W 𝓣 E G13 G14 b51 Δ0 (Typed.pass T13 T14 s12) at71 (Scalar.g-room 𝓤 H A W E G13 13 (Syntax.tyInt Syntax.w64) (Scalar.room-sc 𝓤 H A W (Row.sInt Syntax.w64))) d71
 
           d73 : Typed.Typed 𝓤 H A 𝓣 E G12 b52 Δ0 at73
-          d73 = Typed.s-seq 𝓤 H A W 𝓣 E G12 G13 b4 b51 Δ0 (Typed.pass T12 T13 s11) at72 (Make.t-struct-make 𝓤 H A W E 𝓣 (Apart.apartT Room.the-type) Laws'.the-laws Laws'.the-plain G12 11 (List._∷_ (Scalar.oAt 13 (Syntax.tyInt Syntax.w64) (Row.valS (Row.sInt Syntax.w64))) (List._∷_ (Scalar.oAt 14 (Syntax.tyInt Syntax.w64) (Row.valS (Row.sInt Syntax.w64))) (List._∷_ (Scalar.oAt 15 (Syntax.tyInt Syntax.w64) (Row.valS (Row.sInt Syntax.w64))) (List._∷_ (Scalar.oAt 16 (Syntax.tyInt Syntax.w64) (Row.valS (Row.sInt Syntax.w64))) List.[])))) (λ m. (m .1 .1 .1 .1 .1 .1 .1 .1 .1 .1 .1 .1 .1 .0, (m .1 .1 .1 .1 .1 .1 .1 .1 .1 .1 .1 .1 .1 .1 .0, (m .1 .1 .1 .1 .1 .1 .1 .1 .1 .1 .1 .1 .1 .1 .1 .0, (m .1 .1 .1 .1 .1 .1 .1 .1 .1 .1 .1 .1 .1 .1 .1 .1 .0, tt))))) (Reads.room-gone 𝓤 H A type·0) ((Scalar.reads-sc 𝓤 H A W (Row.sInt Syntax.w64), Path'.refl), ((Scalar.reads-sc 𝓤 H A W (Row.sInt Syntax.w64), Path'.refl), ((Scalar.reads-sc 𝓤 H A W (Row.sInt Syntax.w64), Path'.refl), ((Scalar.reads-sc 𝓤 H A W (Row.sInt Syntax.w64), Path'.refl), tt)))) Path'.refl (λ u. Path'.refl) λ m. Make.is-wt (Apart.apartT Room.the-type) Laws'.the-laws (Make.u64-wt, (Make.u64-wt, (Make.u64-wt, (Make.u64-wt, tt)))) (m .1 .1 .1 .1 .1 .1 .1 .1 .1 .1 .1 .1 .1 .0, (m .1 .1 .1 .1 .1 .1 .1 .1 .1 .1 .1 .1 .1 .1 .0, (m .1 .1 .1 .1 .1 .1 .1 .1 .1 .1 .1 .1 .1 .1 .1 .0, (m .1 .1 .1 .1 .1 .1 .1 .1 .1 .1 .1 .1 .1 .1 .1 .1 .0, tt))))) d72
+          d73 = Typed.s-seq 𝓤 H A W 𝓣 E G12 G13 b4 b51 Δ0 (Typed.pass T12 T13 s11) at72 (Make.t-struct-make 𝓤 H A W E 𝓣 (Apart.apartT Lengths.the-type) Laws.the-laws Laws.the-plain G12 11 (List._∷_ (Scalar.oAt 13 (Syntax.tyInt Syntax.w64) (Row.valS (Row.sInt Syntax.w64))) (List._∷_ (Scalar.oAt 14 (Syntax.tyInt Syntax.w64) (Row.valS (Row.sInt Syntax.w64))) (List._∷_ (Scalar.oAt 15 (Syntax.tyInt Syntax.w64) (Row.valS (Row.sInt Syntax.w64))) (List._∷_ (Scalar.oAt 16 (Syntax.tyInt Syntax.w64) (Row.valS (Row.sInt Syntax.w64))) List.[])))) (λ m. (m .1 .1 .1 .1 .1 .1 .1 .1 .1 .1 .1 .1 .1 .0, (m .1 .1 .1 .1 .1 .1 .1 .1 .1 .1 .1 .1 .1 .1 .0, (m .1 .1 .1 .1 .1 .1 .1 .1 .1 .1 .1 .1 .1 .1 .1 .0, (m .1 .1 .1 .1 .1 .1 .1 .1 .1 .1 .1 .1 .1 .1 .1 .1 .0, tt))))) (Reads.room-gone 𝓤 H A type·0) ((Scalar.reads-sc 𝓤 H A W (Row.sInt Syntax.w64), Path'.refl), ((Scalar.reads-sc 𝓤 H A W (Row.sInt Syntax.w64), Path'.refl), ((Scalar.reads-sc 𝓤 H A W (Row.sInt Syntax.w64), Path'.refl), ((Scalar.reads-sc 𝓤 H A W (Row.sInt Syntax.w64), Path'.refl), tt)))) Path'.refl (λ u. Path'.refl) λ m. Make.is-wt (Apart.apartT Lengths.the-type) Laws.the-laws (Make.u64-wt, (Make.u64-wt, (Make.u64-wt, (Make.u64-wt, tt)))) (m .1 .1 .1 .1 .1 .1 .1 .1 .1 .1 .1 .1 .1 .0, (m .1 .1 .1 .1 .1 .1 .1 .1 .1 .1 .1 .1 .1 .1 .0, (m .1 .1 .1 .1 .1 .1 .1 .1 .1 .1 .1 .1 .1 .1 .1 .0, (m .1 .1 .1 .1 .1 .1 .1 .1 .1 .1 .1 .1 .1 .1 .1 .1 .0, tt))))) d72
 
           d74 : Typed.Typed 𝓤 H A 𝓣 E G11 b53 Δ0 at74
           d74 = Typed.s-seq 𝓤 H A W 𝓣 E G11 G12 b3 b52 Δ0 (Typed.pass T11 T12 s10) at73 (Scalar.t-use 𝓤 H A W E 𝓣 G11 (Scalar.oFld 9 (List._∷_ (Syntax.field 1) List.[]) (Syntax.tyInt Syntax.w64) 8 Shared.lenV) 16 (Rows.sc-here (Row.sInt Syntax.w64)) (Syntax.tyInt Syntax.w64) (Row.valS (Row.sInt Syntax.w64)) (Row.sInt Syntax.w64 .of) (Mut.reads-mslice-len 𝓤 H A W (Referent.rtF (Referent.fInt Syntax.w32)) type·19 8 8 Path'.refl, Path'.refl) (Reads.room-gone 𝓤 H A (Syntax.tyInt Syntax.w64)) (Scalar.holds-sc 𝓤 H A W (Row.sInt Syntax.w64)) Path'.refl (λ u. Path'.refl) λ u. tt) d73

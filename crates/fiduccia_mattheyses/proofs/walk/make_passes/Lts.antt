@@ -386,7 +386,7 @@ abbrev b12 : Syntax.Body
 b12 = Syntax.assign (Syntax.place 28 List.[]) (Syntax.aggregate (List._∷_ (Syntax.copy (Syntax.place 27 List.[])) (List._∷_ (Syntax.copy (Syntax.place 7 (List._∷_ (Syntax.field 1) List.[]))) List.[])))
 
 abbrev b13 : Syntax.Body
-b13 = Syntax.call "fiduccia_mattheyses::pass" (List._∷_ (Syntax.copy (Syntax.place 1 List.[])) (List._∷_ (Syntax.copy (Syntax.place 2 List.[])) (List._∷_ (Syntax.copy (Syntax.place 3 List.[])) (List._∷_ (Syntax.copy (Syntax.place 4 List.[])) (List._∷_ (Syntax.copy (Syntax.place 24 List.[])) (List._∷_ (Syntax.copy (Syntax.place 26 List.[])) (List._∷_ (Syntax.copy (Syntax.place 28 List.[])) (List._∷_ (Syntax.copy (Syntax.place 14 List.[])) (List._∷_ (Syntax.copy (Syntax.place 15 List.[])) (List._∷_ (Syntax.copy (Syntax.place 12 List.[])) List.[])))))))))) (Syntax.place 17 List.[])
+b13 = Syntax.call "fiduccia_mattheyses::make_pass" (List._∷_ (Syntax.copy (Syntax.place 1 List.[])) (List._∷_ (Syntax.copy (Syntax.place 2 List.[])) (List._∷_ (Syntax.copy (Syntax.place 3 List.[])) (List._∷_ (Syntax.copy (Syntax.place 4 List.[])) (List._∷_ (Syntax.copy (Syntax.place 24 List.[])) (List._∷_ (Syntax.copy (Syntax.place 26 List.[])) (List._∷_ (Syntax.copy (Syntax.place 28 List.[])) (List._∷_ (Syntax.copy (Syntax.place 14 List.[])) (List._∷_ (Syntax.copy (Syntax.place 15 List.[])) (List._∷_ (Syntax.copy (Syntax.place 12 List.[])) List.[])))))))))) (Syntax.place 17 List.[])
 
 abbrev b14 : Syntax.Body
 b14 = Syntax.assign (Syntax.place 18 List.[]) (Syntax.rvOpd (Syntax.copy (Syntax.place 17 (List._∷_ (Syntax.field 0) List.[]))))
@@ -1184,7 +1184,7 @@ module _ (claims· : Claims) where
   module _ (Pre· : (κs : Lifetimes.Lfts 9) → Kinds.Dens κs ps → Type 0) (Post· : (κs : Lifetimes.Lfts 9) → (a : Kinds.Dens κs ps) → Kinds.Plain 9 ps r κs) where
     module _ (M : Type 1) where
       abbrev pub Closed : Type 2
-      Closed = (𝓤 : URA.URA M) (H : Wp.Heap 𝓤) (A : Atoms.Atoms 𝓤) (W : Kit.Given 𝓤 H A) (𝓣 : Wp.Tables 𝓤 H) (known0 : Plain.Known 𝓤 H A W 𝓣 7 ps·0 r·0 (claims· .0) (claims· .1) "fiduccia_mattheyses::pass") (known1 : Plain.Known 𝓤 H A W 𝓣 2 ps·1 r·1 (claims· .2) (claims· .3) "fiduccia_mattheyses::steps::put_row") (known2 : Plain.Known 𝓤 H A W 𝓣 0 ps·2 r·2 (claims· .4) (claims· .5) "fiduccia_mattheyses::steps::course_of") → Statement.Triple 𝓤 (Wp.WpFn 𝓤 H (𝓣 .C) (𝓣 .Λ) (Function.fnOf 9 ps r xs m hs body)) (Function.plainOf 𝓤 H A 9 ps r Pre· Post·)
+      Closed = (𝓤 : URA.URA M) (H : Wp.Heap 𝓤) (A : Atoms.Atoms 𝓤) (W : Kit.Given 𝓤 H A) (𝓣 : Wp.Tables 𝓤 H) (known0 : Plain.Known 𝓤 H A W 𝓣 7 ps·0 r·0 (claims· .0) (claims· .1) "fiduccia_mattheyses::make_pass") (known1 : Plain.Known 𝓤 H A W 𝓣 2 ps·1 r·1 (claims· .2) (claims· .3) "fiduccia_mattheyses::steps::put_row") (known2 : Plain.Known 𝓤 H A W 𝓣 0 ps·2 r·2 (claims· .4) (claims· .5) "fiduccia_mattheyses::steps::course_of") → Statement.Triple 𝓤 (Wp.WpFn 𝓤 H (𝓣 .C) (𝓣 .Λ) (Function.fnOf 9 ps r xs m hs body)) (Function.plainOf 𝓤 H A 9 ps r Pre· Post·)
 
     module _ (Inv·0 : InvT-loop) (μ·0 : MeasureT-loop) where
       abbrev at0 : (bs : List.List Nat.ℕ) → Typed.TF T16 O4
@@ -1486,7 +1486,7 @@ module _ (claims· : Claims) where
 
       module _ {M : Type 1} (𝓤 : URA.URA M) (H : Wp.Heap 𝓤) (A : Atoms.Atoms 𝓤) (W : Kit.Given 𝓤 H A) (𝓣 : Wp.Tables 𝓤 H) where
         abbrev Knowns : Type 1
-        Knowns = Plain.Known 𝓤 H A W 𝓣 7 ps·0 r·0 (claims· .0) (claims· .1) "fiduccia_mattheyses::pass" × Plain.Known 𝓤 H A W 𝓣 2 ps·1 r·1 (claims· .2) (claims· .3) "fiduccia_mattheyses::steps::put_row" × Plain.Known 𝓤 H A W 𝓣 0 ps·2 r·2 (claims· .4) (claims· .5) "fiduccia_mattheyses::steps::course_of"
+        Knowns = Plain.Known 𝓤 H A W 𝓣 7 ps·0 r·0 (claims· .0) (claims· .1) "fiduccia_mattheyses::make_pass" × Plain.Known 𝓤 H A W 𝓣 2 ps·1 r·1 (claims· .2) (claims· .3) "fiduccia_mattheyses::steps::put_row" × Plain.Known 𝓤 H A W 𝓣 0 ps·2 r·2 (claims· .4) (claims· .5) "fiduccia_mattheyses::steps::course_of"
 
       module _ (κs : Lifetimes.Lfts 9) (qs : Lifetimes.Shares 9) where
         abbrev g10 : List.List Row.Entry
@@ -2034,7 +2034,7 @@ module _ (claims· : Claims) where
           d63 = Typed.g-pre 𝓤 H A W 𝓣 E G28 G29 b42 Δ3 (Typed.pass T28 T29 (s25 bs)) (at62 bs) (Scalar.g-room 𝓤 H A W E G28 14 type·0 (Local.room-whole 𝓤 H A W (Declared'.row Loads.the-type) type·0 Path'.refl)) d62
 
           d64 : Typed.Typed 𝓤 H A 𝓣 E G27 b43 Δ3 (at64 bs)
-          d64 = Typed.s-seq 𝓤 H A W 𝓣 E G27 G28 b13 b42 Δ3 (Typed.both (s24 bs)) (at63 bs) (Plain.t-call-plain 𝓤 H A W 𝓣 7 ps·0 r·0 (claims· .0) (claims· .1) "fiduccia_mattheyses::pass" (known .0) E (λ pos β. β) G27 (record { pos = 1; ty = Syntax.tyRef (Syntax.named 0) Syntax.imm (Syntax.tyInt Syntax.w32); ref = λ x. x }, (record { pos = 2; ty = Syntax.tyRef (Syntax.named 1) Syntax.imm (Syntax.tyInt Syntax.w32); ref = λ x. x }, (record { pos = 3; ty = Syntax.tyRef (Syntax.named 2) Syntax.imm (Syntax.tyInt Syntax.w32); ref = λ x. x }, (record { pos = 4; ty = Syntax.tyRef (Syntax.named 3) Syntax.imm (Syntax.tyInt Syntax.w32); ref = λ x. x }, (record { pos = 24; ty = Syntax.tyRef Syntax.erased Syntax.mut (Syntax.tyInt Syntax.w32); ref = λ x. x }, (record { pos = 26; ty = Syntax.tyRef Syntax.erased Syntax.mut (Syntax.tyInt Syntax.w64); ref = λ x. x }, (record { pos = 28; ty = Syntax.tyRef Syntax.erased Syntax.mut MoveTy.behind; ref = λ x. x }, (record { pos = 14; st = List.[]; d = 0; at = λ x. x }, (Num.vAt 15 λ x. x, (record { pos = 12; st = List.[]; d = 0; at = λ x. x }, tt)))))))))) 17 (List._∷_ 0 (List._∷_ 1 (List._∷_ 2 (List._∷_ 3 (List._∷_ 9 (List._∷_ 10 (List._∷_ 11 List.[]))))))) (Call.sub-id 𝓤 H A W (G27 .slots)) (ShrSlice.spares-sslice 𝓤 H A W (Referent.rtF (Referent.fInt Syntax.w32)) type·10 0, Shared.reads-sslice 𝓤 H A W (Referent.rtF (Referent.fInt Syntax.w32)) type·10 0, Path'.refl, (ShrSlice.spares-sslice 𝓤 H A W (Referent.rtF (Referent.fInt Syntax.w32)) type·11 1, Shared.reads-sslice 𝓤 H A W (Referent.rtF (Referent.fInt Syntax.w32)) type·11 1, Path'.refl, (ShrSlice.spares-sslice 𝓤 H A W (Referent.rtF (Referent.fInt Syntax.w32)) type·12 2, Shared.reads-sslice 𝓤 H A W (Referent.rtF (Referent.fInt Syntax.w32)) type·12 2, Path'.refl, (ShrSlice.spares-sslice 𝓤 H A W (Referent.rtF (Referent.fInt Syntax.w32)) type·13 3, Shared.reads-sslice 𝓤 H A W (Referent.rtF (Referent.fInt Syntax.w32)) type·13 3, Path'.refl, (Reads'.as-is 𝓤 H A (Mut.mslice (Referent.rtF (Referent.fInt Syntax.w32)) type·2 9), Mut.reads-mslice 𝓤 H A W (Referent.rtF (Referent.fInt Syntax.w32)) type·2 9, Path'.refl, (Reads'.as-is 𝓤 H A (Mut.mslice (Signed'.SInt Syntax.w64) type·4 10), Mut.reads-mslice 𝓤 H A W (Signed'.SInt Syntax.w64) type·4 10, Path'.refl, (Reads'.as-is 𝓤 H A (Mut.mslice MoveTy.R type·6 11), Mut.reads-mslice 𝓤 H A W MoveTy.R type·6 11, Path'.refl, ((Yields.yields-copy 𝓤 H A W (λ ρ. Unit) (Declared'.row Loads.the-type) Path'.refl (Copies.cStruct Loads.the-type Laws'4.the-laws Laws'4.the-copy .copy 𝓤 H A W) (Rows.whole (Declared'.row Loads.the-type)) (λ x. x) (λ x. x) (λ ρ told. Local.mem-whole 𝓤 H A W (Declared'.row Loads.the-type) ρ) λ ρ told. Local.whole-mem 𝓤 H A W (Declared'.row Loads.the-type) ρ, Path'.refl), ((Scalar.reads-sc 𝓤 H A W (Row.sInt Syntax.w64), Path'.refl), ((Yields.yields-copy 𝓤 H A W (λ ρ. Unit) (Declared'.row Limits.the-type) Path'.refl (Copies.cStruct Limits.the-type Laws.the-laws Laws.the-copy .copy 𝓤 H A W) (Rows.whole (Declared'.row Limits.the-type)) (λ x. x) (λ x. x) (λ ρ told. Local.mem-whole 𝓤 H A W (Declared'.row Limits.the-type) ρ) λ ρ told. Local.whole-mem 𝓤 H A W (Declared'.row Limits.the-type) ρ, Path'.refl), tt)))))))))) (Reads'.room-gone 𝓤 H A type·1) (tt, (tt, (tt, (tt, (tt, (tt, (tt, tt))))))) Path'.refl) d63
+          d64 = Typed.s-seq 𝓤 H A W 𝓣 E G27 G28 b13 b42 Δ3 (Typed.both (s24 bs)) (at63 bs) (Plain.t-call-plain 𝓤 H A W 𝓣 7 ps·0 r·0 (claims· .0) (claims· .1) "fiduccia_mattheyses::make_pass" (known .0) E (λ pos β. β) G27 (record { pos = 1; ty = Syntax.tyRef (Syntax.named 0) Syntax.imm (Syntax.tyInt Syntax.w32); ref = λ x. x }, (record { pos = 2; ty = Syntax.tyRef (Syntax.named 1) Syntax.imm (Syntax.tyInt Syntax.w32); ref = λ x. x }, (record { pos = 3; ty = Syntax.tyRef (Syntax.named 2) Syntax.imm (Syntax.tyInt Syntax.w32); ref = λ x. x }, (record { pos = 4; ty = Syntax.tyRef (Syntax.named 3) Syntax.imm (Syntax.tyInt Syntax.w32); ref = λ x. x }, (record { pos = 24; ty = Syntax.tyRef Syntax.erased Syntax.mut (Syntax.tyInt Syntax.w32); ref = λ x. x }, (record { pos = 26; ty = Syntax.tyRef Syntax.erased Syntax.mut (Syntax.tyInt Syntax.w64); ref = λ x. x }, (record { pos = 28; ty = Syntax.tyRef Syntax.erased Syntax.mut MoveTy.behind; ref = λ x. x }, (record { pos = 14; st = List.[]; d = 0; at = λ x. x }, (Num.vAt 15 λ x. x, (record { pos = 12; st = List.[]; d = 0; at = λ x. x }, tt)))))))))) 17 (List._∷_ 0 (List._∷_ 1 (List._∷_ 2 (List._∷_ 3 (List._∷_ 9 (List._∷_ 10 (List._∷_ 11 List.[]))))))) (Call.sub-id 𝓤 H A W (G27 .slots)) (ShrSlice.spares-sslice 𝓤 H A W (Referent.rtF (Referent.fInt Syntax.w32)) type·10 0, Shared.reads-sslice 𝓤 H A W (Referent.rtF (Referent.fInt Syntax.w32)) type·10 0, Path'.refl, (ShrSlice.spares-sslice 𝓤 H A W (Referent.rtF (Referent.fInt Syntax.w32)) type·11 1, Shared.reads-sslice 𝓤 H A W (Referent.rtF (Referent.fInt Syntax.w32)) type·11 1, Path'.refl, (ShrSlice.spares-sslice 𝓤 H A W (Referent.rtF (Referent.fInt Syntax.w32)) type·12 2, Shared.reads-sslice 𝓤 H A W (Referent.rtF (Referent.fInt Syntax.w32)) type·12 2, Path'.refl, (ShrSlice.spares-sslice 𝓤 H A W (Referent.rtF (Referent.fInt Syntax.w32)) type·13 3, Shared.reads-sslice 𝓤 H A W (Referent.rtF (Referent.fInt Syntax.w32)) type·13 3, Path'.refl, (Reads'.as-is 𝓤 H A (Mut.mslice (Referent.rtF (Referent.fInt Syntax.w32)) type·2 9), Mut.reads-mslice 𝓤 H A W (Referent.rtF (Referent.fInt Syntax.w32)) type·2 9, Path'.refl, (Reads'.as-is 𝓤 H A (Mut.mslice (Signed'.SInt Syntax.w64) type·4 10), Mut.reads-mslice 𝓤 H A W (Signed'.SInt Syntax.w64) type·4 10, Path'.refl, (Reads'.as-is 𝓤 H A (Mut.mslice MoveTy.R type·6 11), Mut.reads-mslice 𝓤 H A W MoveTy.R type·6 11, Path'.refl, ((Yields.yields-copy 𝓤 H A W (λ ρ. Unit) (Declared'.row Loads.the-type) Path'.refl (Copies.cStruct Loads.the-type Laws'4.the-laws Laws'4.the-copy .copy 𝓤 H A W) (Rows.whole (Declared'.row Loads.the-type)) (λ x. x) (λ x. x) (λ ρ told. Local.mem-whole 𝓤 H A W (Declared'.row Loads.the-type) ρ) λ ρ told. Local.whole-mem 𝓤 H A W (Declared'.row Loads.the-type) ρ, Path'.refl), ((Scalar.reads-sc 𝓤 H A W (Row.sInt Syntax.w64), Path'.refl), ((Yields.yields-copy 𝓤 H A W (λ ρ. Unit) (Declared'.row Limits.the-type) Path'.refl (Copies.cStruct Limits.the-type Laws.the-laws Laws.the-copy .copy 𝓤 H A W) (Rows.whole (Declared'.row Limits.the-type)) (λ x. x) (λ x. x) (λ ρ told. Local.mem-whole 𝓤 H A W (Declared'.row Limits.the-type) ρ) λ ρ told. Local.whole-mem 𝓤 H A W (Declared'.row Limits.the-type) ρ, Path'.refl), tt)))))))))) (Reads'.room-gone 𝓤 H A type·1) (tt, (tt, (tt, (tt, (tt, (tt, (tt, tt))))))) Path'.refl) d63
 
           d65 : Typed.Typed 𝓤 H A 𝓣 E G26 b44 Δ3 (at65 bs)
           d65 = Typed.s-seq 𝓤 H A W 𝓣 E G26 G27 b12 b43 Δ3 (Typed.ask (s23 bs)) (at64 bs) (Relend.t-sl-aggregate 𝓤 H A W E MoveTy.R 𝓣 (Relend.asMut MoveTy.R) G26 27 28 11 type·6 type·6 (λ x. x) (Scalar.oFld 7 (List._∷_ (Syntax.field 1) List.[]) (Syntax.tyInt Syntax.w64) 8 λ v. Shared.lenV (v .0)) (Reads'.as-is 𝓤 H A (Relend.msptr MoveTy.R type·6 11)) (Reads'.room-gone 𝓤 H A type·7) (Relend.reads-owed-len 𝓤 H A W MoveTy.R type·16 6 11 (Row.lease (κs .1 .1 .1 .1 .1 .1 .0) (qs .1 .1 .1 .1 .1 .1 .0)) 8 Path'.refl, Path'.refl) Path'.refl Path'.refl λ b o k. tt) d64
@@ -2334,70 +2334,70 @@ module _ (claims· : Claims) where
       m18 = λ before given. s17 (before .before .before .before .before .before .before .before .before .before .blocks) .next (m17 before given)
 
       module _ (before· : In-loop) where
-        pub record After-pass-arg·own : Type 0 where
+        pub record After-make-pass-arg·own : Type 0 where
           pub given : s16 (before· .before .before .before .before .before .before .before .before .before .blocks) .gives (m14 (before· .before))
 
-      pub record After-pass-arg : Type 0 where
+      pub record After-make-pass-arg : Type 0 where
         pub before : In-loop
-        pub pass-arg : After-pass-arg·own before
+        pub make-pass-arg : After-make-pass-arg·own before
 
-      abbrev pub m19 : (before : After-pass-arg) → (given : s19 (before .before .before .before .before .before .before .before .before .before .before .blocks) .gives (m18 (before .before) (before .pass-arg .given))) → Typed.Mo T23
-      m19 = λ before given. s19 (before .before .before .before .before .before .before .before .before .before .before .blocks) .next (m18 (before .before) (before .pass-arg .given)) given
+      abbrev pub m19 : (before : After-make-pass-arg) → (given : s19 (before .before .before .before .before .before .before .before .before .before .before .blocks) .gives (m18 (before .before) (before .make-pass-arg .given))) → Typed.Mo T23
+      m19 = λ before given. s19 (before .before .before .before .before .before .before .before .before .before .before .blocks) .next (m18 (before .before) (before .make-pass-arg .given)) given
 
-      abbrev pub m20 : (before : After-pass-arg) → (given : s19 (before .before .before .before .before .before .before .before .before .before .before .blocks) .gives (m18 (before .before) (before .pass-arg .given))) → Typed.Mo T24
+      abbrev pub m20 : (before : After-make-pass-arg) → (given : s19 (before .before .before .before .before .before .before .before .before .before .before .blocks) .gives (m18 (before .before) (before .make-pass-arg .given))) → Typed.Mo T24
       m20 = λ before given. s20 (before .before .before .before .before .before .before .before .before .before .before .blocks) .next (m19 before given)
 
-      module _ (before· : After-pass-arg) where
-        pub record After-pass-arg2·own : Type 0 where
-          pub given : s19 (before· .before .before .before .before .before .before .before .before .before .before .blocks) .gives (m18 (before· .before) (before· .pass-arg .given))
+      module _ (before· : After-make-pass-arg) where
+        pub record After-make-pass-arg2·own : Type 0 where
+          pub given : s19 (before· .before .before .before .before .before .before .before .before .before .before .blocks) .gives (m18 (before· .before) (before· .make-pass-arg .given))
 
-      pub record After-pass-arg2 : Type 0 where
-        pub before : After-pass-arg
-        pub pass-arg2 : After-pass-arg2·own before
+      pub record After-make-pass-arg2 : Type 0 where
+        pub before : After-make-pass-arg
+        pub make-pass-arg2 : After-make-pass-arg2·own before
 
-      abbrev pub m21 : (before : After-pass-arg2) → (given : s22 (before .before .before .before .before .before .before .before .before .before .before .before .blocks) .gives (m20 (before .before) (before .pass-arg2 .given))) → Typed.Mo T26
-      m21 = λ before given. s22 (before .before .before .before .before .before .before .before .before .before .before .before .blocks) .next (m20 (before .before) (before .pass-arg2 .given)) given
+      abbrev pub m21 : (before : After-make-pass-arg2) → (given : s22 (before .before .before .before .before .before .before .before .before .before .before .before .blocks) .gives (m20 (before .before) (before .make-pass-arg2 .given))) → Typed.Mo T26
+      m21 = λ before given. s22 (before .before .before .before .before .before .before .before .before .before .before .before .blocks) .next (m20 (before .before) (before .make-pass-arg2 .given)) given
 
-      abbrev pub m22 : (before : After-pass-arg2) → (given : s22 (before .before .before .before .before .before .before .before .before .before .before .before .blocks) .gives (m20 (before .before) (before .pass-arg2 .given))) → Typed.Mo T27
+      abbrev pub m22 : (before : After-make-pass-arg2) → (given : s22 (before .before .before .before .before .before .before .before .before .before .before .before .blocks) .gives (m20 (before .before) (before .make-pass-arg2 .given))) → Typed.Mo T27
       m22 = λ before given. s23 (before .before .before .before .before .before .before .before .before .before .before .before .blocks) .next (m21 before given)
 
-      module _ (before· : After-pass-arg2) where
-        pub record After-pass-arg3·own : Type 0 where
-          pub given : s22 (before· .before .before .before .before .before .before .before .before .before .before .before .blocks) .gives (m20 (before· .before) (before· .pass-arg2 .given))
+      module _ (before· : After-make-pass-arg2) where
+        pub record After-make-pass-arg3·own : Type 0 where
+          pub given : s22 (before· .before .before .before .before .before .before .before .before .before .before .before .blocks) .gives (m20 (before· .before) (before· .make-pass-arg2 .given))
 
-      pub record After-pass-arg3 : Type 0 where
-        pub before : After-pass-arg2
-        pub pass-arg3 : After-pass-arg3·own before
+      pub record After-make-pass-arg3 : Type 0 where
+        pub before : After-make-pass-arg2
+        pub make-pass-arg3 : After-make-pass-arg3·own before
 
-      abbrev pub Need-pass-requires : Type 0
-      Need-pass-requires = (c : After-pass-arg3) → s24 (c .before .before .before .before .before .before .before .before .before .before .before .before .blocks) .asks (m22 (c .before) (c .pass-arg3 .given))
+      abbrev pub Need-make-pass-requires : Type 0
+      Need-make-pass-requires = (c : After-make-pass-arg3) → s24 (c .before .before .before .before .before .before .before .before .before .before .before .before .blocks) .asks (m22 (c .before) (c .make-pass-arg3 .given))
 
-      abbrev pub m23 : (before : After-pass-arg3) → (given : s24 (before .before .before .before .before .before .before .before .before .before .before .before .before .blocks) .gives (m22 (before .before) (before .pass-arg3 .given))) → Typed.Mo T28
-      m23 = λ before given. s24 (before .before .before .before .before .before .before .before .before .before .before .before .before .blocks) .next (m22 (before .before) (before .pass-arg3 .given)) given
+      abbrev pub m23 : (before : After-make-pass-arg3) → (given : s24 (before .before .before .before .before .before .before .before .before .before .before .before .before .blocks) .gives (m22 (before .before) (before .make-pass-arg3 .given))) → Typed.Mo T28
+      m23 = λ before given. s24 (before .before .before .before .before .before .before .before .before .before .before .before .before .blocks) .next (m22 (before .before) (before .make-pass-arg3 .given)) given
 
-      module _ (before· : After-pass-arg3) where
-        abbrev pub After-pass·own : Type 0
-        After-pass·own = Called.Called ps·0 r·0 (claims· .1) T27 (record { pos = 1; ty = Syntax.tyRef (Syntax.named 0) Syntax.imm (Syntax.tyInt Syntax.w32); ref = λ x. x }, (record { pos = 2; ty = Syntax.tyRef (Syntax.named 1) Syntax.imm (Syntax.tyInt Syntax.w32); ref = λ x. x }, (record { pos = 3; ty = Syntax.tyRef (Syntax.named 2) Syntax.imm (Syntax.tyInt Syntax.w32); ref = λ x. x }, (record { pos = 4; ty = Syntax.tyRef (Syntax.named 3) Syntax.imm (Syntax.tyInt Syntax.w32); ref = λ x. x }, (record { pos = 24; ty = Syntax.tyRef Syntax.erased Syntax.mut (Syntax.tyInt Syntax.w32); ref = λ x. x }, (record { pos = 26; ty = Syntax.tyRef Syntax.erased Syntax.mut (Syntax.tyInt Syntax.w64); ref = λ x. x }, (record { pos = 28; ty = Syntax.tyRef Syntax.erased Syntax.mut MoveTy.behind; ref = λ x. x }, (record { pos = 14; st = List.[]; d = 0; at = λ x. x }, (Num.vAt 15 λ x. x, (record { pos = 12; st = List.[]; d = 0; at = λ x. x }, tt)))))))))) (m22 (before· .before) (before· .pass-arg3 .given))
+      module _ (before· : After-make-pass-arg3) where
+        abbrev pub After-make-pass·own : Type 0
+        After-make-pass·own = Called.Called ps·0 r·0 (claims· .1) T27 (record { pos = 1; ty = Syntax.tyRef (Syntax.named 0) Syntax.imm (Syntax.tyInt Syntax.w32); ref = λ x. x }, (record { pos = 2; ty = Syntax.tyRef (Syntax.named 1) Syntax.imm (Syntax.tyInt Syntax.w32); ref = λ x. x }, (record { pos = 3; ty = Syntax.tyRef (Syntax.named 2) Syntax.imm (Syntax.tyInt Syntax.w32); ref = λ x. x }, (record { pos = 4; ty = Syntax.tyRef (Syntax.named 3) Syntax.imm (Syntax.tyInt Syntax.w32); ref = λ x. x }, (record { pos = 24; ty = Syntax.tyRef Syntax.erased Syntax.mut (Syntax.tyInt Syntax.w32); ref = λ x. x }, (record { pos = 26; ty = Syntax.tyRef Syntax.erased Syntax.mut (Syntax.tyInt Syntax.w64); ref = λ x. x }, (record { pos = 28; ty = Syntax.tyRef Syntax.erased Syntax.mut MoveTy.behind; ref = λ x. x }, (record { pos = 14; st = List.[]; d = 0; at = λ x. x }, (Num.vAt 15 λ x. x, (record { pos = 12; st = List.[]; d = 0; at = λ x. x }, tt)))))))))) (m22 (before· .before) (before· .make-pass-arg3 .given))
 
-      pub record After-pass : Type 0 where
-        pub before : After-pass-arg3
-        pub pass : After-pass·own before
+      pub record After-make-pass : Type 0 where
+        pub before : After-make-pass-arg3
+        pub make-pass : After-make-pass·own before
 
-      abbrev pub After-pass·gave : (c : After-pass) → s24 (c .before .before .before .before .before .before .before .before .before .before .before .before .before .blocks) .gives (m22 (c .before .before) (c .before .pass-arg3 .given))
-      After-pass·gave = λ c. Called.given ps·0 r·0 (claims· .1) T27 (record { pos = 1; ty = Syntax.tyRef (Syntax.named 0) Syntax.imm (Syntax.tyInt Syntax.w32); ref = λ x. x }, (record { pos = 2; ty = Syntax.tyRef (Syntax.named 1) Syntax.imm (Syntax.tyInt Syntax.w32); ref = λ x. x }, (record { pos = 3; ty = Syntax.tyRef (Syntax.named 2) Syntax.imm (Syntax.tyInt Syntax.w32); ref = λ x. x }, (record { pos = 4; ty = Syntax.tyRef (Syntax.named 3) Syntax.imm (Syntax.tyInt Syntax.w32); ref = λ x. x }, (record { pos = 24; ty = Syntax.tyRef Syntax.erased Syntax.mut (Syntax.tyInt Syntax.w32); ref = λ x. x }, (record { pos = 26; ty = Syntax.tyRef Syntax.erased Syntax.mut (Syntax.tyInt Syntax.w64); ref = λ x. x }, (record { pos = 28; ty = Syntax.tyRef Syntax.erased Syntax.mut MoveTy.behind; ref = λ x. x }, (record { pos = 14; st = List.[]; d = 0; at = λ x. x }, (Num.vAt 15 λ x. x, (record { pos = 12; st = List.[]; d = 0; at = λ x. x }, tt)))))))))) (m22 (c .before .before) (c .before .pass-arg3 .given)) (c .pass)
+      abbrev pub After-make-pass·gave : (c : After-make-pass) → s24 (c .before .before .before .before .before .before .before .before .before .before .before .before .before .blocks) .gives (m22 (c .before .before) (c .before .make-pass-arg3 .given))
+      After-make-pass·gave = λ c. Called.given ps·0 r·0 (claims· .1) T27 (record { pos = 1; ty = Syntax.tyRef (Syntax.named 0) Syntax.imm (Syntax.tyInt Syntax.w32); ref = λ x. x }, (record { pos = 2; ty = Syntax.tyRef (Syntax.named 1) Syntax.imm (Syntax.tyInt Syntax.w32); ref = λ x. x }, (record { pos = 3; ty = Syntax.tyRef (Syntax.named 2) Syntax.imm (Syntax.tyInt Syntax.w32); ref = λ x. x }, (record { pos = 4; ty = Syntax.tyRef (Syntax.named 3) Syntax.imm (Syntax.tyInt Syntax.w32); ref = λ x. x }, (record { pos = 24; ty = Syntax.tyRef Syntax.erased Syntax.mut (Syntax.tyInt Syntax.w32); ref = λ x. x }, (record { pos = 26; ty = Syntax.tyRef Syntax.erased Syntax.mut (Syntax.tyInt Syntax.w64); ref = λ x. x }, (record { pos = 28; ty = Syntax.tyRef Syntax.erased Syntax.mut MoveTy.behind; ref = λ x. x }, (record { pos = 14; st = List.[]; d = 0; at = λ x. x }, (Num.vAt 15 λ x. x, (record { pos = 12; st = List.[]; d = 0; at = λ x. x }, tt)))))))))) (m22 (c .before .before) (c .before .make-pass-arg3 .given)) (c .make-pass)
 
-      abbrev pub m24 : (before : After-pass-arg3) → (given : s24 (before .before .before .before .before .before .before .before .before .before .before .before .before .blocks) .gives (m22 (before .before) (before .pass-arg3 .given))) → Typed.Mo T29
+      abbrev pub m24 : (before : After-make-pass-arg3) → (given : s24 (before .before .before .before .before .before .before .before .before .before .before .before .before .blocks) .gives (m22 (before .before) (before .make-pass-arg3 .given))) → Typed.Mo T29
       m24 = λ before given. s25 (before .before .before .before .before .before .before .before .before .before .before .before .before .blocks) (m23 before given)
 
-      abbrev pub m25 : (before : After-pass) → (given : s27 (before .before .before .before .before .before .before .before .before .before .before .before .before .before .blocks) .gives (m24 (before .before) (After-pass·gave before))) → Typed.Mo T31
-      m25 = λ before given. s27 (before .before .before .before .before .before .before .before .before .before .before .before .before .before .blocks) .next (m24 (before .before) (After-pass·gave before)) given
+      abbrev pub m25 : (before : After-make-pass) → (given : s27 (before .before .before .before .before .before .before .before .before .before .before .before .before .before .blocks) .gives (m24 (before .before) (After-make-pass·gave before))) → Typed.Mo T31
+      m25 = λ before given. s27 (before .before .before .before .before .before .before .before .before .before .before .before .before .before .blocks) .next (m24 (before .before) (After-make-pass·gave before)) given
 
-      module _ (before· : After-pass) where
+      module _ (before· : After-make-pass) where
         pub record After-labels·own : Type 0 where
-          pub given : s27 (before· .before .before .before .before .before .before .before .before .before .before .before .before .before .blocks) .gives (m24 (before· .before) (After-pass·gave before·))
+          pub given : s27 (before· .before .before .before .before .before .before .before .before .before .before .before .before .before .blocks) .gives (m24 (before· .before) (After-make-pass·gave before·))
 
       pub record After-labels : Type 0 where
-        pub before : After-pass
+        pub before : After-make-pass
         pub labels : After-labels·own before
 
       abbrev pub m26 : (before : After-labels) → (given : s28 (before .before .before .before .before .before .before .before .before .before .before .before .before .before .before .blocks) .gives (m25 (before .before) (before .labels .given))) → Typed.Mo T32
@@ -2743,7 +2743,7 @@ module _ (claims· : Claims) where
       abbrev pub Need-returns-2 : Type 0
       Need-returns-2 = (c : After-loop) → Post· (c .before .before .before .before .before .before .before .before .before .κs) (dens (c .before .before .before .before .before .before .before .before .before .κs) (c .before .before .before .before .before .before .before .before .before .args)) (Function.resV r (c .before .before .before .before .before .before .before .before .before .κs) (m73 (c .before) .0)) (Clauses.atExit (Kinds.endedOf 9 ps r) (c .before .before .before .before .before .before .before .before .before .κs) (dens (c .before .before .before .before .before .before .before .before .before .κs) (c .before .before .before .before .before .before .before .before .before .args)) (Enter.lastsP (c .before .before .before .before .before .before .before .before .before .κs) 1 ps xs (dens (c .before .before .before .before .before .before .before .before .before .κs) (c .before .before .before .before .before .before .before .before .before .args)) (m73 (c .before) .1)))
 
-      module _ (loop-holds : Need-loop-holds) (pass-requires : Need-pass-requires) (put-row-requires : Need-put-row-requires) (course-of-requires : Need-course-of-requires) (enum-known-end : Need-enum-known-end) (enum-told : Need-enum-told) (loop-less : Need-loop-less) (loop-again : Need-loop-again) (same-length : Need-same-length) (same-length-2 : Need-same-length-2) (same-length-3 : Need-same-length-3) (same-length-4 : Need-same-length-4) (same-length-5 : Need-same-length-5) (returns : Need-returns) (same-length-6 : Need-same-length-6) (same-length-7 : Need-same-length-7) (same-length-8 : Need-same-length-8) (same-length-9 : Need-same-length-9) (same-length-10 : Need-same-length-10) (returns-2 : Need-returns-2) where
+      module _ (loop-holds : Need-loop-holds) (make-pass-requires : Need-make-pass-requires) (put-row-requires : Need-put-row-requires) (course-of-requires : Need-course-of-requires) (enum-known-end : Need-enum-known-end) (enum-told : Need-enum-told) (loop-less : Need-loop-less) (loop-again : Need-loop-again) (same-length : Need-same-length) (same-length-2 : Need-same-length-2) (same-length-3 : Need-same-length-3) (same-length-4 : Need-same-length-4) (same-length-5 : Need-same-length-5) (returns : Need-returns) (same-length-6 : Need-same-length-6) (same-length-7 : Need-same-length-7) (same-length-8 : Need-same-length-8) (same-length-9 : Need-same-length-9) (same-length-10 : Need-same-length-10) (returns-2 : Need-returns-2) where
         lay8 : (c : After-loop) → at85 (c .before .before .before .before .before .before .before .before .before .blocks) (W0 (c .before .before .before .before .before .before .before .before .before .κs) (c .before .before .before .before .before .before .before .before .before .args) (c .before .before .before .before .before .before .before .before .before .blocks)) (m16 (c .before))
         lay8 = λ c. ((Path'.refl, (Path'.refl, (Path'.refl, (Path'.refl, (MutSlice.fix-len (Row.get 5 (T91 .locals) (m73 (c .before)) .ptr) (Row.get 5 (T91 .locals) (m73 (c .before)) .name) (Row.get 5 (T91 .locals) (m73 (c .before)) .now) (dens (c .before .before .before .before .before .before .before .before .before .κs) (c .before .before .before .before .before .before .before .before .before .args) .1 .1 .1 .1 .0 .now) (same-length-6 record { before = c .before; loop-test = c .loop-test }), (MutSlice.fix-len (Row.get 6 (T91 .locals) (m73 (c .before)) .ptr) (Row.get 6 (T91 .locals) (m73 (c .before)) .name) (Row.get 6 (T91 .locals) (m73 (c .before)) .now) (dens (c .before .before .before .before .before .before .before .before .before .κs) (c .before .before .before .before .before .before .before .before .before .args) .1 .1 .1 .1 .1 .0 .now) (same-length-7 record { before = c .before; loop-test = c .loop-test }), (MutSlice.fix-len (Row.get 7 (T91 .locals) (m73 (c .before)) .ptr) (Row.get 7 (T91 .locals) (m73 (c .before)) .name) (Row.get 7 (T91 .locals) (m73 (c .before)) .now) (dens (c .before .before .before .before .before .before .before .before .before .κs) (c .before .before .before .before .before .before .before .before .before .args) .1 .1 .1 .1 .1 .1 .0 .now) (same-length-8 record { before = c .before; loop-test = c .loop-test }), (MutSlice.fix-len (Row.get 8 (T91 .locals) (m73 (c .before)) .ptr) (Row.get 8 (T91 .locals) (m73 (c .before)) .name) (Row.get 8 (T91 .locals) (m73 (c .before)) .now) (dens (c .before .before .before .before .before .before .before .before .before .κs) (c .before .before .before .before .before .before .before .before .before .args) .1 .1 .1 .1 .1 .1 .1 .0 .now) (same-length-9 record { before = c .before; loop-test = c .loop-test }), (MutSlice.fix-len (Row.get 9 (T91 .locals) (m73 (c .before)) .ptr) (Row.get 9 (T91 .locals) (m73 (c .before)) .name) (Row.get 9 (T91 .locals) (m73 (c .before)) .now) (dens (c .before .before .before .before .before .before .before .before .before .κs) (c .before .before .before .before .before .before .before .before .before .args) .1 .1 .1 .1 .1 .1 .1 .1 .0 .now) (same-length-10 record { before = c .before; loop-test = c .loop-test }), (tt, (tt, (tt, (tt, tt))))))))))))), returns-2 record { before = c .before; loop-test = c .loop-test })
 
@@ -2756,11 +2756,11 @@ module _ (claims· : Claims) where
         lay5 : (c : After-put-row) → at43 (c .before .before .before .before .before .before .before .before .before .before .before .before .before .before .before .before .before .before .before .before .blocks) (W3 (c .before .before .before .before .before .before .before .before .before .before .before .before .before) (c .before .before .before .before .before .before .before .before .before .before .before .before .loop .labels) (c .before .before .before .before .before .before .before .before .before .before .before .before .loop .gains) (c .before .before .before .before .before .before .before .before .before .before .before .before .loop .moves) (c .before .before .before .before .before .before .before .before .before .before .before .before .loop .rows-made) (c .before .before .before .before .before .before .before .before .before .before .before .before .loop .rows-rewound) (c .before .before .before .before .before .before .before .before .before .before .before .before .loop .loads) (c .before .before .before .before .before .before .before .before .before .before .before .before .loop .cut) (c .before .before .before .before .before .before .before .before .before .before .before .before .loop .passes)) (m35 (c .before) (After-put-row·gave c))
         lay5 = λ c. (Path'.refl, λ g. λ g'. (Path'.refl, λ g''. λ g'3. (tt, λ g'4. (course-of-requires record { before = record { before = record { before = record { before = record { before = record { before = c .before; put-row = c .put-row }; rows-made = record { given = g } }; slice-known5 = record { given = g' } }; rows-rewound = record { given = g'' } }; slice-known6 = record { given = g'3 } }; loads = record { given = g'4 } }, λ g'5. lay6 record { before = record { before = record { before = record { before = record { before = record { before = record { before = c .before; put-row = c .put-row }; rows-made = record { given = g } }; slice-known5 = record { given = g' } }; rows-rewound = record { given = g'' } }; slice-known6 = record { given = g'3 } }; loads = record { given = g'4 } }; course-of = Called.called ps·2 r·2 (claims· .5) T61 (Num.vAt 20 λ x. x, (Num.vAt 15 λ x. x, (Num.vAt 16 λ x. x, (Num.vAt 13 λ x. x, tt)))) (m44 record { before = record { before = record { before = record { before = record { before = c .before; put-row = c .put-row }; rows-made = record { given = g } }; slice-known5 = record { given = g' } }; rows-rewound = record { given = g'' } }; slice-known6 = record { given = g'3 } } g'4) g'5 }))))
 
-        lay4 : (c : After-pass) → at63 (c .before .before .before .before .before .before .before .before .before .before .before .before .before .blocks) (W3 (c .before .before .before .before .before .before) (c .before .before .before .before .before .loop .labels) (c .before .before .before .before .before .loop .gains) (c .before .before .before .before .before .loop .moves) (c .before .before .before .before .before .loop .rows-made) (c .before .before .before .before .before .loop .rows-rewound) (c .before .before .before .before .before .loop .loads) (c .before .before .before .before .before .loop .cut) (c .before .before .before .before .before .loop .passes)) (m23 (c .before) (After-pass·gave c))
-        lay4 = λ c. (Path'.refl, λ g. λ g'. (Path'.refl, λ g''. (Path'.refl, λ g'3. λ g'4. (Path'.refl, λ g'5. (Path'.refl, (put-row-requires record { before = record { before = record { before = record { before = record { before = record { before = record { before = c .before; pass = c .pass }; labels = record { given = g } }; slice-known4 = record { given = g' } }; gains = record { given = g'' } }; moves = record { given = g'3 } }; put-row-arg = record { given = g'4 } }; put-row-arg2 = record { given = g'5 } }, λ g'6. lay5 record { before = record { before = record { before = record { before = record { before = record { before = record { before = record { before = c .before; pass = c .pass }; labels = record { given = g } }; slice-known4 = record { given = g' } }; gains = record { given = g'' } }; moves = record { given = g'3 } }; put-row-arg = record { given = g'4 } }; put-row-arg2 = record { given = g'5 } }; put-row = Called.called ps·1 r·1 (claims· .3) T47 (record { pos = 30; ty = Syntax.tyRef Syntax.erased Syntax.mut (Syntax.tyInt Syntax.w32); ref = λ x. x }, (record { pos = 32; ty = Syntax.tyRef Syntax.erased Syntax.mut (Syntax.tyInt Syntax.w32); ref = λ x. x }, (Num.vAt 16 λ x. x, (Num.vAt 18 λ x. x, (Num.vAt 19 λ x. x, tt))))) (m34 record { before = record { before = record { before = record { before = record { before = record { before = c .before; pass = c .pass }; labels = record { given = g } }; slice-known4 = record { given = g' } }; gains = record { given = g'' } }; moves = record { given = g'3 } }; put-row-arg = record { given = g'4 } } g'5) g'6 }))))))
+        lay4 : (c : After-make-pass) → at63 (c .before .before .before .before .before .before .before .before .before .before .before .before .before .blocks) (W3 (c .before .before .before .before .before .before) (c .before .before .before .before .before .loop .labels) (c .before .before .before .before .before .loop .gains) (c .before .before .before .before .before .loop .moves) (c .before .before .before .before .before .loop .rows-made) (c .before .before .before .before .before .loop .rows-rewound) (c .before .before .before .before .before .loop .loads) (c .before .before .before .before .before .loop .cut) (c .before .before .before .before .before .loop .passes)) (m23 (c .before) (After-make-pass·gave c))
+        lay4 = λ c. (Path'.refl, λ g. λ g'. (Path'.refl, λ g''. (Path'.refl, λ g'3. λ g'4. (Path'.refl, λ g'5. (Path'.refl, (put-row-requires record { before = record { before = record { before = record { before = record { before = record { before = record { before = c .before; make-pass = c .make-pass }; labels = record { given = g } }; slice-known4 = record { given = g' } }; gains = record { given = g'' } }; moves = record { given = g'3 } }; put-row-arg = record { given = g'4 } }; put-row-arg2 = record { given = g'5 } }, λ g'6. lay5 record { before = record { before = record { before = record { before = record { before = record { before = record { before = record { before = c .before; make-pass = c .make-pass }; labels = record { given = g } }; slice-known4 = record { given = g' } }; gains = record { given = g'' } }; moves = record { given = g'3 } }; put-row-arg = record { given = g'4 } }; put-row-arg2 = record { given = g'5 } }; put-row = Called.called ps·1 r·1 (claims· .3) T47 (record { pos = 30; ty = Syntax.tyRef Syntax.erased Syntax.mut (Syntax.tyInt Syntax.w32); ref = λ x. x }, (record { pos = 32; ty = Syntax.tyRef Syntax.erased Syntax.mut (Syntax.tyInt Syntax.w32); ref = λ x. x }, (Num.vAt 16 λ x. x, (Num.vAt 18 λ x. x, (Num.vAt 19 λ x. x, tt))))) (m34 record { before = record { before = record { before = record { before = record { before = record { before = c .before; make-pass = c .make-pass }; labels = record { given = g } }; slice-known4 = record { given = g' } }; gains = record { given = g'' } }; moves = record { given = g'3 } }; put-row-arg = record { given = g'4 } } g'5) g'6 }))))))
 
         lay3 : (c : In-loop) → at73 (c .before .before .before .before .before .before .before .before .before .blocks) (W3 (c .before .before) (c .before .loop .labels) (c .before .loop .gains) (c .before .loop .moves) (c .before .loop .rows-made) (c .before .loop .rows-rewound) (c .before .loop .loads) (c .before .loop .cut) (c .before .loop .passes)) (m14 (c .before))
-        lay3 = λ c. λ g. (Path'.refl, λ g'. (Path'.refl, λ g''. (Path'.refl, (pass-requires record { before = record { before = record { before = record { before = c .before; loop-test = c .loop-test }; pass-arg = record { given = g } }; pass-arg2 = record { given = g' } }; pass-arg3 = record { given = g'' } }, λ g'3. lay4 record { before = record { before = record { before = record { before = record { before = c .before; loop-test = c .loop-test }; pass-arg = record { given = g } }; pass-arg2 = record { given = g' } }; pass-arg3 = record { given = g'' } }; pass = Called.called ps·0 r·0 (claims· .1) T27 (record { pos = 1; ty = Syntax.tyRef (Syntax.named 0) Syntax.imm (Syntax.tyInt Syntax.w32); ref = λ x. x }, (record { pos = 2; ty = Syntax.tyRef (Syntax.named 1) Syntax.imm (Syntax.tyInt Syntax.w32); ref = λ x. x }, (record { pos = 3; ty = Syntax.tyRef (Syntax.named 2) Syntax.imm (Syntax.tyInt Syntax.w32); ref = λ x. x }, (record { pos = 4; ty = Syntax.tyRef (Syntax.named 3) Syntax.imm (Syntax.tyInt Syntax.w32); ref = λ x. x }, (record { pos = 24; ty = Syntax.tyRef Syntax.erased Syntax.mut (Syntax.tyInt Syntax.w32); ref = λ x. x }, (record { pos = 26; ty = Syntax.tyRef Syntax.erased Syntax.mut (Syntax.tyInt Syntax.w64); ref = λ x. x }, (record { pos = 28; ty = Syntax.tyRef Syntax.erased Syntax.mut MoveTy.behind; ref = λ x. x }, (record { pos = 14; st = List.[]; d = 0; at = λ x. x }, (Num.vAt 15 λ x. x, (record { pos = 12; st = List.[]; d = 0; at = λ x. x }, tt)))))))))) (m22 record { before = record { before = record { before = c .before; loop-test = c .loop-test }; pass-arg = record { given = g } }; pass-arg2 = record { given = g' } } g'') g'3 }))))
+        lay3 = λ c. λ g. (Path'.refl, λ g'. (Path'.refl, λ g''. (Path'.refl, (make-pass-requires record { before = record { before = record { before = record { before = c .before; loop-test = c .loop-test }; make-pass-arg = record { given = g } }; make-pass-arg2 = record { given = g' } }; make-pass-arg3 = record { given = g'' } }, λ g'3. lay4 record { before = record { before = record { before = record { before = record { before = c .before; loop-test = c .loop-test }; make-pass-arg = record { given = g } }; make-pass-arg2 = record { given = g' } }; make-pass-arg3 = record { given = g'' } }; make-pass = Called.called ps·0 r·0 (claims· .1) T27 (record { pos = 1; ty = Syntax.tyRef (Syntax.named 0) Syntax.imm (Syntax.tyInt Syntax.w32); ref = λ x. x }, (record { pos = 2; ty = Syntax.tyRef (Syntax.named 1) Syntax.imm (Syntax.tyInt Syntax.w32); ref = λ x. x }, (record { pos = 3; ty = Syntax.tyRef (Syntax.named 2) Syntax.imm (Syntax.tyInt Syntax.w32); ref = λ x. x }, (record { pos = 4; ty = Syntax.tyRef (Syntax.named 3) Syntax.imm (Syntax.tyInt Syntax.w32); ref = λ x. x }, (record { pos = 24; ty = Syntax.tyRef Syntax.erased Syntax.mut (Syntax.tyInt Syntax.w32); ref = λ x. x }, (record { pos = 26; ty = Syntax.tyRef Syntax.erased Syntax.mut (Syntax.tyInt Syntax.w64); ref = λ x. x }, (record { pos = 28; ty = Syntax.tyRef Syntax.erased Syntax.mut MoveTy.behind; ref = λ x. x }, (record { pos = 14; st = List.[]; d = 0; at = λ x. x }, (Num.vAt 15 λ x. x, (record { pos = 12; st = List.[]; d = 0; at = λ x. x }, tt)))))))))) (m22 record { before = record { before = record { before = c .before; loop-test = c .loop-test }; make-pass-arg = record { given = g } }; make-pass-arg2 = record { given = g' } } g'') g'3 }))))
 
         lay2 : (c : After-loop) → at4 (c .before .before .before .before .before .before .before .before .before .blocks) (W4 (c .before .before) (c .before .loop .labels) (c .before .loop .gains) (c .before .loop .moves) (c .before .loop .rows-made) (c .before .loop .rows-rewound) (c .before .loop .loads) (c .before .loop .cut) (c .before .loop .passes)) (m13 (c .before .before) (c .before .loop .labels) (c .before .loop .gains) (c .before .loop .moves) (c .before .loop .rows-made) (c .before .loop .rows-rewound) (c .before .loop .loads) (c .before .loop .cut) (c .before .loop .passes))
         lay2 = λ c. lay8 record { before = c .before; loop-test = c .loop-test }
@@ -2775,6 +2775,6 @@ module _ (claims· : Claims) where
           pub asked : (a : Kinds.Dens κs ps) → (good : Kinds.GoodsP κs ps a) → (pre : Pre· κs a) → (bs : List.List Nat.ℕ) → Φ bs (Any.wantQ 9 ps r xs m κs qs a (Post· κs a)) (Function.init 9 ps r xs m κs qs a)
           asked = λ a good pre bs. laid record { κs = κs; args = record { starts = a .0; neighbours = a .1 .0; arc-weights = a .1 .1 .0; weights = a .1 .1 .1 .0; labels = a .1 .1 .1 .1 .0; gains = a .1 .1 .1 .1 .1 .0; moves = a .1 .1 .1 .1 .1 .1 .0; rows-made = a .1 .1 .1 .1 .1 .1 .1 .0; rows-rewound = a .1 .1 .1 .1 .1 .1 .1 .1 .0; first = a .1 .1 .1 .1 .1 .1 .1 .1 .1 .0; first-cut = a .1 .1 .1 .1 .1 .1 .1 .1 .1 .1 .0; limits = a .1 .1 .1 .1 .1 .1 .1 .1 .1 .1 .1 .0; pass-limit = a .1 .1 .1 .1 .1 .1 .1 .1 .1 .1 .1 .1 .0 }; blocks = bs; good = good; fits = record { first-cut = record { fits = good .1 .1 .1 .1 .1 .1 .1 .1 .1 .1 .0 .1 }; pass-limit = record { fits = good .1 .1 .1 .1 .1 .1 .1 .1 .1 .1 .1 .1 .0 .1 } }; pre = pre }
 
-        module _ {M : Type 1} (𝓤 : URA.URA M) (H : Wp.Heap 𝓤) (A : Atoms.Atoms 𝓤) (W : Kit.Given 𝓤 H A) (𝓣 : Wp.Tables 𝓤 H) (known0 : Plain.Known 𝓤 H A W 𝓣 7 ps·0 r·0 (claims· .0) (claims· .1) "fiduccia_mattheyses::pass") (known1 : Plain.Known 𝓤 H A W 𝓣 2 ps·1 r·1 (claims· .2) (claims· .3) "fiduccia_mattheyses::steps::put_row") (known2 : Plain.Known 𝓤 H A W 𝓣 0 ps·2 r·2 (claims· .4) (claims· .5) "fiduccia_mattheyses::steps::course_of") where
+        module _ {M : Type 1} (𝓤 : URA.URA M) (H : Wp.Heap 𝓤) (A : Atoms.Atoms 𝓤) (W : Kit.Given 𝓤 H A) (𝓣 : Wp.Tables 𝓤 H) (known0 : Plain.Known 𝓤 H A W 𝓣 7 ps·0 r·0 (claims· .0) (claims· .1) "fiduccia_mattheyses::make_pass") (known1 : Plain.Known 𝓤 H A W 𝓣 2 ps·1 r·1 (claims· .2) (claims· .3) "fiduccia_mattheyses::steps::put_row") (known2 : Plain.Known 𝓤 H A W 𝓣 0 ps·2 r·2 (claims· .4) (claims· .5) "fiduccia_mattheyses::steps::course_of") where
           pub spec : Statement.Triple 𝓤 (Wp.WpFn 𝓤 H (𝓣 .C) (𝓣 .Λ) (Function.fnOf 9 ps r xs m hs body)) (Function.plainOf 𝓤 H A 9 ps r Pre· Post·)
           spec = Plain.t-fn-plain 𝓤 H A W 𝓣 9 ps r xs m hs body (λ κs qs bs. Φ bs) (λ κs qs bs bd. typed κs qs 𝓤 H A W 𝓣 (known0, known1, known2) bs bd) Pre· Post· asked

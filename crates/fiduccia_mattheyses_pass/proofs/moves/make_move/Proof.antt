@@ -18,7 +18,7 @@ slice-read-old c = search needs
 sub-moved-loads : tie.Need-sub-moved-loads
 sub-moved-loads c =
     let given : tie.Start = search needs in
-    omega (arith, given .pre .scanned .two (given .args .v))
+    omega (arith, given .pre .scanned .two-labels (given .args .v))
 
 mul-moved-loads : tie.Need-mul-moved-loads
 mul-moved-loads c = search needs
@@ -31,14 +31,14 @@ moved-loads-requires c κs =
     let given : tie.Start = search needs in
     let q = given .pre in
     let v = given .args .v in
-    let t = q .scanned .two v in
-    (omega arith, omega arith, q .scanned .sixteen, q .held, q .scanned .light _ (omega arith))
+    let t = q .scanned .two-labels v in
+    (omega arith, omega arith, q .scanned .sixteen, q .weight-within, q .scanned .light _ (omega arith))
 
 move-vertex-requires : tie.Need-move-vertex-requires
 move-vertex-requires c κs =
     let given : tie.Start = search needs in
     let q = given .pre in
-    (q .rows, q .here, q .scanned .gained, q .scanned .two (given .args .v), q .smallGains)
+    (q .rows, q .here, q .scanned .gained, q .scanned .two-labels (given .args .v), q .smallGains)
 
 next-standing-requires : tie.Need-next-standing-requires
 next-standing-requires c κs = search needs

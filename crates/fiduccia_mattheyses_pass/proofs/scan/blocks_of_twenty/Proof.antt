@@ -1,9 +1,9 @@
--- `fiduccia_mattheyses_pass::scan::blocks_of_twenty` meets its contract. The loop's invariant: the vertices of the blocks so far have had their turn. Assumes nothing.
+-- `fiduccia_mattheyses_pass::scan::blocks_of_twenty` meets its contract. The loop's invariant: the vertices of the blocks so far have been looked at. Assumes nothing.
 use mathlib.Core.Path.{_≡_}
 use Prim.Native.Nat.{_*_, _-_, _≤_}
 use native.Mathlib.Omega.{arith}
-use Rattle.fiduccia_mattheyses_pass.specs.inner.Turn.{Swept}
-use Rattle.fiduccia_mattheyses_pass.proofs.Turns.{sweep-none, sweep-twenty}
+use Rattle.fiduccia_mattheyses_pass.specs.inner.Look.{Swept}
+use Rattle.fiduccia_mattheyses_pass.proofs.Looks.{sweep-none, sweep-twenty}
 use borrow.Author.Needs.{needs}
 use Rattle.fiduccia_mattheyses_pass.proofs.scan.blocks_of_twenty.Statement.{statement}
 use Rattle.fiduccia_mattheyses_pass.proofs.scan.blocks_of_twenty.Tie as tie

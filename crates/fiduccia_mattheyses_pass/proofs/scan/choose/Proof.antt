@@ -4,7 +4,7 @@ use native.Mathlib.Omega.{arith}
 use lib.ListN.{length, getD}
 use mir.Syntax.{w64}
 use mir.ValLaws.{toZ-ofZ}
-use Rattle.fiduccia_mattheyses_pass.specs.inner.Turn.{roomsOf, liftsOf, nobody, Sighted, Holds, Swept}
+use Rattle.fiduccia_mattheyses_pass.specs.inner.Look.{roomsOf, liftsOf, nobody, Sighted, Holds, Swept}
 use Rattle.fiduccia_mattheyses_pass.proofs.Scans.{startOf, swept-from, sighted, sample-near, scan-past, scan-found, scan-nobody}
 use borrow.Author.Needs.{needs}
 use Rattle.fiduccia_mattheyses_pass.specs.inner.Bounds.{pastWeights, far}
@@ -80,7 +80,7 @@ sweep-requires c κs =
     let z = toZ-ofZ w64 (after-sample .sample .result .gain) (record { sfits = t .struct-told .given .1 .0 .1 }) in
     (sees after-lifts-of, rw z (after-sample .sample .ensures .free))
 
--- all vertices have had their turn, by loads and ceilings
+-- all vertices have been looked at, by loads and ceilings
 swept :
     (c : tie.After-sweep)
     → let after-sample : tie.After-sample = search needs in

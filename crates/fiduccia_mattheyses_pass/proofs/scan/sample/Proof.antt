@@ -3,8 +3,8 @@ use mathlib.Core.Path.{refl}
 use Prim.Native.Nat.{_-_}
 use native.Mathlib.Omega.{arith}
 use lib.ListN.{length}
-use Rattle.fiduccia_mattheyses_pass.specs.inner.Turn.{nobody, Holds}
-use Rattle.fiduccia_mattheyses_pass.proofs.Turns.{hold-none, hold-turn}
+use Rattle.fiduccia_mattheyses_pass.specs.inner.Look.{nobody, Holds}
+use Rattle.fiduccia_mattheyses_pass.proofs.Looks.{hold-none, hold-look}
 use borrow.Author.Needs.{needs}
 use Rattle.fiduccia_mattheyses_pass.proofs.scan.sample.Statement.{statement}
 use Rattle.fiduccia_mattheyses_pass.proofs.scan.sample.Tie as tie
@@ -18,8 +18,8 @@ abbrev μ-loop : tie.MeasureT-loop
 loop-holds : tie.Need-loop-holds Inv-loop μ-loop
 loop-holds c = hold-none _ _ _ _ _ nobody refl
 
-turn-requires : tie.Need-turn-requires Inv-loop μ-loop
-turn-requires c κs = search needs
+look-requires : tie.Need-look-requires Inv-loop μ-loop
+look-requires c κs = search needs
 
 add-next : tie.Need-add-next Inv-loop μ-loop
 add-next c = search needs
@@ -28,10 +28,10 @@ loop-less : tie.Need-loop-less Inv-loop μ-loop
 loop-less c = search needs
 
 loop-again : tie.Need-loop-again Inv-loop μ-loop
-loop-again c = hold-turn _ _ _ _ _ nobody _ _ (omega arith) (c .before .before .loop .inv) _ (c .turn .ensures)
+loop-again c = hold-look _ _ _ _ _ nobody _ _ (omega arith) (c .before .before .loop .inv) _ (c .look .ensures)
 
 returns : tie.Need-returns Inv-loop μ-loop
 returns c = c .before .loop .inv
 
 pub sample-spec : {M : Type 1} → statement M
-sample-spec = tie.close (tie.spec Inv-loop μ-loop loop-holds turn-requires add-next loop-less loop-again returns)
+sample-spec = tie.close (tie.spec Inv-loop μ-loop loop-holds look-requires add-next loop-less loop-again returns)

@@ -3,9 +3,9 @@ use mathlib.Core.Path.{_≡_}
 use Prim.Native.Nat.{_-_, _≤_}
 use native.Mathlib.Omega.{arith}
 use lib.ListN.{length}
-use Rattle.fiduccia_mattheyses_pass.specs.inner.Turn.{Swept}
+use Rattle.fiduccia_mattheyses_pass.specs.inner.Look.{Swept}
 use Rattle.fiduccia_mattheyses_pass.specs.declared.Held.{Held}
-use Rattle.fiduccia_mattheyses_pass.proofs.Turns.{sweep-one}
+use Rattle.fiduccia_mattheyses_pass.proofs.Looks.{sweep-one}
 use borrow.Author.Needs.{needs}
 use Rattle.fiduccia_mattheyses_pass.proofs.scan.sweep.Statement.{statement}
 use Rattle.fiduccia_mattheyses_pass.proofs.scan.sweep.Tie as tie
@@ -27,8 +27,8 @@ mul-next c = search needs
 loop-holds : tie.Need-loop-holds Inv-loop μ-loop
 loop-holds c = (omega arith, λ start s. s)
 
-turn-requires : tie.Need-turn-requires Inv-loop μ-loop
-turn-requires c κs = search needs
+look-requires : tie.Need-look-requires Inv-loop μ-loop
+look-requires c κs = search needs
 
 add-next : tie.Need-add-next Inv-loop μ-loop
 add-next c = search needs
@@ -37,7 +37,7 @@ loop-less : tie.Need-loop-less Inv-loop μ-loop
 loop-less c = search needs
 
 loop-again : tie.Need-loop-again Inv-loop μ-loop
-loop-again c = (search needs, λ start s. sweep-one _ _ _ _ _ start _ _ _ (omega arith) (c .before .before .loop .inv .1 start s) (c .turn .ensures))
+loop-again c = (search needs, λ start s. sweep-one _ _ _ _ _ start _ _ _ (omega arith) (c .before .before .loop .inv .1 start s) (c .look .ensures))
 
 returns : tie.Need-returns Inv-loop μ-loop
 returns c =
@@ -47,4 +47,4 @@ returns c =
     rw e at (c .before .loop .inv .1 _ (c .before .before .blocks-of-twenty .ensures))
 
 pub sweep-spec : {M : Type 1} → statement M
-sweep-spec = tie.close (tie.spec Inv-loop μ-loop blocks-of-twenty-requires mul-next loop-holds turn-requires add-next loop-less loop-again returns)
+sweep-spec = tie.close (tie.spec Inv-loop μ-loop blocks-of-twenty-requires mul-next loop-holds look-requires add-next loop-less loop-again returns)

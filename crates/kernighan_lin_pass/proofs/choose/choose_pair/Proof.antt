@@ -13,10 +13,10 @@ use borrow.Author.Needs.{needs}
 use mir.Syntax.{w64}
 use mir.Val.{toZ, ofZ}
 use Rattle.topology.specs.Graph.{Graph, inRows}
-use Rattle.kernighan_lin_pass.specs.Gain.{added, told, largest}
-use Rattle.kernighan_lin_pass.specs.inner.Steps.{Within, mostGain, freshBound, tellBound, placeOf, setting}
+use Rattle.kernighan_lin_pass.specs.Gain.{added, updated, largest}
+use Rattle.kernighan_lin_pass.specs.inner.Steps.{Within, mostGain, freshBound, updateBound, placeOf, termsBy}
 use Rattle.kernighan_lin_pass.proofs.Bits.{place-read}
-use Rattle.kernighan_lin_pass.proofs.Within.{added-within, told-within}
+use Rattle.kernighan_lin_pass.proofs.Within.{added-within, updated-within}
 use Rattle.kernighan_lin_pass.proofs.Pairs.{largest-in, place-none, place-some, pair-one-out, pair-two-out, pair-stops, pair-goes, chose-none, chose-some}
 use Rattle.kernighan_lin_pass.proofs.choose.choose_pair.Statement.{statement}
 use Rattle.kernighan_lin_pass.proofs.choose.choose_pair.Tie as tie
@@ -31,7 +31,7 @@ abbrev choice-one : tie.Start → Option ℕ
 choice-one s = largest (λ v. true) (s .args .first) true (s .args .labels .now) (gains-one s) (s .args .locks .now)
 
 abbrev choice-two : tie.Start → ℕ → Option ℕ
-choice-two s v = largest (λ u. true) (s .args .first) false (s .args .labels .now) (told (graph s) (s .args .labels .now) v (gains-one s)) (s .args .locks .now)
+choice-two s v = largest (λ u. true) (s .args .first) false (s .args .labels .now) (updated (graph s) (s .args .labels .now) v (gains-one s)) (s .args .locks .now)
 
 within-one : (s : tie.Start) → Within (mostGain + freshBound) (gains-one s)
 within-one s = added-within (graph s) (s .args .labels .now) (s .pre .0) mostGain (s .args .gains .now) (s .pre .3)
@@ -58,22 +58,22 @@ one c =
     )
 
 -- the gains that the neighbours were told
-told-is :
-    (c : tie.After-tell)
+updated-is :
+    (c : tie.After-update-neighbours)
     → let after-largest-on : tie.After-largest-on = search needs in
     let given : tie.Start = search needs in
-    c .tell .last .1 .1 .1 .1 .0 ≡ told (graph given) (given .args .labels .now) (after-largest-on .largest-on .result) (gains-one given)
-told-is c =
+    c .update-neighbours .last .1 .1 .1 .1 .0 ≡ updated (graph given) (given .args .labels .now) (after-largest-on .largest-on .result) (gains-one given)
+updated-is c =
     let after-add-fresh : tie.After-add-fresh = search needs in
-    rw (after-add-fresh .add-fresh .ensures) at (c .tell .ensures)
+    rw (after-add-fresh .add-fresh .ensures) at (c .update-neighbours .ensures)
 
 within-two :
     (c : tie.Else1)
     → let given : tie.Start = search needs in
-    Within (mostGain + freshBound + tellBound) (told (graph given) (given .args .labels .now) (c .before .largest-on .result) (gains-one given))
+    Within (mostGain + freshBound + updateBound) (updated (graph given) (given .args .labels .now) (c .before .largest-on .result) (gains-one given))
 within-two c =
     let given : tie.Start = search needs in
-    told-within (graph given) (given .args .labels .now) (given .pre .0) (mostGain + freshBound) (gains-one given) (within-one given)
+    updated-within (graph given) (given .args .labels .now) (given .pre .0) (mostGain + freshBound) (gains-one given) (within-one given)
     (c .before .largest-on .result) (one c .1)
 
 -- the second choice
@@ -83,8 +83,8 @@ at-two :
     let given : tie.Start = search needs in
     c .largest-on2 .result ≡ placeOf (length (given .args .labels .now)) (choice-two given (after-largest-on .largest-on .result))
 at-two c =
-    let after-tell : tie.After-tell = search needs in
-    rw (told-is after-tell) at (c .largest-on2 .ensures)
+    let after-update-neighbours : tie.After-update-neighbours = search needs in
+    rw (updated-is after-update-neighbours) at (c .largest-on2 .ensures)
 
 two :
     (c : tie.Else2)
@@ -118,16 +118,16 @@ g-is c =
 
 h-is :
     (c : tie.After-h)
-    → let after-tell : tie.After-tell = search needs in
+    → let after-update-neighbours : tie.After-update-neighbours = search needs in
     let after-largest-on : tie.After-largest-on = search needs in
     let given : tie.Start = search needs in
-    toZ w64 (ofZ w64 (getD (after-tell .tell .last .1 .1 .1 .1 .0) (c .before .before .largest-on2 .result) (pos 0)))
-    ≡ getD (told (graph given) (given .args .labels .now) (after-largest-on .largest-on .result) (gains-one given))
+    toZ w64 (ofZ w64 (getD (after-update-neighbours .update-neighbours .last .1 .1 .1 .1 .0) (c .before .before .largest-on2 .result) (pos 0)))
+    ≡ getD (updated (graph given) (given .args .labels .now) (after-largest-on .largest-on .result) (gains-one given))
     (c .before .before .largest-on2 .result) (pos 0)
 h-is c =
-    let after-tell : tie.After-tell = search needs in
+    let after-update-neighbours : tie.After-update-neighbours = search needs in
     let else1 : tie.Else1 = search needs in
-    place-read _ _ (c .before .before .largest-on2 .result) (mostGain + freshBound + tellBound) (told-is after-tell) (within-two else1) (omega arith)
+    place-read _ _ (c .before .before .largest-on2 .result) (mostGain + freshBound + updateBound) (updated-is after-update-neighbours) (within-two else1) (omega arith)
 
 stop-is :
     (c : tie.After-stops)
@@ -135,7 +135,7 @@ stop-is :
     let after-largest-on : tie.After-largest-on = search needs in
     let given : tie.Start = search needs in
     let v = after-largest-on .largest-on .result in
-    c .stops .result ≡ leZ (getD (gains-one given) v (pos 0) +ℤ getD (told (graph given) (given .args .labels .now) v (gains-one given))
+    c .stops .result ≡ leZ (getD (gains-one given) v (pos 0) +ℤ getD (updated (graph given) (given .args .labels .now) v (gains-one given))
     (after-largest-on2 .largest-on2 .result) (pos 0)) (pos 0) && eqb (given .args .bad) 0
 stop-is c = rw (g-is (c .before), h-is (c .before)) at (c .stops .ensures)
 
@@ -157,9 +157,9 @@ same-length c = search needs
 returns : tie.Need-returns
 returns c =
     let given : tie.Start = search needs in
-    chose-none (setting (graph given) (given .args .first) (given .args .bad)) (given .args .labels .now) (given .args .gains .now)
+    chose-none (termsBy (graph given) (given .args .first) (given .args .bad)) (given .args .labels .now) (given .args .gains .now)
     (given .args .locks .now) _ _
-    (pair-one-out (setting (graph given) (given .args .first) (given .args .bad)) (given .args .labels .now) (given .args .gains .now)
+    (pair-one-out (termsBy (graph given) (given .args .first) (given .args .bad)) (given .args .labels .now) (given .args .gains .now)
     (given .args .locks .now)
     (place-none (length (given .args .labels .now)) _ (choice-one given)
     (λ u e. largest-in (λ v. true) (given .args .first) true (given .args .labels .now) (gains-one given)
@@ -177,8 +177,8 @@ slice-copy-out-g c =
     let given : tie.Start = search needs in
     omega (arith, one c .1, after-add-fresh .add-fresh .kept .1 .1 .1 .1 .0, given .pre .1)
 
-tell-requires : tie.Need-tell-requires
-tell-requires c κs =
+update-neighbours-requires : tie.Need-update-neighbours-requires
+update-neighbours-requires c κs =
     let after-add-fresh : tie.After-add-fresh = search needs in
     let given : tie.Start = search needs in (
       given .pre .0,
@@ -192,10 +192,10 @@ largest-on-requires-2 c κs =
     let else1 : tie.Else1 = search needs in
     let after-add-fresh : tie.After-add-fresh = search needs in
     let given : tie.Start = search needs in (
-      c .before .before .tell .kept .1 .1 .1 .1 .0 ∙ after-add-fresh .add-fresh .kept .1 .1 .1 .1 .0 ∙ given .pre .1,
+      c .before .before .update-neighbours .kept .1 .1 .1 .1 .0 ∙ after-add-fresh .add-fresh .kept .1 .1 .1 .1 .0 ∙ given .pre .1,
       given .pre .2,
       given .pre .0 .rows .few,
-      rw (told-is (c .before .before)) (λ u. omega (arith, within-two else1 u)),
+      rw (updated-is (c .before .before)) (λ u. omega (arith, within-two else1 u)),
     )
 
 same-length-2 : tie.Need-same-length-2
@@ -206,9 +206,9 @@ returns-2 c =
     let else1 : tie.Else1 = search needs in
     let after-largest-on : tie.After-largest-on = search needs in
     let given : tie.Start = search needs in
-    chose-none (setting (graph given) (given .args .first) (given .args .bad)) (given .args .labels .now) (given .args .gains .now)
+    chose-none (termsBy (graph given) (given .args .first) (given .args .bad)) (given .args .labels .now) (given .args .gains .now)
     (given .args .locks .now) _ _
-    (pair-two-out (setting (graph given) (given .args .first) (given .args .bad)) (given .args .labels .now) (given .args .gains .now)
+    (pair-two-out (termsBy (graph given) (given .args .first) (given .args .bad)) (given .args .labels .now) (given .args .gains .now)
     (given .args .locks .now) (after-largest-on .largest-on .result) (one else1 .0)
     (place-none (length (given .args .labels .now)) _ (choice-two given (after-largest-on .largest-on .result))
     (λ u e. largest-in (λ v. true) (given .args .first) false (given .args .labels .now) _ (given .args .locks .now) u e .0)
@@ -222,10 +222,10 @@ mul-h c =
 
 slice-copy-out-h : tie.Need-slice-copy-out-h
 slice-copy-out-h c =
-    let after-tell : tie.After-tell = search needs in
+    let after-update-neighbours : tie.After-update-neighbours = search needs in
     let after-add-fresh : tie.After-add-fresh = search needs in
     let given : tie.Start = search needs in
-    omega (arith, two c .1, after-tell .tell .kept .1 .1 .1 .1 .0, after-add-fresh .add-fresh .kept .1 .1 .1 .1 .0, given .pre .1)
+    omega (arith, two c .1, after-update-neighbours .update-neighbours .kept .1 .1 .1 .1 .0, after-add-fresh .add-fresh .kept .1 .1 .1 .1 .0, given .pre .1)
 
 stops-requires : tie.Need-stops-requires
 stops-requires c κs =
@@ -250,7 +250,7 @@ returns-3 c =
     let else1 : tie.Else1 = search needs in
     let after-largest-on : tie.After-largest-on = search needs in
     let given = start-of after-largest-on in
-    let S = setting (graph given) (given .args .first) (given .args .bad) in
+    let S = termsBy (graph given) (given .args .first) (given .args .bad) in
     chose-none S (given .args .labels .now) (given .args .gains .now) (given .args .locks .now) _ _
     (pair-stops S (given .args .labels .now) (given .args .gains .now) (given .args .locks .now) (after-largest-on .largest-on .result)
     (after-largest-on2 .largest-on2 .result) (one else1 .0) (two else2 .0) (sym (stop-is (c .before)) ∙ c .if3 .taken))
@@ -263,16 +263,16 @@ returns-4 : tie.Need-returns-4
 returns-4 c =
     let else2 : tie.Else2 = search needs in
     let after-largest-on2 : tie.After-largest-on2 = search needs in
-    let after-tell : tie.After-tell = search needs in
+    let after-update-neighbours : tie.After-update-neighbours = search needs in
     let else1 : tie.Else1 = search needs in
     let after-largest-on : tie.After-largest-on = search needs in
     let given = start-of after-largest-on in
-    let S = setting (graph given) (given .args .first) (given .args .bad) in
+    let S = termsBy (graph given) (given .args .first) (given .args .bad) in
     chose-some S (given .args .labels .now) (given .args .gains .now) (given .args .locks .now) (after-largest-on .largest-on .result)
     (after-largest-on2 .largest-on2 .result) _
     (pair-goes S (given .args .labels .now) (given .args .gains .now) (given .args .locks .now) (after-largest-on .largest-on .result)
     (after-largest-on2 .largest-on2 .result) (one else1 .0) (two else2 .0) (sym (stop-is (c .before)) ∙ c .if3 .left))
-    (told-is after-tell)
+    (updated-is after-update-neighbours)
 
 pub choose-pair-spec : {M : Type 1} → statement M
 choose-pair-spec =
@@ -284,7 +284,7 @@ choose-pair-spec =
     returns
     mul-g
     slice-copy-out-g
-    tell-requires
+    update-neighbours-requires
     largest-on-requires-2
     same-length-2
     returns-2

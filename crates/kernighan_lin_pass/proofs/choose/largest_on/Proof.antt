@@ -9,12 +9,12 @@ use borrow.Author.Needs.{sfits-of, needs}
 use mir.Syntax.{w64}
 use mir.Val.{toZ, ofZ}
 use mir.ValLaws.{toZ-ofZ}
-use Rattle.kernighan_lin_pass.proofs.Choices.{Held, held-none, turn-taken, turn-left, held-all}
+use Rattle.kernighan_lin_pass.proofs.Choices.{SoFar, so-far-none, step-taken, step-left, so-far-all}
 use Rattle.kernighan_lin_pass.proofs.choose.largest_on.Statement.{statement}
 use Rattle.kernighan_lin_pass.proofs.choose.largest_on.Tie as tie
 
 abbrev Inv-loop : tie.InvT-loop
-Inv-loop labels gains locks first side at₀ most₀ v₀ at most v = Held first side labels gains locks v at (toZ w64 most)
+Inv-loop labels gains locks first side at₀ most₀ v₀ at most v = SoFar first side labels gains locks v at (toZ w64 most)
 
 abbrev μ-loop : tie.MeasureT-loop
 μ-loop labels gains locks first side at₀ most₀ v₀ at most v = length labels - v
@@ -32,7 +32,7 @@ read c =
     toZ-ofZ w64 _ (sfits-of (omega (arith, given .pre .3 (entered .loop .v))))
 
 loop-holds : tie.Need-loop-holds Inv-loop μ-loop
-loop-holds c = held-none _ _ _ _ _
+loop-holds c = so-far-none _ _ _ _ _
 
 mul-gain : tie.Need-mul-gain Inv-loop μ-loop
 mul-gain c = search needs
@@ -67,14 +67,14 @@ loop-again c =
     let r = read (c .before) in
     let e = rw r at (c .before .takes .ensures) in
     ⊎-elim
-    (λ w. rw (w .1, w .2, r) (turn-taken (a .first) (a .side) (a .labels .now) (a .gains .now) (a .locks .now) (given .pre .3) (l .v)
+    (λ w. rw (w .1, w .2, r) (step-taken (a .first) (a .side) (a .labels .now) (a .gains .now) (a .locks .now) (given .pre .3) (l .v)
     (l .at) _ (l .inv) (turn .loop-test .taken) (sym e ∙ w .0 .taken)))
-    (λ w. rw (w .1, w .2) (turn-left (a .first) (a .side) (a .labels .now) (a .gains .now) (a .locks .now) (given .pre .3) (l .v) (l .at) _
+    (λ w. rw (w .1, w .2) (step-left (a .first) (a .side) (a .labels .now) (a .gains .now) (a .locks .now) (given .pre .3) (l .v) (l .at) _
     (l .inv) (turn .loop-test .taken) (sym e ∙ w .0 .left)))
     (c .if1 .came)
 
 returns : tie.Need-returns Inv-loop μ-loop
-returns c = held-all _ _ _ _ _ _ _ _ (c .before .loop .inv) (c .loop-test .left)
+returns c = so-far-all _ _ _ _ _ _ _ _ (c .before .loop .inv) (c .loop-test .left)
 
 pub largest-on-spec : {M : Type 1} → statement M
 largest-on-spec =

@@ -30,7 +30,7 @@ walk-swaps-requires c κs =
       gains-are = after-clear-gains .clear-gains .ensures
           ∙ written-whole n (pos 0) (λ i. pos 0) (given .args .gains .now) (given .pre .1 .gains-long);
       locks-are = after-clear-bytes .clear-bytes .ensures ∙ written-whole n 0 (λ i. 0) (given .args .locks .now) (given .pre .1 .locks-long);
-      room-for = given .pre .1 .room-for;
+      places-for = given .pre .1 .places-for;
       few = given .pre .1 .few;
       cut-is = given .pre .2;
     }
@@ -45,7 +45,7 @@ rewind-requires c κs =
     let given = start-of after-walk-swaps in
     let w = after-walk-swaps .walk-swaps in
     let e = w .ensures in
-    (e .kept-upto, omega (arith, e .upto, given .pre .1 .room-for, w .kept .1 .1 .1 .1 .1 .1 .0), rw (e .long) (e .coded))
+    (e .kept-upto, omega (arith, e .upto, given .pre .1 .places-for, w .kept .1 .1 .1 .1 .1 .1 .0), rw (e .long) (e .coded))
 
 same-length : tie.Need-same-length
 same-length c = search needs

@@ -7,8 +7,8 @@ use Prim.Native.Nat.{_-_, _<_}
 use native.Mathlib.Omega.{arith}
 use lib.ListN.{length}
 use Rattle.topology.specs.Graph.{inRows}
-use Rattle.kernighan_lin_pass.specs.Pass.{Setting, pair}
-use Rattle.kernighan_lin_pass.specs.inner.Steps.{setting}
+use Rattle.kernighan_lin_pass.specs.Pass.{Terms, pair}
+use Rattle.kernighan_lin_pass.specs.inner.Steps.{termsBy}
 use Rattle.kernighan_lin_pass.proofs.Walks.{On, on-start, on-full, on-none, on-next, fit-now, gains-small, answer-none, answer-some, pair-below}
 use borrow.Author.Needs.{needs}
 use Rattle.kernighan_lin_pass.proofs.pass.walk_swaps.Statement.{statement}
@@ -16,14 +16,14 @@ use Rattle.kernighan_lin_pass.proofs.pass.walk_swaps.Tie as tie
 
 abbrev Inv-loop : tie.InvT-loop
 Inv-loop starts neighbours arc-weights labels₀ gains₀ locks₀ swaps₀ first bad limit before n after₀ least₀ kept₀ k₀ labels gains locks swaps after least kept k =
-    On (setting (inRows starts neighbours arc-weights) first bad) limit labels₀ k labels gains locks swaps after least kept × (length swaps ≡ length swaps₀)
+    On (termsBy (inRows starts neighbours arc-weights) first bad) limit labels₀ k labels gains locks swaps after least kept × (length swaps ≡ length swaps₀)
 
 abbrev μ-loop : tie.MeasureT-loop
 μ-loop starts neighbours arc-weights labels₀ gains₀ locks₀ swaps₀ first bad limit before n after₀ least₀ kept₀ k₀ labels gains locks swaps after least kept k =
     limit - k
 
-abbrev S : tie.Start Inv-loop μ-loop → Setting
-S s = setting (inRows (s .args .starts .now) (s .args .neighbours .now) (s .args .arc-weights .now)) (s .args .first) (s .args .bad)
+abbrev S : tie.Start Inv-loop μ-loop → Terms
+S s = termsBy (inRows (s .args .starts .now) (s .args .neighbours .now) (s .args .arc-weights .now)) (s .args .first) (s .args .bad)
 
 -- the pair, where there is one
 paired :
@@ -63,7 +63,7 @@ placed :
 placed c =
     let turn : tie.In-loop Inv-loop μ-loop = search needs in
     let given : tie.Start Inv-loop μ-loop = search needs in
-    omega (arith, turn .before .loop .inv .1, turn .loop-test .taken, given .pre .room-for)
+    omega (arith, turn .before .loop .inv .1, turn .loop-test .taken, given .pre .places-for)
 
 loop-holds : tie.Need-loop-holds Inv-loop μ-loop
 loop-holds c =
@@ -136,7 +136,7 @@ note-requires c κs =
     let b = below else1 in
     let a = o .locks-long in
     let d = o .long in
-    (omega arith, omega arith, omega (arith, given .pre .fit .rows .few), omega (arith, l .inv .1, turn .loop-test .taken, given .pre .room-for))
+    (omega arith, omega arith, omega (arith, given .pre .fit .rows .few), omega (arith, l .inv .1, turn .loop-test .taken, given .pre .places-for))
 
 lower-requires : tie.Need-lower-requires Inv-loop μ-loop
 lower-requires c κs = tt

@@ -8,7 +8,7 @@ use lib.Dec.{ltb, eqb}
 use borrow.Author.Needs.{needs}
 use Rattle.imbalance.specs.Load.{part}
 use Rattle.topology.specs.Graph.{inRows}
-use Rattle.topology.proofs.RowWalks.{Walk, Summed, enters, further, over, none-summed, one-summed, summed-small}
+use Rattle.topology.proofs.RowWalks.{Walk, Summed, enters, further, at-end, none-summed, one-summed, summed-small}
 use Rattle.topology.proofs.cut.row_cut.Statement.{statement}
 use Rattle.topology.proofs.cut.row_cut.Tie as tie
 
@@ -82,7 +82,7 @@ loop-again c =
 returns : tie.Need-returns Inv-loop μ-loop
 returns c =
     let i = c .before .loop .inv in
-    (rw (over (i .0) (c .loop-test .left)) at (i .1 .sum-is), summed-small (i .1) (i .0))
+    (rw (at-end (i .0) (c .loop-test .left)) at (i .1 .sum-is), summed-small (i .1) (i .0))
 
 pub row-cut-spec : {M : Type 1} → statement M
 row-cut-spec =

@@ -10,7 +10,7 @@ use Rattle.lists.specs.All.{allFrom}
 use Rattle.lists.proofs.Alls.{from-none, from-more, from-fails}
 use Rattle.topology.specs.Graph.{inRows, neighbour, weight}
 use Rattle.topology.specs.Rule.{hasArc}
-use Rattle.topology.proofs.RowWalks.{Walk, enters, further, over}
+use Rattle.topology.proofs.RowWalks.{Walk, enters, further, at-end}
 use Rattle.topology.proofs.opposites.row_answered.Statement.{statement}
 use Rattle.topology.proofs.opposites.row_answered.Tie as tie
 
@@ -87,7 +87,7 @@ loop-again c =
 returns-2 : tie.Need-returns-2 Inv-loop μ-loop
 returns-2 c =
     let i = c .before .loop .inv in
-    sym (rw (over (i .0) (c .loop-test .left)) at (i .1))
+    sym (rw (at-end (i .0) (c .loop-test .left)) at (i .1))
 
 pub row-answered-spec : {M : Type 1} → statement M
 row-answered-spec =
