@@ -32,9 +32,10 @@ PAST = {'RunRecord': 'record { attempts = 0; moves = 0; «no_gain» = 0; «bad_b
 # the walked functions that lend an element of a local array of it (lends), and under a name of their own the walked functions
 # that differ in the length of a local array of records and in the function that makes it, and share one Lts (alike).
 CONF = {
-    'fiduccia_mattheyses': dict(
+    'fiduccia_mattheyses_pass': dict(
         own=['put_move', 'move_at', 'clear'],
-        walked=['walk_moves', 'rewind', 'make_pass', 'make_passes', 'refine', 'fiduccia_mattheyses']),
+        walked=['walk_moves', 'rewind', 'make_pass']),
+    'fiduccia_mattheyses': dict(own=[], walked=['make_passes', 'refine', 'fiduccia_mattheyses']),
     'fiduccia_mattheyses_records': dict(own=[], walked=['with_8_moves', 'with_512_moves'], alike={'with_moves': ['with_8_moves', 'with_512_moves']}),
     'arc_swap': dict(
         own=['note', 'zero_run'],
@@ -157,9 +158,9 @@ class Sources:
                 head = used.group(1).split('::') if used else []
             yield (head[0] if head and head[0] in self.texts else crate), last
 
-    def analogue(self, crate, walked):
-        """The sources of the analogue: the walked functions, what they call with bodies of zeros, every type, and what these need."""
-        wanted = {(crate, f) for f in walked}
+    def analogue(self, crate, walked, own=()):
+        """The sources of the analogue: the walked functions, with bodies of zeros those proved by hand and what the walked ones call, every type, and what these need."""
+        wanted = {(crate, f) for f in [*walked, *own]}
         for module, s in self.texts[crate].items():
             for name, _, body, end, _ in functions(s):
                 if name in walked: wanted |= set(self.calls(crate, module, s[body:end]))
@@ -409,7 +410,7 @@ def make(crate, scratch):
     below = crates_below(open(f'{REPO}/crates.txt').read().split('\n'), crate)
     read = lambda c, f: silent(open(f'{REPO}/crates/{c}/src/{f}').read())
     sources = Sources({c: {'' if f == 'lib.rt' else f[:-3]: read(c, f) for f in sorted(os.listdir(f'{REPO}/crates/{c}/src'))} for c in below})
-    analogue = sources.analogue(crate, CONF[crate]['walked'])
+    analogue = sources.analogue(crate, CONF[crate]['walked'], CONF[crate]['own'])
     emit(f'{scratch}/crates.txt', ''.join(f'{c}: {" ".join(d for d in below[c] if d in analogue)}\n' for c in analogue))
     for c, files in analogue.items():
         emit(f'{scratch}/crates/{c}/specs/Lib.antt', 'pub mod Any\n')

@@ -1,18 +1,18 @@
-// The C entry points, as include/daunsrevit.h declares them. Each only calls the checked entry of its crate and has that entry's promise.
+// The C entry points, as include/daunsrevit.h declares them. Each only calls the checked entry of its crate and has that entry's promise. Document 01, "Numbers a call gives back".
 ghost use mathlib.Core.Path.{_≡_};
 ghost use Rattle.imbalance.specs.Number.{loadsAnswer};
 ghost use Rattle.topology.specs.Graph.{inRows};
 ghost use Rattle.topology.specs.Number.{edgeCutAnswer, lambdaCutAnswer};
-ghost use Rattle.fiduccia_mattheyses.specs.Entry.{Refined};
+ghost use Rattle.fiduccia_mattheyses.specs.Entry as FM;
 ghost use Rattle.kernighan_lin.specs.Entry as KL;
-ghost use Rattle.arc_swap.specs.Entry.{Refined as SwapRefined};
+ghost use Rattle.arc_swap.specs.Entry as Swap;
 ghost use Rattle.plan.specs.Read.{Read};
 ghost use Rattle.plan.specs.Write.{Written};
 ghost use Rattle.eight_block_grid.specs.SelfTest.{Tested};
 use arc_swap::RunRecord;
-use fiduccia_mattheyses::Move;
 use fiduccia_mattheyses::Report;
 use fiduccia_mattheyses::Settings;
+use fiduccia_mattheyses_pass::Move;
 use imbalance::Ceiling;
 use imbalance::LoadsAnswer;
 use plan::ReadAnswer;
@@ -68,7 +68,7 @@ pub extern "C" fn daunsrevit_fiduccia_mattheyses(
     rows_rewound: &mut [u32],
     s: Settings,
 ) -> Report
-    ensures { λ r. ⌜ Refined
+    ensures { λ r. ⌜ FM.Refined
         (record { starts = now (starts .entry); neighbours = now (neighbours .entry); arcs = now («arc_weights» .entry); weights = now (weights .entry); settings = s })
         (record { labels = now (labels .entry); gains = now (gains .entry); moves = now (moves .entry); made = now («rows_made» .entry); rewound = now («rows_rewound» .entry) })
         r
@@ -132,7 +132,7 @@ pub extern "C" fn daunsrevit_arc_swap(
     settings: arc_swap::Settings,
     run: &mut RunRecord,
 ) -> arc_swap::Report
-    ensures { λ r. ⌜ SwapRefined
+    ensures { λ r. ⌜ Swap.Refined
         (record { starts = now (starts .entry); neighbours = now (neighbours .entry); arcs = now («arc_weights» .entry); weights = now (weights .entry); settings = settings })
         (record { labels = now (labels .entry); stack = now (stack .entry); run = now (run .entry) })
         r

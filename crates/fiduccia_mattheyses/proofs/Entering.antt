@@ -28,13 +28,15 @@ use Rattle.topology.proofs.Numbers.{sound}
 use Rattle.fiduccia_mattheyses_pass.specs.Choice.{Terms}
 use Rattle.fiduccia_mattheyses_pass.specs.Pass.{Pass}
 use Rattle.fiduccia_mattheyses_pass.specs.inner.Standing.{Fixed}
-use Rattle.fiduccia_mattheyses.specs.declared.Move.{Move}
+use Rattle.fiduccia_mattheyses_pass.specs.declared.Move.{Move}
 use Rattle.fiduccia_mattheyses.specs.declared.Report.{Report}
 use Rattle.fiduccia_mattheyses.specs.declared.Ended.{Ended}
 use Rattle.fiduccia_mattheyses.specs.Run.{Run, run}
 use Rattle.topology.specs.Given.{graphOf}
-use Rattle.fiduccia_mattheyses.specs.Entry.{Given, Lent, askedCeiling, unfit, short, lengthsOf, numberOf, number, termsOf, runOf, noMove, refused, empty, reportOf, leftBy, answer, left, Refined}
-use Rattle.fiduccia_mattheyses.specs.inner.Steps.{termsBy, PassesAsked, PassesDone, Ready, Ran}
+use Rattle.fiduccia_mattheyses_pass.specs.Pass.{noMove}
+use Rattle.fiduccia_mattheyses.specs.Entry.{Given, Lent, askedCeiling, unfit, short, lengthsOf, numberOf, number, termsOf, runOf, refused, empty, reportOf, leftBy, answer, left, Refined}
+use Rattle.fiduccia_mattheyses_pass.specs.inner.Steps.{termsBy}
+use Rattle.fiduccia_mattheyses.specs.inner.Steps.{PassesAsked, PassesDone, Ready, Ran}
 
 -- ---- a call's number k is that of its checks m, unless there is no vertex
 pub checked : (n k m : ℕ) → k ≡ cond (eqb n 0) 0 m → (n ≡ 0 → ⊥) → k ≡ m

@@ -14,7 +14,8 @@ use Rattle.fiduccia_mattheyses_pass.specs.Pass.{Pass, pass}
 use Rattle.fiduccia_mattheyses_pass.proofs.MoveLimits.{pass-limit}
 use Rattle.fiduccia_mattheyses.specs.Run.{Run, run}
 use Rattle.topology.specs.Given.{graphOf}
-use Rattle.fiduccia_mattheyses.specs.Entry.{Given, withMoves, Lent, unfit, numberOf, number, termsOf, runOf, noMove, refused, empty, reportOf, leftBy, answer, left}
+use Rattle.fiduccia_mattheyses_pass.specs.Pass.{noMove}
+use Rattle.fiduccia_mattheyses.specs.Entry.{Given, withMoves, Lent, unfit, numberOf, number, termsOf, runOf, refused, empty, reportOf, leftBy, answer, left}
 use Rattle.fiduccia_mattheyses.proofs.Running.{mades, rewounds, run-last, run-more}
 use Rattle.fiduccia_mattheyses.proofs.Single.{pass-long}
 

@@ -14,12 +14,13 @@ use Rattle.imbalance.specs.declared.Loads.{Loads}
 use Rattle.topology.specs.Cut.{cut}
 use Rattle.fiduccia_mattheyses_pass.specs.Choice.{Terms}
 use Rattle.fiduccia_mattheyses_pass.specs.Pass.{Pass, pass}
-use Rattle.fiduccia_mattheyses.specs.declared.Move.{Move}
-use Rattle.fiduccia_mattheyses.specs.declared.Passed.{Passed}
+use Rattle.fiduccia_mattheyses_pass.specs.declared.Move.{Move}
+use Rattle.fiduccia_mattheyses_pass.specs.declared.Passed.{Passed}
 use Rattle.fiduccia_mattheyses.specs.declared.Ended.{Ended}
 use Rattle.fiduccia_mattheyses.specs.Run.{Run, run}
 use Rattle.fiduccia_mattheyses.specs.declared.Course.the-variants.{Ends, GoesOn}
-use Rattle.fiduccia_mattheyses.specs.inner.Steps.{PassAsked, PassDone, RowAsked, RowDone, courseOf, PassesAsked, PassesDone}
+use Rattle.fiduccia_mattheyses_pass.specs.inner.Steps.{PassAsked, PassDone}
+use Rattle.fiduccia_mattheyses.specs.inner.Steps.{RowAsked, RowDone, courseOf, PassesAsked, PassesDone}
 
 -- the rows so far, before those of the rest of the run
 abbrev after-rows : List Pass → Run → Run

@@ -15,7 +15,8 @@ use Rattle.fiduccia_mattheyses.specs.declared.Settings.{Settings}
 use Rattle.fiduccia_mattheyses.specs.declared.Report.{Report}
 use Rattle.fiduccia_mattheyses.specs.Run.{run}
 use Rattle.topology.specs.Given.{graphOf}
-use Rattle.fiduccia_mattheyses.specs.Entry.{Given, Lent, askedCeiling, unfit, numberOf, number, termsOf, noMove, empty, refused, reportOf, leftBy, answer, left}
+use Rattle.fiduccia_mattheyses_pass.specs.Pass.{noMove}
+use Rattle.fiduccia_mattheyses.specs.Entry.{Given, Lent, askedCeiling, unfit, numberOf, number, termsOf, empty, refused, reportOf, leftBy, answer, left}
 use Rattle.fiduccia_mattheyses.specs.Used.{SameSettings, withSettings}
 use Rattle.fiduccia_mattheyses.proofs.Refusals.{number-smallest}
 

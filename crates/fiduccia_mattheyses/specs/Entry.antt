@@ -18,12 +18,12 @@ use Rattle.topology.specs.Graph.{Graph}
 use Rattle.topology.specs.Given.{GivenWith, graphOf}
 use Rattle.topology.specs.Rule.{graphNumber}
 use Rattle.topology.specs.Cut.{cut}
-use Rattle.fiduccia_mattheyses.specs.declared.Move.{Move}
+use Rattle.fiduccia_mattheyses_pass.specs.declared.Move.{Move}
 use Rattle.fiduccia_mattheyses.specs.declared.Settings.{Settings}
 use Rattle.fiduccia_mattheyses.specs.declared.Report.{Report}
 use Rattle.fiduccia_mattheyses.specs.declared.Lengths.{Lengths}
 use Rattle.fiduccia_mattheyses_pass.specs.Choice.{Terms}
-use Rattle.fiduccia_mattheyses_pass.specs.Pass.{Pass}
+use Rattle.fiduccia_mattheyses_pass.specs.Pass.{Pass, noMove}
 use Rattle.fiduccia_mattheyses.specs.Run.{Run, run}
 
 -- what is only read
@@ -91,10 +91,6 @@ termsOf p l =
 -- the run that the call makes
 abbrev pub runOf : Given → Lent → Run
 runOf p l = run (termsOf p l) (p .settings .passes) (l .labels)
-
--- the record of no move
-abbrev pub noMove : Move
-noMove = record { vertex = 0; part = 0 }
 
 -- a report of zeros but for the number and the end
 abbrev pub bare : ℕ → ℕ → Report

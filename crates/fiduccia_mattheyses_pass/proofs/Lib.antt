@@ -1,4 +1,4 @@
--- The laws of a pass's moves.
+-- The laws of a pass and its moves, and the machine-made walks of the functions over lists of move records.
 pub mod Moved
 pub mod Beats
 pub mod Looks
@@ -14,3 +14,10 @@ pub mod Walks
 pub mod Keeps
 pub mod MoveLimits
 pub mod Zeros
+pub mod Walking
+pub mod Rewinding
+pub mod Passing
+pub mod Place
+pub mod Again
+pub mod Plain
+pub mod walk

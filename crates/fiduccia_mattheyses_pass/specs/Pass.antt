@@ -6,12 +6,17 @@ use Prim.Native.Nat.{ℕ, zero, suc, _+_, _-_}
 use lib.ListN.{length, take}
 use lib.Dec.{ltb, leb}
 use Rattle.topology.specs.Cut.{cut}
+use Rattle.fiduccia_mattheyses_pass.specs.declared.Move.{Move}
 use Rattle.fiduccia_mattheyses_pass.specs.Choice.{Terms, flip, choice, isBad}
 
 -- the vertices vs go to the other part, one after the other
 unfoldable pub flips : List ℕ → List ℕ → List ℕ
 flips p [] = p
 flips p (v ∷ vs) = flips (flip p v) vs
+
+-- "The moves of a pass stand in a lent list of move records: vertex and part before": the record of no move
+abbrev pub noMove : Move
+noMove = record { vertex = 0; part = 0 }
 
 -- Where a pass stands: the labels, the vertices moved, in order, the bad counter, the least cut so far, and after how many moves it was first met.
 pub record State : Type 0 where

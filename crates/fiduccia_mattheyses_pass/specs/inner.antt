@@ -4,3 +4,4 @@ pub mod Scan
 pub mod Standing
 pub mod Look
 pub mod Update
+pub mod Steps

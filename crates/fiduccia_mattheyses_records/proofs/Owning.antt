@@ -2,7 +2,7 @@
 use mathlib.Core.Path.{_≡_, subst}
 use mathlib.Core.List.{List}
 use Prim.Native.Nat.{ℕ}
-use Rattle.fiduccia_mattheyses.specs.declared.Move.{Move}
+use Rattle.fiduccia_mattheyses_pass.specs.declared.Move.{Move}
 use Rattle.fiduccia_mattheyses.specs.declared.Report.{Report}
 use Rattle.fiduccia_mattheyses.specs.Entry.{Given, Lent, Refined}
 use Rattle.fiduccia_mattheyses_records.specs.Own.{Lists, blank, lentWith, RefinedWith}

@@ -4,9 +4,10 @@ use mathlib.Core.List.{List}
 use Prim.Native.Nat.{ℕ}
 use lib.ListN.{replicate}
 use lib.IntN.{ℤ}
-use Rattle.fiduccia_mattheyses.specs.declared.Move.{Move}
+use Rattle.fiduccia_mattheyses_pass.specs.declared.Move.{Move}
 use Rattle.fiduccia_mattheyses.specs.declared.Report.{Report}
-use Rattle.fiduccia_mattheyses.specs.Entry.{Given, Lent, noMove, answer, left}
+use Rattle.fiduccia_mattheyses_pass.specs.Pass.{noMove}
+use Rattle.fiduccia_mattheyses.specs.Entry.{Given, Lent, answer, left}
 
 -- what the caller lends: every list of FM's but the moves
 pub record Lists : Type 0 where

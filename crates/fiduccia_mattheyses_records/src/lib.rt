@@ -1,9 +1,9 @@
 // FM for callers written in Rattle: the list of move records is the function's own, so that a caller has no reference to a record. Document 01, "FM".
 ghost use mathlib.Core.Path.{_≡_};
 ghost use Rattle.fiduccia_mattheyses_records.specs.Own.{blank, RefinedWith};
-use fiduccia_mattheyses::Move;
 use fiduccia_mattheyses::Report;
 use fiduccia_mattheyses::Settings;
+use fiduccia_mattheyses_pass::Move;
 
 // Eight records of no move.
 fn blank_8() -> [Move; 8]

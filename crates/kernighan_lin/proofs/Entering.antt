@@ -23,8 +23,8 @@ use Rattle.topology.specs.Rule.{graphNumber}
 use Rattle.topology.proofs.Numbers.{sound}
 use Rattle.kernighan_lin_pass.specs.inner.Steps.{Fit}
 use Rattle.topology.specs.Given.{graphOf}
-use Rattle.kernighan_lin.specs.Entry.{Given, Lent, uses, different, mislabelled, short, numberOf, number, termsOf, runOf, reportOf, refused, leftBy, answer, left, Refined}
-use Rattle.kernighan_lin.specs.inner.Steps.{Ran}
+use Rattle.kernighan_lin.specs.Entry.{Given, Lent, uses, different, mislabelled, lengthsOf, short, numberOf, number, termsOf, runOf, reportOf, refused, leftBy, answer, left, Refined}
+use Rattle.kernighan_lin.specs.inner.Steps.{PassesDone}
 use Rattle.kernighan_lin.specs.declared.Report.{Report}
 
 -- without a vertex there is no label
@@ -35,7 +35,7 @@ none-used labels e =
     ∙ sum-zero 16
 
 -- what number 0 tells
-pub record Admitted (p : Given) (l : Lent) : Type 0 where
+pub record Ready (p : Given) (l : Lent) : Type 0 where
   pub fit : Fit (length (l .labels)) (graphOf p)
   pub a-vertex : 0 < length (l .labels)
   pub few-passes : p .settings .passes ≤ mostPasses
@@ -43,16 +43,16 @@ pub record Admitted (p : Given) (l : Lent) : Type 0 where
   pub in-locks : length (l .labels) ≤ length (l .locks)
   pub in-swaps : length (l .labels) / 2 ≤ length (l .swaps)
 
-pub admitted : (p : Given) (l : Lent) (k : ℕ) → k ≡ number p l → k ≡ 0 → Admitted p l
+pub ready : (p : Given) (l : Lent) (k : ℕ) → k ≡ number p l → k ≡ 0 → Ready p l
 unfolding numberOf mislabelled short
-admitted p l k e z =
+ready p l k e z =
     let n = length (l .labels) in
-    let eight : ℕ = cond (short n (length (l .gains)) (length (l .locks)) (length (l .swaps))) 8 0 in
+    let eight : ℕ = cond (short n (lengthsOf l)) 8 0 in
     let seven : ℕ = cond (ltb mostPasses (p .settings .passes)) 7 eight in
     let one = or-else-zero (graphNumber n (p .weights) (graphOf p)) (cond (mislabelled (l .labels)) 6 seven) (sym e ∙ z) in
     let six = not-given (mislabelled (l .labels)) 5 seven (one .1) in
     let passes = not-given (ltb mostPasses (p .settings .passes)) 6 eight (six .1) in
-    let places = not-given (short n (length (l .gains)) (length (l .locks)) (length (l .swaps))) 7 0 (passes .1) in
+    let places = not-given (short n (lengthsOf l)) 7 0 (passes .1) in
     let both = or-false (ltb (length (l .gains)) n || ltb (length (l .locks)) n) (ltb (length (l .swaps)) (n / 2)) (places .0) in
     let two = or-false (ltb (length (l .gains)) n) (ltb (length (l .locks)) n) (both .0) in
     let labels = or-false (labelAbove 15 (l .labels)) (not (eqb (different (l .labels)) 2)) (six .0) in
@@ -107,7 +107,7 @@ at-refusal p l r k e u f =
     record { answered = rw v (f ∙ ap refused e); labels = rw v refl; gains = rw v refl; locks = rw v refl; swaps = rw v refl }
 
 pub at-run : (p : Given) (l : Lent) (r : Report) (m : Lent) (k : ℕ) → k ≡ number p l → k ≡ 0
-    → Ran (termsOf p l) (p .settings .swaps) (p .settings .passes) (l .labels) r (m .labels)
+    → PassesDone (termsOf p l) (p .settings .swaps) (p .settings .passes) (l .labels) r (m .labels)
     → m .gains ≡ filled (pos 0) (length (l .labels)) (l .gains)
     → m .locks ≡ filled 0 (length (l .labels)) (l .locks)
     → m .swaps ≡ filled 0 (length (l .labels) / 2) (l .swaps)

@@ -16,11 +16,11 @@ use Rattle.topology.specs.Rules.{graphRules}
 use Rattle.topology.proofs.Refusals.{graph-first}
 use Rattle.kernighan_lin.specs.declared.Report.{Report}
 use Rattle.topology.specs.Given.{graphOf}
-use Rattle.kernighan_lin.specs.Entry.{Given, Lent, mislabelled, short, numberOf, number, reportOf, refused, answer, Refined}
+use Rattle.kernighan_lin.specs.Entry.{Given, Lent, mislabelled, lengthsOf, short, numberOf, number, reportOf, refused, answer, Refined}
 use Rattle.kernighan_lin.specs.Rules.{Labelled, LongEnough, rules}
 use Rattle.kernighan_lin.proofs.TwoLabels.{labelled-so}
 
-long-enough : (l : Lent) → (short (length (l .labels)) (length (l .gains)) (length (l .locks)) (length (l .swaps)) ≡ false) ↔ LongEnough l
+long-enough : (l : Lent) → (short (length (l .labels)) (lengthsOf l) ≡ false) ↔ LongEnough l
 unfolding short
 long-enough l =
     let n = length (l .labels) in
@@ -42,7 +42,7 @@ number-smallest p l =
     (thence (rules p l) 1 6 9 k _ (omega arith) (with-more graph own 1 6 k (omega arith) (graph-first n (p .weights) (graphOf p)))
     (tested (rules p l) 6 9 _ (mislabelled (l .labels)) (omega arith) (omega arith) (labelled-so (l .labels))
     (tested (rules p l) 7 9 _ (ltb mostPasses passes) (omega arith) (omega arith) (at-most mostPasses passes)
-    (tested (rules p l) 8 9 0 (short n (length (l .gains)) (length (l .locks)) (length (l .swaps))) (omega arith) (omega arith) (long-enough l)
+    (tested (rules p l) 8 9 0 (short n (lengthsOf l)) (omega arith) (omega arith) (long-enough l)
     (passed (rules p l) 9)))))
 
 -- "The smallest number that applies is given; 0 only if none does": of every call of KL, one without a vertex included.

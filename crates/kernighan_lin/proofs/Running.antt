@@ -11,7 +11,7 @@ use Rattle.topology.specs.Cut.{cut}
 use Rattle.kernighan_lin_pass.specs.Pass.{Terms, start, walk, pass}
 use Rattle.kernighan_lin_pass.specs.inner.Steps.{LentLong}
 use Rattle.kernighan_lin.specs.Run.{Run, run}
-use Rattle.kernighan_lin.specs.inner.Steps.{Ready, Ran}
+use Rattle.kernighan_lin.specs.inner.Steps.{PassesAsked, PassesDone}
 
 module _ (s : Terms) (w : ℕ) where
   -- a pass that lowers the cut goes on to the next
@@ -40,7 +40,7 @@ pub record Passing (s : Terms) (most passes : ℕ) (p₀ : List ℕ) (i last : �
   pub rest : run s most (passes - i) i labels ≡ run s most passes 0 p₀
 
 module _ (s : Terms) (most passes : ℕ) (p₀ : List ℕ) where
-  pub passing-start : (gains : List ℤ) (locks swaps : List ℕ) (last : ℕ) → Ready (s .graph) p₀ gains locks swaps passes → last ≡ cut (s .graph) p₀ → Passing s most passes p₀ 0 last p₀ gains locks swaps
+  pub passing-start : (gains : List ℤ) (locks swaps : List ℕ) (last : ℕ) → PassesAsked (s .graph) p₀ gains locks swaps passes → last ≡ cut (s .graph) p₀ → Passing s most passes p₀ 0 last p₀ gains locks swaps
   passing-start gains locks swaps last h e =
       record {
         upto = omega arith;
@@ -86,7 +86,7 @@ module _ (s : Terms) (most passes : ℕ) (p₀ : List ℕ) where
                 ∙ on .rest;
           }
 
-      pub pass-ends : (before : ℕ) → before ≡ cut (s .graph) p₀ → last ≤ c → Ran s most passes p₀ (record { number = 0; end = 1; passes = i + 1; first = before; last = c }) after
+      pub pass-ends : (before : ℕ) → before ≡ cut (s .graph) p₀ → last ≤ c → PassesDone s most passes p₀ (record { number = 0; end = 1; passes = i + 1; first = before; last = c }) after
       pass-ends before b h =
           let q = pass-is limit after e f in
           let n = on .last-is in
@@ -104,7 +104,7 @@ module _ (s : Terms) (most passes : ℕ) (p₀ : List ℕ) where
             labels-are = q ∙ ap (λ (x : Run). x .labels) r;
           }
 
-    pub limit-ends : (before : ℕ) → before ≡ cut (s .graph) p₀ → passes ≤ i → Ran s most passes p₀ (record { number = 0; end = 0; passes = i; first = before; last = last }) labels
+    pub limit-ends : (before : ℕ) → before ≡ cut (s .graph) p₀ → passes ≤ i → PassesDone s most passes p₀ (record { number = 0; end = 0; passes = i; first = before; last = last }) labels
     limit-ends before b h =
         let z : passes - i ≡ 0 = omega arith in
         let r : record { end = 0; passes = i; labels = labels } ≡ run s most passes 0 p₀ = sym (run-out s most (passes - i) i labels z) ∙ on .rest in

@@ -17,6 +17,7 @@ use Rattle.topology.specs.Given.{GivenWith, graphOf}
 use Rattle.topology.specs.Rule.{graphNumber}
 use Rattle.topology.specs.Cut.{cut}
 use Rattle.kernighan_lin_pass.specs.Pass.{Terms}
+use Rattle.kernighan_lin.specs.declared.Lengths.{Lengths}
 use Rattle.kernighan_lin.specs.declared.Settings.{Settings}
 use Rattle.kernighan_lin.specs.declared.Report.{Report}
 use Rattle.kernighan_lin.specs.Run.{Run, run}
@@ -44,21 +45,25 @@ different labels = sum 16 (λ t. weigh (uses labels t) 1)
 unfoldable pub mislabelled : List ℕ → Bool
 mislabelled labels = labelAbove 15 labels || not (eqb (different labels) 2)
 
+-- the lengths of the lent lists
+abbrev pub lengthsOf : Lent → Lengths
+lengthsOf l = record { gains = length (l .gains); locks = length (l .locks); swaps = length (l .swaps) }
+
 -- 8: "a lent working list is too short". "Lists: gains n, locks n, swaps n/2 rounded down."
-unfoldable pub short : ℕ → ℕ → ℕ → ℕ → Bool
-short n gains locks swaps = ltb gains n || ltb locks n || ltb swaps (n / 2)
+unfoldable pub short : ℕ → Lengths → Bool
+short n lengths = ltb (lengths .gains) n || ltb (lengths .locks) n || ltb (lengths .swaps) (n / 2)
 
 -- "The smallest number that applies is given; 0 only if none does": 7 is a "pass limit above 1,024"
-unfoldable pub numberOf : Graph → List ℕ → List ℕ → ℕ → ℕ → ℕ → ℕ → ℕ
-numberOf g weights labels gains locks swaps passes =
+unfoldable pub numberOf : Graph → List ℕ → List ℕ → Lengths → ℕ → ℕ
+numberOf g weights labels lengths passes =
     orElse (graphNumber (length labels) weights g)
     (cond (mislabelled labels) 6
     (cond (ltb mostPasses passes) 7
-    (cond (short (length labels) gains locks swaps) 8 0)))
+    (cond (short (length labels) lengths) 8 0)))
 
 -- the call's number
 abbrev pub number : Given → Lent → ℕ
-number p l = numberOf (graphOf p) (p .weights) (l .labels) (length (l .gains)) (length (l .locks)) (length (l .swaps)) (p .settings .passes)
+number p l = numberOf (graphOf p) (p .weights) (l .labels) (lengthsOf l) (p .settings .passes)
 
 -- "First part is the label met first in the labels as given, for all passes": that of vertex 0. Today every vertex may move.
 abbrev pub termsOf : Given → Lent → Terms
@@ -94,11 +99,11 @@ leftBy p l =
       swaps = filled 0 (length (l .labels) / 2) (l .swaps);
     }
 
--- the answer
+-- THE ANSWER
 unfoldable pub answer : Given → Lent → Report
 answer p l = cond (eqb (number p l) 0) (reportOf p l) (refused (number p l))
 
--- the lists afterwards: "A refusal writes nothing anywhere"
+-- THE LISTS: "A refusal writes nothing anywhere"
 unfoldable pub left : Given → Lent → Lent
 left p l = cond (eqb (number p l) 0) (leftBy p l) l
 

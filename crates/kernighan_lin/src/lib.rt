@@ -7,7 +7,7 @@ ghost use lib.ListN.{getD};
 ghost use Rattle.topology.specs.Graph.{inRows};
 ghost use Rattle.kernighan_lin_pass.specs.inner.Steps.{termsBy};
 ghost use Rattle.kernighan_lin.specs.Entry.{Refined};
-ghost use Rattle.kernighan_lin.specs.inner.Steps.{Ready, Ran};
+ghost use Rattle.kernighan_lin.specs.inner.Steps.{PassesAsked, PassesDone};
 
 // The limits of a run: passes, swaps in a pass, and bad swaps.
 #[repr(C)]
@@ -25,6 +25,13 @@ pub struct Report {
     pub passes: u32,
     pub first: u64,
     pub last: u64,
+}
+
+// The lengths of the lent lists.
+pub struct Lengths {
+    pub gains: usize,
+    pub locks: usize,
+    pub swaps: usize,
 }
 
 // The most swaps of a pass: half the vertices, rounded down, and the swap limit.
@@ -50,8 +57,8 @@ fn make_passes(
     swaps: &mut [u32],
     settings: Settings,
 ) -> Report
-    requires { ⌜ Ready (inRows (now starts) (now neighbours) (now «arc_weights»)) (now labels) (now gains) (now locks) (now swaps) (settings .passes) ⌝ }
-    ensures { λ r. ⌜ Ran (termsBy (inRows (now (starts .entry)) (now (neighbours .entry)) (now («arc_weights» .entry))) (getD (now (labels .entry)) 0 0) (settings .bad)) (settings .swaps) (settings .passes) (now (labels .entry)) r (now (labels .exit)) ⌝ }
+    requires { ⌜ PassesAsked (inRows (now starts) (now neighbours) (now «arc_weights»)) (now labels) (now gains) (now locks) (now swaps) (settings .passes) ⌝ }
+    ensures { λ r. ⌜ PassesDone (termsBy (inRows (now (starts .entry)) (now (neighbours .entry)) (now («arc_weights» .entry))) (getD (now (labels .entry)) 0 0) (settings .bad)) (settings .swaps) (settings .passes) (now (labels .entry)) r (now (labels .exit)) ⌝ }
 {
     let first = labels[0];
     let bad = settings.bad;
@@ -116,16 +123,20 @@ pub fn kernighan_lin(
 {
     let n = labels.len();
     let half = n / 2;
+    let lengths = Lengths {
+        gains: gains.len(),
+        locks: locks.len(),
+        swaps: swaps.len(),
+    };
+    let passes = settings.passes;
     let number = number::number_of(
         starts,
         neighbours,
         arc_weights,
         weights,
         labels,
-        gains.len(),
-        locks.len(),
-        swaps.len(),
-        settings.passes,
+        lengths,
+        passes,
     );
     if number != 0 {
         return Report {

@@ -2,6 +2,7 @@
 ghost use mathlib.Core.Path.{_≡_};
 ghost use Rattle.topology.specs.Graph.{inRows};
 ghost use Rattle.kernighan_lin.specs.Entry.{uses, different, mislabelled, short, numberOf};
+use crate::Lengths;
 
 // Whether some vertex has label t.
 fn has_label(labels: &[u32], t: u32) -> bool
@@ -43,16 +44,16 @@ fn mislabels(labels: &[u32]) -> bool
 }
 
 // Number 8's test, of the lengths of the lent lists.
-fn too_short(n: usize, gains: usize, locks: usize, swaps: usize) -> bool
-    ensures { λ r. ⌜ r ≡ short n gains locks swaps ⌝ }
+fn too_short(n: usize, lengths: Lengths) -> bool
+    ensures { λ r. ⌜ r ≡ short n lengths ⌝ }
 {
-    if gains < n {
+    if lengths.gains < n {
         return true;
     }
-    if locks < n {
+    if lengths.locks < n {
         return true;
     }
-    swaps < n / 2
+    lengths.swaps < n / 2
 }
 
 // The smallest number that applies.
@@ -62,12 +63,10 @@ pub fn number_of(
     arc_weights: &[u32],
     weights: &[u32],
     labels: &[u32],
-    gains: usize,
-    locks: usize,
-    swaps: usize,
+    lengths: Lengths,
     passes: u32,
 ) -> u32
-    ensures { λ r. ⌜ r ≡ numberOf (inRows (now (starts .entry)) (now (neighbours .entry)) (now («arc_weights» .entry))) (now (weights .entry)) (now (labels .entry)) gains locks swaps passes ⌝ }
+    ensures { λ r. ⌜ r ≡ numberOf (inRows (now (starts .entry)) (now (neighbours .entry)) (now («arc_weights» .entry))) (now (weights .entry)) (now (labels .entry)) lengths passes ⌝ }
 {
     let n = labels.len();
     let number = topology::graph_number(starts, neighbours, arc_weights, weights, n);
@@ -80,7 +79,7 @@ pub fn number_of(
     if imbalance::MOST_PASSES < passes {
         return 7;
     }
-    if too_short(n, gains, locks, swaps) {
+    if too_short(n, lengths) {
         return 8;
     }
     0

@@ -1,4 +1,4 @@
-// The reader: the numbers that refuse a file, and the records of one that is accepted.
+// The reader: the numbers that refuse a file, and the records of one that is accepted. Document 01, "Plan blocks".
 use crate::ReadAnswer;
 use plan_blocks::ceiling;
 use plan_blocks::header;

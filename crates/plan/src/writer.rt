@@ -1,4 +1,4 @@
-// The writer: the numbers that refuse a plan, and the blocks of one that is accepted.
+// The writer: the numbers that refuse a plan, and the blocks of one that is accepted. Document 01, "Plan blocks".
 use imbalance::Ceiling;
 use plan_blocks::ceiling;
 use plan_blocks::header::Header;

@@ -1,4 +1,4 @@
-// The ceiling's value as 8 bytes: 0, a whole u32, or the bits of e.
+// The ceiling's value as 8 bytes: 0, a whole u32, or the bits of e. Document 01, "Plan blocks" and "Ceiling".
 use imbalance::Ceiling;
 ghost use mathlib.Core.Path.{_≡_};
 ghost use mathlib.Core.Bool.{false, cond};

@@ -1,4 +1,4 @@
-// The header of a plan: decoded from a file's first block or made of what is given, and its numbers judged.
+// The header of a plan: decoded from a file's first block or made of what is given, and its numbers judged. Document 01, "Plan blocks".
 use crate::ceiling;
 use crate::layout;
 use crate::words;

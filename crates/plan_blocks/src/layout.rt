@@ -1,4 +1,4 @@
-// How many blocks there are, and their kinds and record counts.
+// How many blocks there are, and their kinds and record counts. Document 01, "Plan blocks".
 ghost use mathlib.Core.Path.{_≡_};
 ghost use Prim.Native.Nat.{_+_, _*_, _/_, _%_, _≤_, _<_};
 ghost use Rattle.plan_blocks.specs.Block.{blocksFor, blocksOf, heldBy, kindAt, countAt};

@@ -1,4 +1,4 @@
-// Words of a file, little-endian: read, stored and summed.
+// Words of a file, little-endian: read, stored and summed. Document 01, "Plan blocks".
 ghost use mathlib.Core.Path.{_≡_};
 ghost use Prim.Native.Nat.{_+_, _*_, _/_, _%_, _≤_};
 ghost use lib.ListN.{length};

@@ -4,7 +4,7 @@ use mathlib.Core.Path.{refl, sym, _∙_}
 use Prim.Native.Nat.{_-_}
 use native.Mathlib.Omega.{arith}
 use borrow.Author.Needs.{needs}
-use Rattle.fiduccia_mattheyses.specs.inner.Steps.{termsBy}
+use Rattle.fiduccia_mattheyses_pass.specs.inner.Steps.{termsBy}
 use Rattle.fiduccia_mattheyses.proofs.Running.{Running, running-start, rows-long, row-asked, running-full, course-ends, course-goes-on}
 use Rattle.fiduccia_mattheyses.proofs.make_passes.Statement.{statement}
 use Rattle.fiduccia_mattheyses.proofs.make_passes.Proof.Tie as tie

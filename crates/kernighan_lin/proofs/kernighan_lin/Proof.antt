@@ -8,12 +8,12 @@ use lib.Seq.{length-take-le, length-front}
 use lib.IntN.{pos}
 use borrow.Author.Needs.{needs}
 use Rattle.kernighan_lin.specs.Entry.{Given, Lent}
-use Rattle.kernighan_lin.proofs.Entering.{Admitted, admitted, filled-front, at-refusal, at-run}
+use Rattle.kernighan_lin.proofs.Entering.{Ready, ready, filled-front, at-refusal, at-run}
 use Rattle.kernighan_lin.proofs.kernighan_lin.Statement.{statement}
 use Rattle.kernighan_lin.proofs.kernighan_lin.Tie as tie
 
-abbrev planned : tie.Start → Given
-planned s = record { starts = s .args .starts .now; neighbours = s .args .neighbours .now; arcs = s .args .arc-weights .now; weights = s .args .weights .now; settings = s .args .settings }
+abbrev given-by : tie.Start → Given
+given-by s = record { starts = s .args .starts .now; neighbours = s .args .neighbours .now; arcs = s .args .arc-weights .now; weights = s .args .weights .now; settings = s .args .settings }
 
 abbrev lent : tie.Start → Lent
 lent s = record { labels = s .args .labels .now; gains = s .args .gains .now; locks = s .args .locks .now; swaps = s .args .swaps .now }
@@ -22,10 +22,10 @@ lent s = record { labels = s .args .labels .now; gains = s .args .gains .now; lo
 ok :
     (c : tie.Else1)
     → let given : tie.Start = search needs in
-    Admitted (planned given) (lent given)
+    Ready (given-by given) (lent given)
 ok c =
     let given : tie.Start = search needs in
-    admitted (planned given) (lent given) (c .before .number-of .result) (c .before .number-of .ensures) (c .if1 .left)
+    ready (given-by given) (lent given) (c .before .number-of .result) (c .before .number-of .ensures) (c .if1 .left)
 
 -- each list after the run is as long as it was, and its front as long as was lent
 gains-whole :
@@ -78,7 +78,7 @@ same-length c = search needs
 returns : tie.Need-returns
 returns c =
     let given : tie.Start = search needs in
-    at-refusal (planned given) (lent given) _ (c .before .number-of .result) (c .before .number-of .ensures) (c .if1 .taken) refl
+    at-refusal (given-by given) (lent given) _ (c .before .number-of .result) (c .before .number-of .ensures) (c .if1 .taken) refl
 
 slice-relend-prefix-make-passes : tie.Need-slice-relend-prefix-make-passes
 slice-relend-prefix-make-passes c = ok (c .before) .in-gains
@@ -176,7 +176,7 @@ returns-2 c =
     let r = after-make-passes .make-passes in
     let a = ok else1 in
     let n = length (given .args .labels .now) in
-    at-run (planned given) (lent given) _ _ (after-number-of .number-of .result) (after-number-of .number-of .ensures) (else1 .if1 .left) (r .ensures)
+    at-run (given-by given) (lent given) _ _ (after-number-of .number-of .result) (after-number-of .number-of .ensures) (else1 .if1 .left) (r .ensures)
     (after-clear-gains .clear-gains .ensures
     ∙ filled-front (pos 0) n (r .last .1 .1 .1 .1 .0) (given .args .gains .now) (a .in-gains) (gains-whole after-make-passes .1))
     (after-clear-bytes .clear-bytes .ensures

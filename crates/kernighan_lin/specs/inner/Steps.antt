@@ -13,7 +13,7 @@ use Rattle.kernighan_lin.specs.Run.{run}
 use Rattle.kernighan_lin.specs.declared.Report.{Report}
 
 -- What the run asks.
-pub record Ready (g : Graph) (p : List ℕ) (gains : List ℤ) (locks swaps : List ℕ) (passes : ℕ) : Type 0 where
+pub record PassesAsked (g : Graph) (p : List ℕ) (gains : List ℤ) (locks swaps : List ℕ) (passes : ℕ) : Type 0 where
   pub fit : Fit (length p) g
   pub a-vertex : 0 < length p
   pub gains-long : length gains ≡ length p
@@ -22,7 +22,7 @@ pub record Ready (g : Graph) (p : List ℕ) (gains : List ℤ) (locks swaps : Li
   pub few-passes : passes ≤ mostPasses
 
 -- What the run answers, with at most so many swaps and passes, and the labels that it leaves.
-pub record Ran (s : Terms) (most passes : ℕ) (p : List ℕ) (r : Report) (labels : List ℕ) : Type 0 where
+pub record PassesDone (s : Terms) (most passes : ℕ) (p : List ℕ) (r : Report) (labels : List ℕ) : Type 0 where
   pub number-is : r .number ≡ 0
   pub end-is : r .end ≡ run s most passes 0 p .end
   pub passes-are : r .passes ≡ run s most passes 0 p .passes

@@ -1,3 +1,4 @@
+-- `arc_swap::number::number_of` meets its contract: each way out by the tests that led there. Assumes nothing.
 use mathlib.Core.Path.{sym, _∙_}
 use Rattle.lists.proofs.Numbers.{or-else-first, or-else-then}
 use Rattle.arc_swap.specs.Entry.{number}

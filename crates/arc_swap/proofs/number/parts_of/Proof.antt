@@ -1,3 +1,4 @@
+-- `arc_swap::number::parts_of` meets its contract. The invariant: the largest label of the vertices passed. Assumes nothing.
 use mathlib.Core.Path.{_≡_, refl, sym, _∙_}
 use mathlib.Core.Logic.{⊎-elim}
 use Prim.Native.Nat.{ℕ, _≤_, _-_}

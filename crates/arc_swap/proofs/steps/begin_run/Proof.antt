@@ -1,3 +1,4 @@
+-- `arc_swap::steps::begin_run` meets its contract: each call's answer is handed on by a law of `Entering`. Assumes nothing.
 use Rattle.arc_swap.proofs.Entering.{ceilings-asked, begins}
 use borrow.Author.Needs.{needs}
 use Rattle.arc_swap.proofs.steps.begin_run.Statement.{statement}

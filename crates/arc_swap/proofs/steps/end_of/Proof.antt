@@ -1,3 +1,4 @@
+-- `arc_swap::steps::end_of` meets its contract: each return rewrites with the tests that led there. Assumes nothing.
 use borrow.Author.Tests.{not-true, not-false, lt-ltb, le-ltb}
 use Rattle.arc_swap.proofs.steps.end_of.Statement.{statement}
 use Rattle.arc_swap.proofs.steps.end_of.Tie as tie

@@ -1,3 +1,4 @@
+-- `arc_swap::steps::next_run` meets its contract: no count can wrap, as none is above the attempts. Assumes nothing.
 use borrow.Author.Needs.{needs}
 use Rattle.arc_swap.proofs.steps.next_run.Statement.{statement}
 use Rattle.arc_swap.proofs.steps.next_run.Tie as tie

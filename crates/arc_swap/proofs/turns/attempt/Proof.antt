@@ -1,3 +1,4 @@
+-- `arc_swap::turns::attempt` meets its contract: what is asked and answered is handed on by laws of `Drains`. Assumes nothing.
 use mathlib.Core.Logic.{_⊎_, ⊎-elim}
 use mathlib.Core.Path.{_≡_, sym, _∙_}
 use Prim.Native.Nat.{ℕ}

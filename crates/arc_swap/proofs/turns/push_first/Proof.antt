@@ -1,3 +1,4 @@
+-- `arc_swap::turns::push_first` meets its contract: one law of `Taken` for each way out. Assumes nothing.
 use borrow.Author.Tests.{not-true, not-false}
 use Rattle.arc_swap.proofs.Taken.{first-off, first-full, first-alone}
 use borrow.Author.Needs.{needs}

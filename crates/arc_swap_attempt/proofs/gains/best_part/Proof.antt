@@ -1,3 +1,4 @@
+-- `arc_swap_attempt::gains::best_part` meets its contract. The invariant: the best of the parts passed. Assumes nothing.
 use mathlib.Core.Path.{_≡_}
 use mathlib.Core.Logic.{⊎-elim}
 use Prim.Native.Nat.{ℕ, _≤_, _-_}

@@ -1,3 +1,4 @@
+-- `arc_swap_attempt::gains::has_gain` meets its contract: the largest gain is positive where the best sum is above the own. Assumes nothing.
 use native.Mathlib.Omega.{arith}
 use Rattle.arc_swap_attempt.proofs.Tried.{own-below, has-gain-by}
 use borrow.Author.Needs.{needs}

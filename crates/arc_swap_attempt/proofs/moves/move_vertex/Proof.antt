@@ -1,3 +1,4 @@
+-- `arc_swap_attempt::moves::move_vertex` meets its contract: loads, label, pushes and cut are handed on by laws of `Moving`. Assumes nothing.
 use lib.ListN.{length-set}
 use Rattle.arc_swap_attempt.proofs.Moving.{named-move, loads-asked, gain-within, moved}
 use borrow.Author.Needs.{needs}

@@ -1,3 +1,4 @@
+-- `arc_swap_attempt::trials::try_vertex` meets its contract: one law of `Tried` for each way out. Assumes nothing.
 use mathlib.Core.Path.{ap}
 use Prim.Native.Nat.{ℕ, _+_}
 use native.Mathlib.Omega.{arith}

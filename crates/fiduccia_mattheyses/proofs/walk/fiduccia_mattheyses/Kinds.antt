@@ -1,5 +1,5 @@
 -- Made by tools/walkgen.py: do not edit.
-use Rattle.fiduccia_mattheyses.proofs.walk.MoveTy
+use Rattle.fiduccia_mattheyses_pass.proofs.walk.MoveTy
 use Rattle.fiduccia_mattheyses.proofs.Report
 use Rattle.fiduccia_mattheyses.proofs.Report.Laws
 use Rattle.fiduccia_mattheyses.proofs.Settings

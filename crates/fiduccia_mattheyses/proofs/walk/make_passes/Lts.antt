@@ -1,14 +1,14 @@
 -- Made by tools/walkgen.py: do not edit.
-use Rattle.fiduccia_mattheyses.proofs.walk.MoveTy
+use Rattle.fiduccia_mattheyses_pass.proofs.walk.MoveTy
 use Prim.Native.Nat
 use Rattle.fiduccia_mattheyses_pass.proofs.Limits
 use Rattle.fiduccia_mattheyses_pass.proofs.Limits.Laws
+use Rattle.fiduccia_mattheyses_pass.proofs.Passed
+use Rattle.fiduccia_mattheyses_pass.proofs.Passed.Laws as Laws'
 use Rattle.fiduccia_mattheyses.proofs.Course
-use Rattle.fiduccia_mattheyses.proofs.Course.Laws as Laws'
+use Rattle.fiduccia_mattheyses.proofs.Course.Laws as Laws''
 use Rattle.fiduccia_mattheyses.proofs.Ended
-use Rattle.fiduccia_mattheyses.proofs.Ended.Laws as Laws''
-use Rattle.fiduccia_mattheyses.proofs.Passed
-use Rattle.fiduccia_mattheyses.proofs.Passed.Laws as Laws'3
+use Rattle.fiduccia_mattheyses.proofs.Ended.Laws as Laws'3
 use Rattle.imbalance.proofs.Loads
 use Rattle.imbalance.proofs.Loads.Laws as Laws'4
 use borrow.Author.Called
@@ -83,7 +83,7 @@ abbrev pub type·0 : Syntax.Ty
 type·0 = Syntax.tyStruct (List._∷_ 105 (List._∷_ 109 (List._∷_ 98 (List._∷_ 97 (List._∷_ 108 (List._∷_ 97 (List._∷_ 110 (List._∷_ 99 (List._∷_ 101 (List._∷_ 58 (List._∷_ 58 (List._∷_ 76 (List._∷_ 111 (List._∷_ 97 (List._∷_ 100 (List._∷_ 115 List.[])))))))))))))))) (Syntax.tcons (Syntax.tyArray (Syntax.tyInt Syntax.w64) 16) Syntax.tnil)
 
 abbrev pub type·1 : Syntax.Ty
-type·1 = Syntax.tyStruct (List._∷_ 102 (List._∷_ 105 (List._∷_ 100 (List._∷_ 117 (List._∷_ 99 (List._∷_ 99 (List._∷_ 105 (List._∷_ 97 (List._∷_ 95 (List._∷_ 109 (List._∷_ 97 (List._∷_ 116 (List._∷_ 116 (List._∷_ 104 (List._∷_ 101 (List._∷_ 121 (List._∷_ 115 (List._∷_ 101 (List._∷_ 115 (List._∷_ 58 (List._∷_ 58 (List._∷_ 80 (List._∷_ 97 (List._∷_ 115 (List._∷_ 115 (List._∷_ 101 (List._∷_ 100 List.[]))))))))))))))))))))))))))) (Syntax.tcons (Syntax.tyInt Syntax.w64) (Syntax.tcons (Syntax.tyInt Syntax.w64) (Syntax.tcons (Syntax.tyInt Syntax.w64) (Syntax.tcons type·0 Syntax.tnil))))
+type·1 = Syntax.tyStruct (List._∷_ 102 (List._∷_ 105 (List._∷_ 100 (List._∷_ 117 (List._∷_ 99 (List._∷_ 99 (List._∷_ 105 (List._∷_ 97 (List._∷_ 95 (List._∷_ 109 (List._∷_ 97 (List._∷_ 116 (List._∷_ 116 (List._∷_ 104 (List._∷_ 101 (List._∷_ 121 (List._∷_ 115 (List._∷_ 101 (List._∷_ 115 (List._∷_ 95 (List._∷_ 112 (List._∷_ 97 (List._∷_ 115 (List._∷_ 115 (List._∷_ 58 (List._∷_ 58 (List._∷_ 80 (List._∷_ 97 (List._∷_ 115 (List._∷_ 115 (List._∷_ 101 (List._∷_ 100 List.[])))))))))))))))))))))))))))))))) (Syntax.tcons (Syntax.tyInt Syntax.w64) (Syntax.tcons (Syntax.tyInt Syntax.w64) (Syntax.tcons (Syntax.tyInt Syntax.w64) (Syntax.tcons type·0 Syntax.tnil))))
 
 abbrev pub type·2 : Syntax.Ty
 type·2 = Syntax.tyRef Syntax.erased Syntax.mut (Syntax.tyInt Syntax.w32)
@@ -317,7 +317,7 @@ abbrev pub ps : List.List (Kinds.PK 9)
 ps = List._∷_ (ShrSlice.pShrS (Referent.rtF (Referent.fInt Syntax.w32)) 0 tt) (List._∷_ (ShrSlice.pShrS (Referent.rtF (Referent.fInt Syntax.w32)) 1 tt) (List._∷_ (ShrSlice.pShrS (Referent.rtF (Referent.fInt Syntax.w32)) 2 tt) (List._∷_ (ShrSlice.pShrS (Referent.rtF (Referent.fInt Syntax.w32)) 3 tt) (List._∷_ (MutSlice.pMutS (Referent.rtF (Referent.fInt Syntax.w32)) 4 tt) (List._∷_ (MutSlice.pMutS (Signed'.SInt Syntax.w64) 5 tt) (List._∷_ (MutSlice.pMutS MoveTy.R 6 tt) (List._∷_ (MutSlice.pMutS (Referent.rtF (Referent.fInt Syntax.w32)) 7 tt) (List._∷_ (MutSlice.pMutS (Referent.rtF (Referent.fInt Syntax.w32)) 8 tt) (List._∷_ (Value.pVal record { ty = Declared'.row Loads.the-type; one = Path'.refl; val = Laws'7.val Loads.the-type Laws'4.the-laws; tells = Laws'7.tells Loads.the-type Laws'4.the-laws; still = Laws'7.still Loads.the-type Laws'4.the-copy Exit.yes; row = Rows.whole (Declared'.row Loads.the-type); rd = λ x. x; mk = λ x. x } λ M 𝓤 H A W. record { copies = Laws'7.copy Loads.the-type Laws'4.the-copy 𝓤 H A W; lawful = Laws'7.lawful Loads.the-type Laws'4.the-laws 𝓤 H A W; makes = Laws'7.makes Loads.the-type Laws'4.the-plain 𝓤 H A; in-mem = Local.mem-whole 𝓤 H A W (Declared'.row Loads.the-type); of-mem = Local.whole-mem 𝓤 H A W (Declared'.row Loads.the-type) }) (List._∷_ (Num.pNum Syntax.w64) (List._∷_ (Value.pVal record { ty = Declared'.row Limits.the-type; one = Path'.refl; val = Laws'7.val Limits.the-type Laws.the-laws; tells = Laws'7.tells Limits.the-type Laws.the-laws; still = Laws'7.still Limits.the-type Laws.the-copy Exit.yes; row = Rows.whole (Declared'.row Limits.the-type); rd = λ x. x; mk = λ x. x } λ M 𝓤 H A W. record { copies = Laws'7.copy Limits.the-type Laws.the-copy 𝓤 H A W; lawful = Laws'7.lawful Limits.the-type Laws.the-laws 𝓤 H A W; makes = Laws'7.makes Limits.the-type Laws.the-plain 𝓤 H A; in-mem = Local.mem-whole 𝓤 H A W (Declared'.row Limits.the-type); of-mem = Local.whole-mem 𝓤 H A W (Declared'.row Limits.the-type) }) (List._∷_ (Num.pNum Syntax.w32) List.[]))))))))))))
 
 abbrev pub r : Kinds.RK 9
-r = Value.rVal record { ty = Declared'.row Ended.the-type; one = Path'.refl; val = Laws'7.val Ended.the-type Laws''.the-laws; tells = Laws'7.tells Ended.the-type Laws''.the-laws; still = Laws'7.still Ended.the-type Laws''.the-copy Exit.yes; row = Rows.whole (Declared'.row Ended.the-type); rd = λ x. x; mk = λ x. x } λ M 𝓤 H A W. record { copies = Laws'7.copy Ended.the-type Laws''.the-copy 𝓤 H A W; lawful = Laws'7.lawful Ended.the-type Laws''.the-laws 𝓤 H A W; makes = Laws'7.makes Ended.the-type Laws''.the-plain 𝓤 H A; in-mem = Local.mem-whole 𝓤 H A W (Declared'.row Ended.the-type); of-mem = Local.whole-mem 𝓤 H A W (Declared'.row Ended.the-type) }
+r = Value.rVal record { ty = Declared'.row Ended.the-type; one = Path'.refl; val = Laws'7.val Ended.the-type Laws'3.the-laws; tells = Laws'7.tells Ended.the-type Laws'3.the-laws; still = Laws'7.still Ended.the-type Laws'3.the-copy Exit.yes; row = Rows.whole (Declared'.row Ended.the-type); rd = λ x. x; mk = λ x. x } λ M 𝓤 H A W. record { copies = Laws'7.copy Ended.the-type Laws'3.the-copy 𝓤 H A W; lawful = Laws'7.lawful Ended.the-type Laws'3.the-laws 𝓤 H A W; makes = Laws'7.makes Ended.the-type Laws'3.the-plain 𝓤 H A; in-mem = Local.mem-whole 𝓤 H A W (Declared'.row Ended.the-type); of-mem = Local.whole-mem 𝓤 H A W (Declared'.row Ended.the-type) }
 
 abbrev pub xs : List.List Syntax.Ty
 xs = List._∷_ type·0 (List._∷_ (Syntax.tyInt Syntax.w64) (List._∷_ (Syntax.tyInt Syntax.w32) (List._∷_ type·1 (List._∷_ (Syntax.tyInt Syntax.w64) (List._∷_ (Syntax.tyInt Syntax.w64) (List._∷_ (Syntax.tyInt Syntax.w64) (List._∷_ (Syntax.tyInt Syntax.w32) (List._∷_ Syntax.tyBool (List._∷_ type·2 (List._∷_ type·3 (List._∷_ type·4 (List._∷_ type·5 (List._∷_ type·6 (List._∷_ type·7 (List._∷_ type·2 (List._∷_ type·3 (List._∷_ type·2 (List._∷_ type·3 (List._∷_ type·8 List.[])))))))))))))))))))
@@ -329,7 +329,7 @@ abbrev pub ps·0 : List.List (Kinds.PK 7)
 ps·0 = List._∷_ (ShrSlice.pShrS (Referent.rtF (Referent.fInt Syntax.w32)) 0 tt) (List._∷_ (ShrSlice.pShrS (Referent.rtF (Referent.fInt Syntax.w32)) 1 tt) (List._∷_ (ShrSlice.pShrS (Referent.rtF (Referent.fInt Syntax.w32)) 2 tt) (List._∷_ (ShrSlice.pShrS (Referent.rtF (Referent.fInt Syntax.w32)) 3 tt) (List._∷_ (MutSlice.pMutS (Referent.rtF (Referent.fInt Syntax.w32)) 4 tt) (List._∷_ (MutSlice.pMutS (Signed'.SInt Syntax.w64) 5 tt) (List._∷_ (MutSlice.pMutS MoveTy.R 6 tt) (List._∷_ (Value.pVal record { ty = Declared'.row Loads.the-type; one = Path'.refl; val = Laws'7.val Loads.the-type Laws'4.the-laws; tells = Laws'7.tells Loads.the-type Laws'4.the-laws; still = Laws'7.still Loads.the-type Laws'4.the-copy Exit.yes; row = Rows.whole (Declared'.row Loads.the-type); rd = λ x. x; mk = λ x. x } λ M 𝓤 H A W. record { copies = Laws'7.copy Loads.the-type Laws'4.the-copy 𝓤 H A W; lawful = Laws'7.lawful Loads.the-type Laws'4.the-laws 𝓤 H A W; makes = Laws'7.makes Loads.the-type Laws'4.the-plain 𝓤 H A; in-mem = Local.mem-whole 𝓤 H A W (Declared'.row Loads.the-type); of-mem = Local.whole-mem 𝓤 H A W (Declared'.row Loads.the-type) }) (List._∷_ (Num.pNum Syntax.w64) (List._∷_ (Value.pVal record { ty = Declared'.row Limits.the-type; one = Path'.refl; val = Laws'7.val Limits.the-type Laws.the-laws; tells = Laws'7.tells Limits.the-type Laws.the-laws; still = Laws'7.still Limits.the-type Laws.the-copy Exit.yes; row = Rows.whole (Declared'.row Limits.the-type); rd = λ x. x; mk = λ x. x } λ M 𝓤 H A W. record { copies = Laws'7.copy Limits.the-type Laws.the-copy 𝓤 H A W; lawful = Laws'7.lawful Limits.the-type Laws.the-laws 𝓤 H A W; makes = Laws'7.makes Limits.the-type Laws.the-plain 𝓤 H A; in-mem = Local.mem-whole 𝓤 H A W (Declared'.row Limits.the-type); of-mem = Local.whole-mem 𝓤 H A W (Declared'.row Limits.the-type) }) List.[])))))))))
 
 abbrev pub r·0 : Kinds.RK 7
-r·0 = Value.rVal record { ty = Declared'.row Passed.the-type; one = Path'.refl; val = Laws'7.val Passed.the-type Laws'3.the-laws; tells = Laws'7.tells Passed.the-type Laws'3.the-laws; still = Laws'7.still Passed.the-type Laws'3.the-copy Exit.yes; row = Rows.whole (Declared'.row Passed.the-type); rd = λ x. x; mk = λ x. x } λ M 𝓤 H A W. record { copies = Laws'7.copy Passed.the-type Laws'3.the-copy 𝓤 H A W; lawful = Laws'7.lawful Passed.the-type Laws'3.the-laws 𝓤 H A W; makes = Laws'7.makes Passed.the-type Laws'3.the-plain 𝓤 H A; in-mem = Local.mem-whole 𝓤 H A W (Declared'.row Passed.the-type); of-mem = Local.whole-mem 𝓤 H A W (Declared'.row Passed.the-type) }
+r·0 = Value.rVal record { ty = Declared'.row Passed.the-type; one = Path'.refl; val = Laws'7.val Passed.the-type Laws'.the-laws; tells = Laws'7.tells Passed.the-type Laws'.the-laws; still = Laws'7.still Passed.the-type Laws'.the-copy Exit.yes; row = Rows.whole (Declared'.row Passed.the-type); rd = λ x. x; mk = λ x. x } λ M 𝓤 H A W. record { copies = Laws'7.copy Passed.the-type Laws'.the-copy 𝓤 H A W; lawful = Laws'7.lawful Passed.the-type Laws'.the-laws 𝓤 H A W; makes = Laws'7.makes Passed.the-type Laws'.the-plain 𝓤 H A; in-mem = Local.mem-whole 𝓤 H A W (Declared'.row Passed.the-type); of-mem = Local.whole-mem 𝓤 H A W (Declared'.row Passed.the-type) }
 
 abbrev pub ps·1 : List.List (Kinds.PK 2)
 ps·1 = List._∷_ (MutSlice.pMutS (Referent.rtF (Referent.fInt Syntax.w32)) 0 tt) (List._∷_ (MutSlice.pMutS (Referent.rtF (Referent.fInt Syntax.w32)) 1 tt) (List._∷_ (Num.pNum Syntax.w32) (List._∷_ (Num.pNum Syntax.w64) (List._∷_ (Num.pNum Syntax.w64) List.[]))))
@@ -341,7 +341,7 @@ abbrev pub ps·2 : List.List (Kinds.PK 0)
 ps·2 = List._∷_ (Num.pNum Syntax.w64) (List._∷_ (Num.pNum Syntax.w64) (List._∷_ (Num.pNum Syntax.w32) (List._∷_ (Num.pNum Syntax.w32) List.[])))
 
 abbrev pub r·2 : Kinds.RK 0
-r·2 = Value.rVal record { ty = Declared.row Course.the-type; one = Path'.refl; val = Laws'5.val Course.the-type Laws'.the-laws; tells = Laws'5.tells Course.the-type Laws'.the-laws; still = Laws'5.still Course.the-type Laws'.the-copy Exit.yes; row = Rows.whole (Declared.row Course.the-type); rd = λ x. x; mk = λ x. x } λ M 𝓤 H A W. record { copies = Laws'5.copy Course.the-type Laws'.the-copy 𝓤 H A W; lawful = Laws'5.lawful Course.the-type Laws'.the-laws 𝓤 H A W tt; makes = Laws'5.makes Course.the-type Laws'.the-plain 𝓤 H A; in-mem = Local.mem-whole 𝓤 H A W (Declared.row Course.the-type); of-mem = Local.whole-mem 𝓤 H A W (Declared.row Course.the-type) }
+r·2 = Value.rVal record { ty = Declared.row Course.the-type; one = Path'.refl; val = Laws'5.val Course.the-type Laws''.the-laws; tells = Laws'5.tells Course.the-type Laws''.the-laws; still = Laws'5.still Course.the-type Laws''.the-copy Exit.yes; row = Rows.whole (Declared.row Course.the-type); rd = λ x. x; mk = λ x. x } λ M 𝓤 H A W. record { copies = Laws'5.copy Course.the-type Laws''.the-copy 𝓤 H A W; lawful = Laws'5.lawful Course.the-type Laws''.the-laws 𝓤 H A W tt; makes = Laws'5.makes Course.the-type Laws''.the-plain 𝓤 H A; in-mem = Local.mem-whole 𝓤 H A W (Declared.row Course.the-type); of-mem = Local.whole-mem 𝓤 H A W (Declared.row Course.the-type) }
 
 abbrev pub hs : List.List Syntax.Home
 hs = List._∷_ Syntax.valueLocal (List._∷_ Syntax.valueLocal (List._∷_ Syntax.valueLocal (List._∷_ Syntax.valueLocal (List._∷_ Syntax.valueLocal (List._∷_ Syntax.valueLocal (List._∷_ Syntax.valueLocal (List._∷_ Syntax.valueLocal (List._∷_ Syntax.valueLocal (List._∷_ Syntax.valueLocal (List._∷_ Syntax.valueLocal (List._∷_ Syntax.valueLocal (List._∷_ Syntax.valueLocal (List._∷_ Syntax.valueLocal (List._∷_ Syntax.valueLocal (List._∷_ Syntax.valueLocal (List._∷_ Syntax.valueLocal (List._∷_ Syntax.valueLocal (List._∷_ Syntax.valueLocal (List._∷_ Syntax.valueLocal (List._∷_ Syntax.valueLocal (List._∷_ Syntax.valueLocal (List._∷_ Syntax.valueLocal (List._∷_ Syntax.valueLocal (List._∷_ Syntax.valueLocal (List._∷_ Syntax.valueLocal (List._∷_ Syntax.valueLocal (List._∷_ Syntax.valueLocal (List._∷_ Syntax.valueLocal (List._∷_ Syntax.valueLocal (List._∷_ Syntax.valueLocal (List._∷_ Syntax.valueLocal (List._∷_ Syntax.valueLocal (List._∷_ Syntax.valueLocal List.[])))))))))))))))))))))))))))))))))
@@ -386,7 +386,7 @@ abbrev b12 : Syntax.Body
 b12 = Syntax.assign (Syntax.place 28 List.[]) (Syntax.aggregate (List._∷_ (Syntax.copy (Syntax.place 27 List.[])) (List._∷_ (Syntax.copy (Syntax.place 7 (List._∷_ (Syntax.field 1) List.[]))) List.[])))
 
 abbrev b13 : Syntax.Body
-b13 = Syntax.call "fiduccia_mattheyses::make_pass" (List._∷_ (Syntax.copy (Syntax.place 1 List.[])) (List._∷_ (Syntax.copy (Syntax.place 2 List.[])) (List._∷_ (Syntax.copy (Syntax.place 3 List.[])) (List._∷_ (Syntax.copy (Syntax.place 4 List.[])) (List._∷_ (Syntax.copy (Syntax.place 24 List.[])) (List._∷_ (Syntax.copy (Syntax.place 26 List.[])) (List._∷_ (Syntax.copy (Syntax.place 28 List.[])) (List._∷_ (Syntax.copy (Syntax.place 14 List.[])) (List._∷_ (Syntax.copy (Syntax.place 15 List.[])) (List._∷_ (Syntax.copy (Syntax.place 12 List.[])) List.[])))))))))) (Syntax.place 17 List.[])
+b13 = Syntax.call "fiduccia_mattheyses_pass::make_pass" (List._∷_ (Syntax.copy (Syntax.place 1 List.[])) (List._∷_ (Syntax.copy (Syntax.place 2 List.[])) (List._∷_ (Syntax.copy (Syntax.place 3 List.[])) (List._∷_ (Syntax.copy (Syntax.place 4 List.[])) (List._∷_ (Syntax.copy (Syntax.place 24 List.[])) (List._∷_ (Syntax.copy (Syntax.place 26 List.[])) (List._∷_ (Syntax.copy (Syntax.place 28 List.[])) (List._∷_ (Syntax.copy (Syntax.place 14 List.[])) (List._∷_ (Syntax.copy (Syntax.place 15 List.[])) (List._∷_ (Syntax.copy (Syntax.place 12 List.[])) List.[])))))))))) (Syntax.place 17 List.[])
 
 abbrev b14 : Syntax.Body
 b14 = Syntax.assign (Syntax.place 18 List.[]) (Syntax.rvOpd (Syntax.copy (Syntax.place 17 (List._∷_ (Syntax.field 0) List.[]))))
@@ -1044,10 +1044,10 @@ module _ (claims· : Claims) where
   s34 = λ bs. Relend.k-back-sl MoveTy.R T35 28 7 6 11 type·16 type·6 Row.off (λ x. x) λ x. x
 
   abbrev s36 : (bs : List.List Nat.ℕ) → Typed.Mo T38 → Typed.Mo T40
-  s36 = λ bs. Scalar.n-use T38 (Scalar.oFld 17 (List._∷_ (Syntax.field 0) List.[]) (Syntax.tyInt Syntax.w64) 0 (Reads.fieldV Passed.the-type Laws'3.the-laws 0)) 18 (Rows.sc-here (Row.sInt Syntax.w64)) (Row.sInt Syntax.w64 .of)
+  s36 = λ bs. Scalar.n-use T38 (Scalar.oFld 17 (List._∷_ (Syntax.field 0) List.[]) (Syntax.tyInt Syntax.w64) 0 (Reads.fieldV Passed.the-type Laws'.the-laws 0)) 18 (Rows.sc-here (Row.sInt Syntax.w64)) (Row.sInt Syntax.w64 .of)
 
   abbrev s37 : (bs : List.List Nat.ℕ) → Typed.Mo T40 → Typed.Mo T41
-  s37 = λ bs. Scalar.n-use T40 (Scalar.oFld 17 (List._∷_ (Syntax.field 1) List.[]) (Syntax.tyInt Syntax.w64) 8 (Reads.fieldV Passed.the-type Laws'3.the-laws 1)) 19 (Rows.sc-here (Row.sInt Syntax.w64)) (Row.sInt Syntax.w64 .of)
+  s37 = λ bs. Scalar.n-use T40 (Scalar.oFld 17 (List._∷_ (Syntax.field 1) List.[]) (Syntax.tyInt Syntax.w64) 8 (Reads.fieldV Passed.the-type Laws'.the-laws 1)) 19 (Rows.sc-here (Row.sInt Syntax.w64)) (Row.sInt Syntax.w64 .of)
 
   abbrev s39 : (bs : List.List Nat.ℕ) → Typed.Gives T41 T43
   s39 = λ bs. Relend.k-sl-relend (Referent.rtF (Referent.fInt Syntax.w32)) T41 8 29 7 12 type·17 type·2 Row.off λ x. x
@@ -1083,7 +1083,7 @@ module _ (claims· : Claims) where
   s54 = λ bs. Scalar.n-room T57 15 (Syntax.tyInt Syntax.w64)
 
   abbrev s55 : (bs : List.List Nat.ℕ) → Typed.Mo T58 → Typed.Mo T59
-  s55 = λ bs. Scalar.n-use T58 (Scalar.oFld 17 (List._∷_ (Syntax.field 2) List.[]) (Syntax.tyInt Syntax.w64) 16 (Reads.fieldV Passed.the-type Laws'3.the-laws 2)) 15 (Rows.sc-here (Row.sInt Syntax.w64)) (Row.sInt Syntax.w64 .of)
+  s55 = λ bs. Scalar.n-use T58 (Scalar.oFld 17 (List._∷_ (Syntax.field 2) List.[]) (Syntax.tyInt Syntax.w64) 16 (Reads.fieldV Passed.the-type Laws'.the-laws 2)) 15 (Rows.sc-here (Row.sInt Syntax.w64)) (Row.sInt Syntax.w64 .of)
 
   abbrev s56 : (bs : List.List Nat.ℕ) → Typed.Both T59 T60
   s56 = λ bs. WayStmt.k-way-copy-out T59 (Row.out 17 (T59 .locals)) (λ u. Row.drop 17 (T59 .locals) u) 14 (Rows.whole (Declared'.row Loads.the-type)) (λ u. At.getAt (Passed.the-type .parts) 3 (Passed.struct .as-values (u .1 .1 .1 .1 .1 .1 .1 .1 .1 .1 .1 .1 .1 .1 .1 .1 .1 .0))) (λ T′. record { locals = Row.setRow 17 row·46 T′; slots = List.[] }) (λ u T′ m′. Row.set 17 row·46 (u .1 .1 .1 .1 .1 .1 .1 .1 .1 .1 .1 .1 .1 .1 .1 .1 .1 .0) T′ m′) (λ u. Unit) λ u. Unit
@@ -1098,13 +1098,13 @@ module _ (claims· : Claims) where
   s59 = λ bs. Known.k-enum-known Course.enum 0 T62 33 λ x. x
 
   abbrev s60 : (bs : List.List Nat.ℕ) → Typed.Gives T64 T65
-  s60 = λ bs. Known.k-known-told Course.enum Laws'.the-laws 0 T64 33 λ x. x
+  s60 = λ bs. Known.k-known-told Course.enum Laws''.the-laws 0 T64 33 λ x. x
 
   abbrev s61 : (bs : List.List Nat.ℕ) → Typed.Mo T65 → Typed.Mo T66
   s61 = λ bs. Scalar.n-room T65 12 type·20
 
   abbrev s62 : (bs : List.List Nat.ℕ) → Typed.Mo T66 → Typed.Mo T67
-  s62 = λ bs. Scalar.n-use T66 (Scalar.oFld 33 (List._∷_ (Syntax.variant 0) (List._∷_ (Syntax.field 1) List.[])) (Syntax.tyInt Syntax.w32) 4 λ v. Laws'.the-laws .0 .0 .val (v .0)) 21 (Rows.sc-here (Row.sInt Syntax.w32)) (Row.sInt Syntax.w32 .of)
+  s62 = λ bs. Scalar.n-use T66 (Scalar.oFld 33 (List._∷_ (Syntax.variant 0) (List._∷_ (Syntax.field 1) List.[])) (Syntax.tyInt Syntax.w32) 4 λ v. Laws''.the-laws .0 .0 .val (v .0)) 21 (Rows.sc-here (Row.sInt Syntax.w32)) (Row.sInt Syntax.w32 .of)
 
   abbrev s63 : (bs : List.List Nat.ℕ) → Typed.Mo T67 → Typed.Mo T68
   s63 = λ bs. Scalar.n-room T67 33 type·8
@@ -1184,7 +1184,7 @@ module _ (claims· : Claims) where
   module _ (Pre· : (κs : Lifetimes.Lfts 9) → Kinds.Dens κs ps → Type 0) (Post· : (κs : Lifetimes.Lfts 9) → (a : Kinds.Dens κs ps) → Kinds.Plain 9 ps r κs) where
     module _ (M : Type 1) where
       abbrev pub Closed : Type 2
-      Closed = (𝓤 : URA.URA M) (H : Wp.Heap 𝓤) (A : Atoms.Atoms 𝓤) (W : Kit.Given 𝓤 H A) (𝓣 : Wp.Tables 𝓤 H) (known0 : Plain.Known 𝓤 H A W 𝓣 7 ps·0 r·0 (claims· .0) (claims· .1) "fiduccia_mattheyses::make_pass") (known1 : Plain.Known 𝓤 H A W 𝓣 2 ps·1 r·1 (claims· .2) (claims· .3) "fiduccia_mattheyses::steps::put_row") (known2 : Plain.Known 𝓤 H A W 𝓣 0 ps·2 r·2 (claims· .4) (claims· .5) "fiduccia_mattheyses::steps::course_of") → Statement.Triple 𝓤 (Wp.WpFn 𝓤 H (𝓣 .C) (𝓣 .Λ) (Function.fnOf 9 ps r xs m hs body)) (Function.plainOf 𝓤 H A 9 ps r Pre· Post·)
+      Closed = (𝓤 : URA.URA M) (H : Wp.Heap 𝓤) (A : Atoms.Atoms 𝓤) (W : Kit.Given 𝓤 H A) (𝓣 : Wp.Tables 𝓤 H) (known0 : Plain.Known 𝓤 H A W 𝓣 7 ps·0 r·0 (claims· .0) (claims· .1) "fiduccia_mattheyses_pass::make_pass") (known1 : Plain.Known 𝓤 H A W 𝓣 2 ps·1 r·1 (claims· .2) (claims· .3) "fiduccia_mattheyses::steps::put_row") (known2 : Plain.Known 𝓤 H A W 𝓣 0 ps·2 r·2 (claims· .4) (claims· .5) "fiduccia_mattheyses::steps::course_of") → Statement.Triple 𝓤 (Wp.WpFn 𝓤 H (𝓣 .C) (𝓣 .Λ) (Function.fnOf 9 ps r xs m hs body)) (Function.plainOf 𝓤 H A 9 ps r Pre· Post·)
 
     module _ (Inv·0 : InvT-loop) (μ·0 : MeasureT-loop) where
       abbrev at0 : (bs : List.List Nat.ℕ) → Typed.TF T16 O4
@@ -1486,7 +1486,7 @@ module _ (claims· : Claims) where
 
       module _ {M : Type 1} (𝓤 : URA.URA M) (H : Wp.Heap 𝓤) (A : Atoms.Atoms 𝓤) (W : Kit.Given 𝓤 H A) (𝓣 : Wp.Tables 𝓤 H) where
         abbrev Knowns : Type 1
-        Knowns = Plain.Known 𝓤 H A W 𝓣 7 ps·0 r·0 (claims· .0) (claims· .1) "fiduccia_mattheyses::make_pass" × Plain.Known 𝓤 H A W 𝓣 2 ps·1 r·1 (claims· .2) (claims· .3) "fiduccia_mattheyses::steps::put_row" × Plain.Known 𝓤 H A W 𝓣 0 ps·2 r·2 (claims· .4) (claims· .5) "fiduccia_mattheyses::steps::course_of"
+        Knowns = Plain.Known 𝓤 H A W 𝓣 7 ps·0 r·0 (claims· .0) (claims· .1) "fiduccia_mattheyses_pass::make_pass" × Plain.Known 𝓤 H A W 𝓣 2 ps·1 r·1 (claims· .2) (claims· .3) "fiduccia_mattheyses::steps::put_row" × Plain.Known 𝓤 H A W 𝓣 0 ps·2 r·2 (claims· .4) (claims· .5) "fiduccia_mattheyses::steps::course_of"
 
       module _ (κs : Lifetimes.Lfts 9) (qs : Lifetimes.Shares 9) where
         abbrev g10 : List.List Row.Entry
@@ -1860,13 +1860,13 @@ module _ (claims· : Claims) where
           d5 = Scalar.t-cond 𝓤 H A W E 𝓣 G14 22 (λ x. x) b4 b5 Δ4 (at1 bs) (at4 bs) (Scalar.reads-sc 𝓤 H A W Row.sBool) Path'.refl d1 d4
 
           d6 : Typed.Typed 𝓤 H A 𝓣 E G66 b25 Δ5 (at6 bs)
-          d6 = Typed.s-typed 𝓤 H A W 𝓣 E G66 b25 Δ5 (λ Ψ. Typed.pass T66 T67 (s62 bs) (Typed.pass T67 T68 (s63 bs) Ψ)) tt (Typed.g-post 𝓤 H A W 𝓣 E G66 G67 G68 b25 (Typed.pass T66 T67 (s62 bs)) (Typed.pass T67 T68 (s63 bs)) (Scalar.t-use 𝓤 H A W E 𝓣 G66 (Scalar.oFld 33 (List._∷_ (Syntax.variant 0) (List._∷_ (Syntax.field 1) List.[])) (Syntax.tyInt Syntax.w32) 4 λ v. Laws'.the-laws .0 .0 .val (v .0)) 21 (Rows.sc-here (Row.sInt Syntax.w32)) (Syntax.tyInt Syntax.w32) (Row.valS (Row.sInt Syntax.w32)) (Row.sInt Syntax.w32 .of) (Match.reads-payload 𝓤 H A W Course.enum Laws'.the-laws 0 Path'.refl Path'.refl (λ v. Val.vcons (Laws'.the-laws .0 .0 .val (v .0)) Val.vnil) (λ v. Path'.refl) 0 (Syntax.tyInt Syntax.w32) 4 Path'.refl, Path'.refl) (Reads'.room-gone 𝓤 H A (Syntax.tyInt Syntax.w32)) (Scalar.holds-sc 𝓤 H A W (Row.sInt Syntax.w32)) Path'.refl (λ u. Path'.refl) λ u. tt) (Scalar.g-room 𝓤 H A W E G67 33 type·8 (Local.room-whole 𝓤 H A W (Known.Known Course.enum 0) type·8 Path'.refl)))
+          d6 = Typed.s-typed 𝓤 H A W 𝓣 E G66 b25 Δ5 (λ Ψ. Typed.pass T66 T67 (s62 bs) (Typed.pass T67 T68 (s63 bs) Ψ)) tt (Typed.g-post 𝓤 H A W 𝓣 E G66 G67 G68 b25 (Typed.pass T66 T67 (s62 bs)) (Typed.pass T67 T68 (s63 bs)) (Scalar.t-use 𝓤 H A W E 𝓣 G66 (Scalar.oFld 33 (List._∷_ (Syntax.variant 0) (List._∷_ (Syntax.field 1) List.[])) (Syntax.tyInt Syntax.w32) 4 λ v. Laws''.the-laws .0 .0 .val (v .0)) 21 (Rows.sc-here (Row.sInt Syntax.w32)) (Syntax.tyInt Syntax.w32) (Row.valS (Row.sInt Syntax.w32)) (Row.sInt Syntax.w32 .of) (Match.reads-payload 𝓤 H A W Course.enum Laws''.the-laws 0 Path'.refl Path'.refl (λ v. Val.vcons (Laws''.the-laws .0 .0 .val (v .0)) Val.vnil) (λ v. Path'.refl) 0 (Syntax.tyInt Syntax.w32) 4 Path'.refl, Path'.refl) (Reads'.room-gone 𝓤 H A (Syntax.tyInt Syntax.w32)) (Scalar.holds-sc 𝓤 H A W (Row.sInt Syntax.w32)) Path'.refl (λ u. Path'.refl) λ u. tt) (Scalar.g-room 𝓤 H A W E G67 33 type·8 (Local.room-whole 𝓤 H A W (Known.Known Course.enum 0) type·8 Path'.refl)))
 
           d7 : Typed.Typed 𝓤 H A 𝓣 E G65 b25 Δ5 (at7 bs)
           d7 = Typed.g-pre 𝓤 H A W 𝓣 E G65 G66 b25 Δ5 (Typed.pass T65 T66 (s61 bs)) (at6 bs) (Scalar.g-room 𝓤 H A W E G65 12 type·20 (Local.room-whole 𝓤 H A W (Declared'.row Limits.the-type) type·20 Path'.refl)) d6
 
           d8 : Typed.Typed 𝓤 H A 𝓣 E G64 b25 Δ5 (at8 bs)
-          d8 = Typed.g-pre 𝓤 H A W 𝓣 E G64 G65 b25 Δ5 (Typed.give (s60 bs)) (at7 bs) (Known.g-known-told 𝓤 H A W E Course.enum 0 G64 33 Laws'.the-laws (λ x. x) (Reads'.as-is 𝓤 H A (Rows.whole (Known.Known Course.enum 0)))) d7
+          d8 = Typed.g-pre 𝓤 H A W 𝓣 E G64 G65 b25 Δ5 (Typed.give (s60 bs)) (at7 bs) (Known.g-known-told 𝓤 H A W E Course.enum 0 G64 33 Laws''.the-laws (λ x. x) (Reads'.as-is 𝓤 H A (Rows.whole (Known.Known Course.enum 0)))) d7
 
           d9 : Typed.Typed 𝓤 H A 𝓣 E G62 b25 Δ5 (at9 bs)
           d9 = Typed.g-pre 𝓤 H A W 𝓣 E G62 G64 b25 Δ5 (Typed.both (s59 bs)) (at8 bs) (Known.g-enum-known 𝓤 H A W E Course.enum 0 G62 33 (λ x. x) (Reads'.as-is 𝓤 H A (Rows.whole (Declared.row Course.the-type)))) d8
@@ -1890,7 +1890,7 @@ module _ (claims· : Claims) where
           d15 = Typed.g-pre 𝓤 H A W 𝓣 E G62 G69 b26 Δ5 (Typed.both (s64 bs)) (at14 bs) (Known.g-enum-told 𝓤 H A W E Course.enum 1 G62 33 λ x. x) d14
 
           d16 : Typed.Typed 𝓤 H A 𝓣 E G62 b27 Δ5 (at16 bs)
-          d16 = Switch.t-switch-on 𝓤 H A W E 𝓣 G62 (Scalar.oFld 33 (List._∷_ (Syntax.variant 0) (List._∷_ (Syntax.field 0) List.[])) (Syntax.tyInt Syntax.w8) 0 λ x. Val.vint Syntax.w8 (Declared.tagOf Course.the-type x)) Syntax.w8 (λ u. Declared.tagOf Course.the-type (u .1 .1 .1 .1 .1 .1 .1 .1 .1 .1 .1 .1 .1 .1 .1 .1 .1 .1 .1 .1 .1 .1 .1 .1 .1 .1 .1 .1 .1 .1 .1 .1 .1 .0)) (Syntax.arm (List._∷_ 0 List.[]) b25 (Syntax.arm (List._∷_ 1 List.[]) b26 Syntax.noDefault)) Δ5 (at9 bs, (at15 bs, tt)) (Match.reads-tag 𝓤 H A W Course.the-type Laws'.the-laws (Rows.whole (Declared.row Course.the-type)) 0 (λ x. x) (Whole.reads-enum 𝓤 H A W Course.the-type Laws'.the-laws), Path'.refl) (λ u. Path'.refl) (d9, (d15, tt))
+          d16 = Switch.t-switch-on 𝓤 H A W E 𝓣 G62 (Scalar.oFld 33 (List._∷_ (Syntax.variant 0) (List._∷_ (Syntax.field 0) List.[])) (Syntax.tyInt Syntax.w8) 0 λ x. Val.vint Syntax.w8 (Declared.tagOf Course.the-type x)) Syntax.w8 (λ u. Declared.tagOf Course.the-type (u .1 .1 .1 .1 .1 .1 .1 .1 .1 .1 .1 .1 .1 .1 .1 .1 .1 .1 .1 .1 .1 .1 .1 .1 .1 .1 .1 .1 .1 .1 .1 .1 .1 .0)) (Syntax.arm (List._∷_ 0 List.[]) b25 (Syntax.arm (List._∷_ 1 List.[]) b26 Syntax.noDefault)) Δ5 (at9 bs, (at15 bs, tt)) (Match.reads-tag 𝓤 H A W Course.the-type Laws''.the-laws (Rows.whole (Declared.row Course.the-type)) 0 (λ x. x) (Whole.reads-enum 𝓤 H A W Course.the-type Laws''.the-laws), Path'.refl) (λ u. Path'.refl) (d9, (d15, tt))
 
           d17 : Typed.Typed 𝓤 H A 𝓣 E G84 b29 Δ3 (at17 bs)
           d17 = Typed.t-return 𝓤 H A W 𝓣 E Δ3 tt
@@ -1926,7 +1926,7 @@ module _ (claims· : Claims) where
           d27 = Typed.g-pre 𝓤 H A W 𝓣 E G74 G75 b29 Δ3 (Typed.pass T74 T75 (s70 bs)) (at26 bs) (Scalar.g-room 𝓤 H A W E G74 14 type·0 (Local.room-whole 𝓤 H A W (Declared'.row Loads.the-type) type·0 Path'.refl)) d26
 
           d28 : Typed.Typed 𝓤 H A 𝓣 E G63 b30 Δ3 (at28 bs)
-          d28 = Typed.s-seq 𝓤 H A W 𝓣 E G63 G74 b28 b29 Δ3 (Typed.pass T63 T74 (s69 bs)) (at27 bs) (Make.t-make-told 𝓤 H A W E 𝓣 (Declared'.row (Apart.apartT Ended.the-type)) Path'.refl (Laws'7.val (Apart.apartT Ended.the-type) Laws''.the-laws) (Laws'7.lawful (Apart.apartT Ended.the-type) Laws''.the-laws 𝓤 H A W) (Laws'7.makes (Apart.apartT Ended.the-type) Laws''.the-plain 𝓤 H A) G63 0 (List._∷_ (Scalar.oAt 21 (Syntax.tyInt Syntax.w32) (Row.valS (Row.sInt Syntax.w32))) (List._∷_ (Scalar.oAt 16 (Syntax.tyInt Syntax.w32) (Row.valS (Row.sInt Syntax.w32))) (List._∷_ (Scalar.oAt 15 (Syntax.tyInt Syntax.w64) (Row.valS (Row.sInt Syntax.w64))) (List._∷_ (Scalar.oAt 14 type·0 (Laws'7.val Loads.the-type Laws'4.the-laws)) List.[])))) (λ m. (m .1 .1 .1 .1 .1 .1 .1 .1 .1 .1 .1 .1 .1 .1 .1 .1 .1 .1 .1 .1 .1 .0, (m .1 .1 .1 .1 .1 .1 .1 .1 .1 .1 .1 .1 .1 .1 .1 .1 .0, (m .1 .1 .1 .1 .1 .1 .1 .1 .1 .1 .1 .1 .1 .1 .1 .0, (m .1 .1 .1 .1 .1 .1 .1 .1 .1 .1 .1 .1 .1 .1 .0, tt))))) (λ m. Laws'6.Is (Declared'.row Loads.the-type) (m .1 .1 .1 .1 .1 .1 .1 .1 .1 .1 .1 .1 .1 .1 .0) (Laws'7.vals Loads.the-type Laws'4.the-laws (m .1 .1 .1 .1 .1 .1 .1 .1 .1 .1 .1 .1 .1 .1 .0))) (Reads'.room-gone 𝓤 H A type·9) ((Scalar.reads-sc 𝓤 H A W (Row.sInt Syntax.w32), Path'.refl), ((Scalar.reads-sc 𝓤 H A W (Row.sInt Syntax.w32), Path'.refl), ((Scalar.reads-sc 𝓤 H A W (Row.sInt Syntax.w64), Path'.refl), ((Reads.reads-struct 𝓤 H A W Loads.the-type Laws'4.the-laws, Path'.refl), tt)))) Path'.refl (λ ρ m. Make.tells-row 𝓤 H A W E ρ (Row.out 0 (G63 .locals)) m 14 (Laws'6.Is (Declared'.row Loads.the-type) (m .1 .1 .1 .1 .1 .1 .1 .1 .1 .1 .1 .1 .1 .1 .0) (Laws'7.vals Loads.the-type Laws'4.the-laws (m .1 .1 .1 .1 .1 .1 .1 .1 .1 .1 .1 .1 .1 .1 .0))) (Make.whole-is 𝓤 H A W E (Declared'.row Loads.the-type) Path'.refl (Laws'7.val Loads.the-type Laws'4.the-laws) (Laws'7.tells Loads.the-type Laws'4.the-laws) ρ 14 (m .1 .1 .1 .1 .1 .1 .1 .1 .1 .1 .1 .1 .1 .1 .0))) (λ m q. Signed.made-val (Apart.apartT Ended.the-type) Laws''.the-laws (List._∷_ (Laws''.the-laws .0 .val (m .1 .1 .1 .1 .1 .1 .1 .1 .1 .1 .1 .1 .1 .1 .1 .1 .1 .1 .1 .1 .1 .0)) (List._∷_ (Laws''.the-laws .1 .0 .val (m .1 .1 .1 .1 .1 .1 .1 .1 .1 .1 .1 .1 .1 .1 .1 .1 .0)) (List._∷_ (Laws''.the-laws .1 .1 .0 .val (m .1 .1 .1 .1 .1 .1 .1 .1 .1 .1 .1 .1 .1 .1 .1 .0)) (List._∷_ (Laws'7.val Loads.the-type Laws'4.the-laws (m .1 .1 .1 .1 .1 .1 .1 .1 .1 .1 .1 .1 .1 .1 .0)) List.[])))) (m .1 .1 .1 .1 .1 .1 .1 .1 .1 .1 .1 .1 .1 .1 .1 .1 .1 .1 .1 .1 .1 .0, (m .1 .1 .1 .1 .1 .1 .1 .1 .1 .1 .1 .1 .1 .1 .1 .1 .0, (m .1 .1 .1 .1 .1 .1 .1 .1 .1 .1 .1 .1 .1 .1 .1 .0, (m .1 .1 .1 .1 .1 .1 .1 .1 .1 .1 .1 .1 .1 .1 .0, tt)))) (Signed.made-wt Field.u32-field (Laws''.the-laws .0) Make.u32-wt (m .1 .1 .1 .1 .1 .1 .1 .1 .1 .1 .1 .1 .1 .1 .1 .1 .1 .1 .1 .1 .1 .0), (Signed.made-wt Field.u32-field (Laws''.the-laws .1 .0) Make.u32-wt (m .1 .1 .1 .1 .1 .1 .1 .1 .1 .1 .1 .1 .1 .1 .1 .1 .0), (Signed.made-wt Field.u64-field (Laws''.the-laws .1 .1 .0) Make.u64-wt (m .1 .1 .1 .1 .1 .1 .1 .1 .1 .1 .1 .1 .1 .1 .1 .0), (Signed.made-struct Loads.the-type Laws'4.the-laws Laws'4.lowers (m .1 .1 .1 .1 .1 .1 .1 .1 .1 .1 .1 .1 .1 .1 .0) q, tt))))) λ m q. Signed.made-is (Apart.apartT Ended.the-type) Laws''.the-laws (List._∷_ (Laws''.the-laws .0 .val (m .1 .1 .1 .1 .1 .1 .1 .1 .1 .1 .1 .1 .1 .1 .1 .1 .1 .1 .1 .1 .1 .0)) (List._∷_ (Laws''.the-laws .1 .0 .val (m .1 .1 .1 .1 .1 .1 .1 .1 .1 .1 .1 .1 .1 .1 .1 .1 .0)) (List._∷_ (Laws''.the-laws .1 .1 .0 .val (m .1 .1 .1 .1 .1 .1 .1 .1 .1 .1 .1 .1 .1 .1 .1 .0)) (List._∷_ (Laws'7.val Loads.the-type Laws'4.the-laws (m .1 .1 .1 .1 .1 .1 .1 .1 .1 .1 .1 .1 .1 .1 .0)) List.[])))) (m .1 .1 .1 .1 .1 .1 .1 .1 .1 .1 .1 .1 .1 .1 .1 .1 .1 .1 .1 .1 .1 .0, (m .1 .1 .1 .1 .1 .1 .1 .1 .1 .1 .1 .1 .1 .1 .1 .1 .0, (m .1 .1 .1 .1 .1 .1 .1 .1 .1 .1 .1 .1 .1 .1 .1 .0, (m .1 .1 .1 .1 .1 .1 .1 .1 .1 .1 .1 .1 .1 .1 .0, tt)))) (Signed.made-wt Field.u32-field (Laws''.the-laws .0) Make.u32-wt (m .1 .1 .1 .1 .1 .1 .1 .1 .1 .1 .1 .1 .1 .1 .1 .1 .1 .1 .1 .1 .1 .0), (Signed.made-wt Field.u32-field (Laws''.the-laws .1 .0) Make.u32-wt (m .1 .1 .1 .1 .1 .1 .1 .1 .1 .1 .1 .1 .1 .1 .1 .1 .0), (Signed.made-wt Field.u64-field (Laws''.the-laws .1 .1 .0) Make.u64-wt (m .1 .1 .1 .1 .1 .1 .1 .1 .1 .1 .1 .1 .1 .1 .1 .0), (Signed.made-struct Loads.the-type Laws'4.the-laws Laws'4.lowers (m .1 .1 .1 .1 .1 .1 .1 .1 .1 .1 .1 .1 .1 .1 .0) q, tt))))) d27
+          d28 = Typed.s-seq 𝓤 H A W 𝓣 E G63 G74 b28 b29 Δ3 (Typed.pass T63 T74 (s69 bs)) (at27 bs) (Make.t-make-told 𝓤 H A W E 𝓣 (Declared'.row (Apart.apartT Ended.the-type)) Path'.refl (Laws'7.val (Apart.apartT Ended.the-type) Laws'3.the-laws) (Laws'7.lawful (Apart.apartT Ended.the-type) Laws'3.the-laws 𝓤 H A W) (Laws'7.makes (Apart.apartT Ended.the-type) Laws'3.the-plain 𝓤 H A) G63 0 (List._∷_ (Scalar.oAt 21 (Syntax.tyInt Syntax.w32) (Row.valS (Row.sInt Syntax.w32))) (List._∷_ (Scalar.oAt 16 (Syntax.tyInt Syntax.w32) (Row.valS (Row.sInt Syntax.w32))) (List._∷_ (Scalar.oAt 15 (Syntax.tyInt Syntax.w64) (Row.valS (Row.sInt Syntax.w64))) (List._∷_ (Scalar.oAt 14 type·0 (Laws'7.val Loads.the-type Laws'4.the-laws)) List.[])))) (λ m. (m .1 .1 .1 .1 .1 .1 .1 .1 .1 .1 .1 .1 .1 .1 .1 .1 .1 .1 .1 .1 .1 .0, (m .1 .1 .1 .1 .1 .1 .1 .1 .1 .1 .1 .1 .1 .1 .1 .1 .0, (m .1 .1 .1 .1 .1 .1 .1 .1 .1 .1 .1 .1 .1 .1 .1 .0, (m .1 .1 .1 .1 .1 .1 .1 .1 .1 .1 .1 .1 .1 .1 .0, tt))))) (λ m. Laws'6.Is (Declared'.row Loads.the-type) (m .1 .1 .1 .1 .1 .1 .1 .1 .1 .1 .1 .1 .1 .1 .0) (Laws'7.vals Loads.the-type Laws'4.the-laws (m .1 .1 .1 .1 .1 .1 .1 .1 .1 .1 .1 .1 .1 .1 .0))) (Reads'.room-gone 𝓤 H A type·9) ((Scalar.reads-sc 𝓤 H A W (Row.sInt Syntax.w32), Path'.refl), ((Scalar.reads-sc 𝓤 H A W (Row.sInt Syntax.w32), Path'.refl), ((Scalar.reads-sc 𝓤 H A W (Row.sInt Syntax.w64), Path'.refl), ((Reads.reads-struct 𝓤 H A W Loads.the-type Laws'4.the-laws, Path'.refl), tt)))) Path'.refl (λ ρ m. Make.tells-row 𝓤 H A W E ρ (Row.out 0 (G63 .locals)) m 14 (Laws'6.Is (Declared'.row Loads.the-type) (m .1 .1 .1 .1 .1 .1 .1 .1 .1 .1 .1 .1 .1 .1 .0) (Laws'7.vals Loads.the-type Laws'4.the-laws (m .1 .1 .1 .1 .1 .1 .1 .1 .1 .1 .1 .1 .1 .1 .0))) (Make.whole-is 𝓤 H A W E (Declared'.row Loads.the-type) Path'.refl (Laws'7.val Loads.the-type Laws'4.the-laws) (Laws'7.tells Loads.the-type Laws'4.the-laws) ρ 14 (m .1 .1 .1 .1 .1 .1 .1 .1 .1 .1 .1 .1 .1 .1 .0))) (λ m q. Signed.made-val (Apart.apartT Ended.the-type) Laws'3.the-laws (List._∷_ (Laws'3.the-laws .0 .val (m .1 .1 .1 .1 .1 .1 .1 .1 .1 .1 .1 .1 .1 .1 .1 .1 .1 .1 .1 .1 .1 .0)) (List._∷_ (Laws'3.the-laws .1 .0 .val (m .1 .1 .1 .1 .1 .1 .1 .1 .1 .1 .1 .1 .1 .1 .1 .1 .0)) (List._∷_ (Laws'3.the-laws .1 .1 .0 .val (m .1 .1 .1 .1 .1 .1 .1 .1 .1 .1 .1 .1 .1 .1 .1 .0)) (List._∷_ (Laws'7.val Loads.the-type Laws'4.the-laws (m .1 .1 .1 .1 .1 .1 .1 .1 .1 .1 .1 .1 .1 .1 .0)) List.[])))) (m .1 .1 .1 .1 .1 .1 .1 .1 .1 .1 .1 .1 .1 .1 .1 .1 .1 .1 .1 .1 .1 .0, (m .1 .1 .1 .1 .1 .1 .1 .1 .1 .1 .1 .1 .1 .1 .1 .1 .0, (m .1 .1 .1 .1 .1 .1 .1 .1 .1 .1 .1 .1 .1 .1 .1 .0, (m .1 .1 .1 .1 .1 .1 .1 .1 .1 .1 .1 .1 .1 .1 .0, tt)))) (Signed.made-wt Field.u32-field (Laws'3.the-laws .0) Make.u32-wt (m .1 .1 .1 .1 .1 .1 .1 .1 .1 .1 .1 .1 .1 .1 .1 .1 .1 .1 .1 .1 .1 .0), (Signed.made-wt Field.u32-field (Laws'3.the-laws .1 .0) Make.u32-wt (m .1 .1 .1 .1 .1 .1 .1 .1 .1 .1 .1 .1 .1 .1 .1 .1 .0), (Signed.made-wt Field.u64-field (Laws'3.the-laws .1 .1 .0) Make.u64-wt (m .1 .1 .1 .1 .1 .1 .1 .1 .1 .1 .1 .1 .1 .1 .1 .0), (Signed.made-struct Loads.the-type Laws'4.the-laws Laws'4.lowers (m .1 .1 .1 .1 .1 .1 .1 .1 .1 .1 .1 .1 .1 .1 .0) q, tt))))) λ m q. Signed.made-is (Apart.apartT Ended.the-type) Laws'3.the-laws (List._∷_ (Laws'3.the-laws .0 .val (m .1 .1 .1 .1 .1 .1 .1 .1 .1 .1 .1 .1 .1 .1 .1 .1 .1 .1 .1 .1 .1 .0)) (List._∷_ (Laws'3.the-laws .1 .0 .val (m .1 .1 .1 .1 .1 .1 .1 .1 .1 .1 .1 .1 .1 .1 .1 .1 .0)) (List._∷_ (Laws'3.the-laws .1 .1 .0 .val (m .1 .1 .1 .1 .1 .1 .1 .1 .1 .1 .1 .1 .1 .1 .1 .0)) (List._∷_ (Laws'7.val Loads.the-type Laws'4.the-laws (m .1 .1 .1 .1 .1 .1 .1 .1 .1 .1 .1 .1 .1 .1 .0)) List.[])))) (m .1 .1 .1 .1 .1 .1 .1 .1 .1 .1 .1 .1 .1 .1 .1 .1 .1 .1 .1 .1 .1 .0, (m .1 .1 .1 .1 .1 .1 .1 .1 .1 .1 .1 .1 .1 .1 .1 .1 .0, (m .1 .1 .1 .1 .1 .1 .1 .1 .1 .1 .1 .1 .1 .1 .1 .0, (m .1 .1 .1 .1 .1 .1 .1 .1 .1 .1 .1 .1 .1 .1 .0, tt)))) (Signed.made-wt Field.u32-field (Laws'3.the-laws .0) Make.u32-wt (m .1 .1 .1 .1 .1 .1 .1 .1 .1 .1 .1 .1 .1 .1 .1 .1 .1 .1 .1 .1 .1 .0), (Signed.made-wt Field.u32-field (Laws'3.the-laws .1 .0) Make.u32-wt (m .1 .1 .1 .1 .1 .1 .1 .1 .1 .1 .1 .1 .1 .1 .1 .1 .0), (Signed.made-wt Field.u64-field (Laws'3.the-laws .1 .1 .0) Make.u64-wt (m .1 .1 .1 .1 .1 .1 .1 .1 .1 .1 .1 .1 .1 .1 .1 .0), (Signed.made-struct Loads.the-type Laws'4.the-laws Laws'4.lowers (m .1 .1 .1 .1 .1 .1 .1 .1 .1 .1 .1 .1 .1 .1 .0) q, tt))))) d27
 
           d29 : Typed.Typed 𝓤 H A 𝓣 E G62 b31 Δ3 (at29 bs)
           d29 = Typed.t-seq 𝓤 H A W 𝓣 E G62 G63 b27 b30 Δ3 (at16 bs) (at28 bs) d16 d28
@@ -1938,10 +1938,10 @@ module _ (claims· : Claims) where
           d31 = Typed.g-pre 𝓤 H A W 𝓣 E G60 G61 b32 Δ3 (Typed.pass T60 T61 (s57 bs)) (at30 bs) (Scalar.g-room 𝓤 H A W E G60 17 type·1 (Local.room-whole 𝓤 H A W (Declared'.row Passed.the-type) type·1 Path'.refl)) d30
 
           d32 : Typed.Typed 𝓤 H A 𝓣 E G59 b33 Δ3 (at32 bs)
-          d32 = Typed.s-seq 𝓤 H A W 𝓣 E G59 G60 b23 b32 Δ3 (Typed.both (s56 bs)) (at31 bs) (WayStmt.t-way-copy-out 𝓤 H A W E 𝓣 (Declared'.row Loads.the-type) Path'.refl (Copies.cStruct Loads.the-type Laws'4.the-laws Laws'4.the-copy .copy 𝓤 H A W) (λ ρ. Unit) G59 (Row.out 17 (G59 .locals)) (λ u. Row.drop 17 (G59 .locals) u) (G59 .slots) 17 (λ t. List._∷_ (Syntax.field 3) t) type·0 type·0 14 (Rows.whole (Declared'.row Loads.the-type)) (λ x. x) (λ u. At.getAt (Passed.the-type .parts) 3 (Passed.struct .as-values (u .1 .1 .1 .1 .1 .1 .1 .1 .1 .1 .1 .1 .1 .1 .1 .1 .1 .0))) (λ u. (Row.hd 0 (Row.tl (Row.tl (Row.tl (Row.tl (Row.tl (Row.tl (Row.tl (Row.tl (Row.tl (Row.tl (Row.tl (Row.tl (Row.tl (Row.tl (Row.tl (Row.tl (Row.tl bs))))))))))))))))), Nat._+_ 0 24)) (λ T′. record { locals = Row.setRow 17 row·46 T′; slots = G59 .slots }) (λ u T′ m′. Row.set 17 row·46 (u .1 .1 .1 .1 .1 .1 .1 .1 .1 .1 .1 .1 .1 .1 .1 .1 .1 .0) T′ m′) (λ u. Unit) (λ x. Unit) (Own.told-none 𝓤 H A (G59 .slots)) (DerefMove.learns-nothing 𝓤 H A (Declared'.row Loads.the-type)) (λ ρ told u asked. Way'.w-partˢ 𝓤 H A W E (Declared'.row Passed.the-type) (Declared'.row Loads.the-type) type·1 type·0 3 24 (u .1 .1 .1 .1 .1 .1 .1 .1 .1 .1 .1 .1 .1 .1 .1 .1 .1 .0) (At.getAt (Passed.the-type .parts) 3 (Passed.struct .as-values (u .1 .1 .1 .1 .1 .1 .1 .1 .1 .1 .1 .1 .1 .1 .1 .1 .1 .0))) (Row.hd 0 (Row.tl (Row.tl (Row.tl (Row.tl (Row.tl (Row.tl (Row.tl (Row.tl (Row.tl (Row.tl (Row.tl (Row.tl (Row.tl (Row.tl (Row.tl (Row.tl (Row.tl bs))))))))))))))))), 0) (Way.w-look 𝓤 H A W E (Way.w-local 𝓤 H A W E G59 ρ u (G59 .slots) 17 (Declared'.row Passed.the-type) (Rows.whole (Declared'.row Passed.the-type)) (λ x. x) (λ x. x) (u .1 .1 .1 .1 .1 .1 .1 .1 .1 .1 .1 .1 .1 .1 .1 .1 .1 .0) (Local.mem-whole 𝓤 H A W (Declared'.row Passed.the-type) ρ (u .1 .1 .1 .1 .1 .1 .1 .1 .1 .1 .1 .1 .1 .1 .1 .1 .1 .0) (Row.hd 0 (Row.tl (Row.tl (Row.tl (Row.tl (Row.tl (Row.tl (Row.tl (Row.tl (Row.tl (Row.tl (Row.tl (Row.tl (Row.tl (Row.tl (Row.tl (Row.tl (Row.tl bs))))))))))))))))))) (Local.whole-mem 𝓤 H A W (Declared'.row Passed.the-type) ρ (u .1 .1 .1 .1 .1 .1 .1 .1 .1 .1 .1 .1 .1 .1 .1 .1 .1 .0) (Row.hd 0 (Row.tl (Row.tl (Row.tl (Row.tl (Row.tl (Row.tl (Row.tl (Row.tl (Row.tl (Row.tl (Row.tl (Row.tl (Row.tl (Row.tl (Row.tl (Row.tl (Row.tl bs))))))))))))))))))))) Path'.refl λ q. Inner.cut-record 𝓤 H A q (Declared'.row Passed.the-type) Loads.the-type 24 (u .1 .1 .1 .1 .1 .1 .1 .1 .1 .1 .1 .1 .1 .1 .1 .1 .1 .0) (u .1 .1 .1 .1 .1 .1 .1 .1 .1 .1 .1 .1 .1 .1 .1 .1 .1 .0) (At.getAt (Passed.the-type .parts) 3 (Passed.struct .as-values (u .1 .1 .1 .1 .1 .1 .1 .1 .1 .1 .1 .1 .1 .1 .1 .1 .1 .0))) (At.getAt (Passed.the-type .parts) 3 (Passed.struct .as-values (u .1 .1 .1 .1 .1 .1 .1 .1 .1 .1 .1 .1 .1 .1 .1 .1 .1 .0))) (Row.hd 0 (Row.tl (Row.tl (Row.tl (Row.tl (Row.tl (Row.tl (Row.tl (Row.tl (Row.tl (Row.tl (Row.tl (Row.tl (Row.tl (Row.tl (Row.tl (Row.tl (Row.tl bs))))))))))))))))), 0) (Behind.look-at 𝓤 H A W q Passed.the-type Laws'3.the-laws 3 24 Path'.refl Path'.refl (Row.hd 0 (Row.tl (Row.tl (Row.tl (Row.tl (Row.tl (Row.tl (Row.tl (Row.tl (Row.tl (Row.tl (Row.tl (Row.tl (Row.tl (Row.tl (Row.tl (Row.tl (Row.tl bs))))))))))))))))), 0) (u .1 .1 .1 .1 .1 .1 .1 .1 .1 .1 .1 .1 .1 .1 .1 .1 .1 .0) (Passed.struct .as-values (u .1 .1 .1 .1 .1 .1 .1 .1 .1 .1 .1 .1 .1 .1 .1 .1 .1 .0)) Path'.refl)) (Reads'.room-gone 𝓤 H A type·0) (Yields.makes-mem 𝓤 H A W (λ ρ. Unit) (Declared'.row Loads.the-type) Path'.refl (Rows.whole (Declared'.row Loads.the-type)) (λ x. x) λ ρ told. Local.whole-mem 𝓤 H A W (Declared'.row Loads.the-type) ρ) Path'.refl Path'.refl Path'.refl) d31
+          d32 = Typed.s-seq 𝓤 H A W 𝓣 E G59 G60 b23 b32 Δ3 (Typed.both (s56 bs)) (at31 bs) (WayStmt.t-way-copy-out 𝓤 H A W E 𝓣 (Declared'.row Loads.the-type) Path'.refl (Copies.cStruct Loads.the-type Laws'4.the-laws Laws'4.the-copy .copy 𝓤 H A W) (λ ρ. Unit) G59 (Row.out 17 (G59 .locals)) (λ u. Row.drop 17 (G59 .locals) u) (G59 .slots) 17 (λ t. List._∷_ (Syntax.field 3) t) type·0 type·0 14 (Rows.whole (Declared'.row Loads.the-type)) (λ x. x) (λ u. At.getAt (Passed.the-type .parts) 3 (Passed.struct .as-values (u .1 .1 .1 .1 .1 .1 .1 .1 .1 .1 .1 .1 .1 .1 .1 .1 .1 .0))) (λ u. (Row.hd 0 (Row.tl (Row.tl (Row.tl (Row.tl (Row.tl (Row.tl (Row.tl (Row.tl (Row.tl (Row.tl (Row.tl (Row.tl (Row.tl (Row.tl (Row.tl (Row.tl (Row.tl bs))))))))))))))))), Nat._+_ 0 24)) (λ T′. record { locals = Row.setRow 17 row·46 T′; slots = G59 .slots }) (λ u T′ m′. Row.set 17 row·46 (u .1 .1 .1 .1 .1 .1 .1 .1 .1 .1 .1 .1 .1 .1 .1 .1 .1 .0) T′ m′) (λ u. Unit) (λ x. Unit) (Own.told-none 𝓤 H A (G59 .slots)) (DerefMove.learns-nothing 𝓤 H A (Declared'.row Loads.the-type)) (λ ρ told u asked. Way'.w-partˢ 𝓤 H A W E (Declared'.row Passed.the-type) (Declared'.row Loads.the-type) type·1 type·0 3 24 (u .1 .1 .1 .1 .1 .1 .1 .1 .1 .1 .1 .1 .1 .1 .1 .1 .1 .0) (At.getAt (Passed.the-type .parts) 3 (Passed.struct .as-values (u .1 .1 .1 .1 .1 .1 .1 .1 .1 .1 .1 .1 .1 .1 .1 .1 .1 .0))) (Row.hd 0 (Row.tl (Row.tl (Row.tl (Row.tl (Row.tl (Row.tl (Row.tl (Row.tl (Row.tl (Row.tl (Row.tl (Row.tl (Row.tl (Row.tl (Row.tl (Row.tl (Row.tl bs))))))))))))))))), 0) (Way.w-look 𝓤 H A W E (Way.w-local 𝓤 H A W E G59 ρ u (G59 .slots) 17 (Declared'.row Passed.the-type) (Rows.whole (Declared'.row Passed.the-type)) (λ x. x) (λ x. x) (u .1 .1 .1 .1 .1 .1 .1 .1 .1 .1 .1 .1 .1 .1 .1 .1 .1 .0) (Local.mem-whole 𝓤 H A W (Declared'.row Passed.the-type) ρ (u .1 .1 .1 .1 .1 .1 .1 .1 .1 .1 .1 .1 .1 .1 .1 .1 .1 .0) (Row.hd 0 (Row.tl (Row.tl (Row.tl (Row.tl (Row.tl (Row.tl (Row.tl (Row.tl (Row.tl (Row.tl (Row.tl (Row.tl (Row.tl (Row.tl (Row.tl (Row.tl (Row.tl bs))))))))))))))))))) (Local.whole-mem 𝓤 H A W (Declared'.row Passed.the-type) ρ (u .1 .1 .1 .1 .1 .1 .1 .1 .1 .1 .1 .1 .1 .1 .1 .1 .1 .0) (Row.hd 0 (Row.tl (Row.tl (Row.tl (Row.tl (Row.tl (Row.tl (Row.tl (Row.tl (Row.tl (Row.tl (Row.tl (Row.tl (Row.tl (Row.tl (Row.tl (Row.tl (Row.tl bs))))))))))))))))))))) Path'.refl λ q. Inner.cut-record 𝓤 H A q (Declared'.row Passed.the-type) Loads.the-type 24 (u .1 .1 .1 .1 .1 .1 .1 .1 .1 .1 .1 .1 .1 .1 .1 .1 .1 .0) (u .1 .1 .1 .1 .1 .1 .1 .1 .1 .1 .1 .1 .1 .1 .1 .1 .1 .0) (At.getAt (Passed.the-type .parts) 3 (Passed.struct .as-values (u .1 .1 .1 .1 .1 .1 .1 .1 .1 .1 .1 .1 .1 .1 .1 .1 .1 .0))) (At.getAt (Passed.the-type .parts) 3 (Passed.struct .as-values (u .1 .1 .1 .1 .1 .1 .1 .1 .1 .1 .1 .1 .1 .1 .1 .1 .1 .0))) (Row.hd 0 (Row.tl (Row.tl (Row.tl (Row.tl (Row.tl (Row.tl (Row.tl (Row.tl (Row.tl (Row.tl (Row.tl (Row.tl (Row.tl (Row.tl (Row.tl (Row.tl (Row.tl bs))))))))))))))))), 0) (Behind.look-at 𝓤 H A W q Passed.the-type Laws'.the-laws 3 24 Path'.refl Path'.refl (Row.hd 0 (Row.tl (Row.tl (Row.tl (Row.tl (Row.tl (Row.tl (Row.tl (Row.tl (Row.tl (Row.tl (Row.tl (Row.tl (Row.tl (Row.tl (Row.tl (Row.tl (Row.tl bs))))))))))))))))), 0) (u .1 .1 .1 .1 .1 .1 .1 .1 .1 .1 .1 .1 .1 .1 .1 .1 .1 .0) (Passed.struct .as-values (u .1 .1 .1 .1 .1 .1 .1 .1 .1 .1 .1 .1 .1 .1 .1 .1 .1 .0)) Path'.refl)) (Reads'.room-gone 𝓤 H A type·0) (Yields.makes-mem 𝓤 H A W (λ ρ. Unit) (Declared'.row Loads.the-type) Path'.refl (Rows.whole (Declared'.row Loads.the-type)) (λ x. x) λ ρ told. Local.whole-mem 𝓤 H A W (Declared'.row Loads.the-type) ρ) Path'.refl Path'.refl Path'.refl) d31
 
           d33 : Typed.Typed 𝓤 H A 𝓣 E G58 b34 Δ3 (at33 bs)
-          d33 = Typed.s-seq 𝓤 H A W 𝓣 E G58 G59 b22 b33 Δ3 (Typed.pass T58 T59 (s55 bs)) (at32 bs) (Scalar.t-use 𝓤 H A W E 𝓣 G58 (Scalar.oFld 17 (List._∷_ (Syntax.field 2) List.[]) (Syntax.tyInt Syntax.w64) 16 (Reads.fieldV Passed.the-type Laws'3.the-laws 2)) 15 (Rows.sc-here (Row.sInt Syntax.w64)) (Syntax.tyInt Syntax.w64) (Row.valS (Row.sInt Syntax.w64)) (Row.sInt Syntax.w64 .of) (Reads.reads-field 𝓤 H A W Passed.the-type Laws'3.the-laws 2 (Syntax.tyInt Syntax.w64) 16 Path'.refl, Path'.refl) (Reads'.room-gone 𝓤 H A (Syntax.tyInt Syntax.w64)) (Scalar.holds-sc 𝓤 H A W (Row.sInt Syntax.w64)) Path'.refl (λ u. Path'.refl) λ u. tt) d32
+          d33 = Typed.s-seq 𝓤 H A W 𝓣 E G58 G59 b22 b33 Δ3 (Typed.pass T58 T59 (s55 bs)) (at32 bs) (Scalar.t-use 𝓤 H A W E 𝓣 G58 (Scalar.oFld 17 (List._∷_ (Syntax.field 2) List.[]) (Syntax.tyInt Syntax.w64) 16 (Reads.fieldV Passed.the-type Laws'.the-laws 2)) 15 (Rows.sc-here (Row.sInt Syntax.w64)) (Syntax.tyInt Syntax.w64) (Row.valS (Row.sInt Syntax.w64)) (Row.sInt Syntax.w64 .of) (Reads.reads-field 𝓤 H A W Passed.the-type Laws'.the-laws 2 (Syntax.tyInt Syntax.w64) 16 Path'.refl, Path'.refl) (Reads'.room-gone 𝓤 H A (Syntax.tyInt Syntax.w64)) (Scalar.holds-sc 𝓤 H A W (Row.sInt Syntax.w64)) Path'.refl (λ u. Path'.refl) λ u. tt) d32
 
           d34 : Typed.Typed 𝓤 H A 𝓣 E G57 b34 Δ3 (at34 bs)
           d34 = Typed.g-pre 𝓤 H A W 𝓣 E G57 G58 b34 Δ3 (Typed.pass T57 T58 (s54 bs)) (at33 bs) (Scalar.g-room 𝓤 H A W E G57 15 (Syntax.tyInt Syntax.w64) (Scalar.room-sc 𝓤 H A W (Row.sInt Syntax.w64))) d33
@@ -1995,10 +1995,10 @@ module _ (claims· : Claims) where
           d50 = Typed.g-pre 𝓤 H A W 𝓣 E G41 G42 b40 Δ3 (λ Ψ. Ψ) (at49 bs) (Lifetime.g-begin 𝓤 H A W E G41 12 (tt, (tt, (tt, (tt, (tt, (tt, (tt, (tt, (tt, (tt, (tt, (tt, (tt, (tt, (tt, (tt, (tt, (tt, (tt, (tt, (tt, (tt, (tt, (tt, (tt, (tt, (tt, (tt, (tt, (tt, (tt, (tt, (tt, (tt, tt))))))))))))))))))))))))))))))))))) d49
 
           d51 : Typed.Typed 𝓤 H A 𝓣 E G40 b41 Δ3 (at51 bs)
-          d51 = Typed.s-seq 𝓤 H A W 𝓣 E G40 G41 b15 b40 Δ3 (Typed.pass T40 T41 (s37 bs)) (at50 bs) (Scalar.t-use 𝓤 H A W E 𝓣 G40 (Scalar.oFld 17 (List._∷_ (Syntax.field 1) List.[]) (Syntax.tyInt Syntax.w64) 8 (Reads.fieldV Passed.the-type Laws'3.the-laws 1)) 19 (Rows.sc-here (Row.sInt Syntax.w64)) (Syntax.tyInt Syntax.w64) (Row.valS (Row.sInt Syntax.w64)) (Row.sInt Syntax.w64 .of) (Reads.reads-field 𝓤 H A W Passed.the-type Laws'3.the-laws 1 (Syntax.tyInt Syntax.w64) 8 Path'.refl, Path'.refl) (Reads'.room-gone 𝓤 H A (Syntax.tyInt Syntax.w64)) (Scalar.holds-sc 𝓤 H A W (Row.sInt Syntax.w64)) Path'.refl (λ u. Path'.refl) λ u. tt) d50
+          d51 = Typed.s-seq 𝓤 H A W 𝓣 E G40 G41 b15 b40 Δ3 (Typed.pass T40 T41 (s37 bs)) (at50 bs) (Scalar.t-use 𝓤 H A W E 𝓣 G40 (Scalar.oFld 17 (List._∷_ (Syntax.field 1) List.[]) (Syntax.tyInt Syntax.w64) 8 (Reads.fieldV Passed.the-type Laws'.the-laws 1)) 19 (Rows.sc-here (Row.sInt Syntax.w64)) (Syntax.tyInt Syntax.w64) (Row.valS (Row.sInt Syntax.w64)) (Row.sInt Syntax.w64 .of) (Reads.reads-field 𝓤 H A W Passed.the-type Laws'.the-laws 1 (Syntax.tyInt Syntax.w64) 8 Path'.refl, Path'.refl) (Reads'.room-gone 𝓤 H A (Syntax.tyInt Syntax.w64)) (Scalar.holds-sc 𝓤 H A W (Row.sInt Syntax.w64)) Path'.refl (λ u. Path'.refl) λ u. tt) d50
 
           d52 : Typed.Typed 𝓤 H A 𝓣 E G39 b42 Δ3 (at52 bs)
-          d52 = Typed.s-seq 𝓤 H A W 𝓣 E G39 G40 b14 b41 Δ3 (Typed.pass T38 T40 (s36 bs)) (at51 bs) (Scalar.t-use 𝓤 H A W E 𝓣 G39 (Scalar.oFld 17 (List._∷_ (Syntax.field 0) List.[]) (Syntax.tyInt Syntax.w64) 0 (Reads.fieldV Passed.the-type Laws'3.the-laws 0)) 18 (Rows.sc-here (Row.sInt Syntax.w64)) (Syntax.tyInt Syntax.w64) (Row.valS (Row.sInt Syntax.w64)) (Row.sInt Syntax.w64 .of) (Reads.reads-field 𝓤 H A W Passed.the-type Laws'3.the-laws 0 (Syntax.tyInt Syntax.w64) 0 Path'.refl, Path'.refl) (Reads'.room-gone 𝓤 H A (Syntax.tyInt Syntax.w64)) (Scalar.holds-sc 𝓤 H A W (Row.sInt Syntax.w64)) Path'.refl (λ u. Path'.refl) λ u. tt) d51
+          d52 = Typed.s-seq 𝓤 H A W 𝓣 E G39 G40 b14 b41 Δ3 (Typed.pass T38 T40 (s36 bs)) (at51 bs) (Scalar.t-use 𝓤 H A W E 𝓣 G39 (Scalar.oFld 17 (List._∷_ (Syntax.field 0) List.[]) (Syntax.tyInt Syntax.w64) 0 (Reads.fieldV Passed.the-type Laws'.the-laws 0)) 18 (Rows.sc-here (Row.sInt Syntax.w64)) (Syntax.tyInt Syntax.w64) (Row.valS (Row.sInt Syntax.w64)) (Row.sInt Syntax.w64 .of) (Reads.reads-field 𝓤 H A W Passed.the-type Laws'.the-laws 0 (Syntax.tyInt Syntax.w64) 0 Path'.refl, Path'.refl) (Reads'.room-gone 𝓤 H A (Syntax.tyInt Syntax.w64)) (Scalar.holds-sc 𝓤 H A W (Row.sInt Syntax.w64)) Path'.refl (λ u. Path'.refl) λ u. tt) d51
 
           d53 : Typed.Typed 𝓤 H A 𝓣 E G38 b42 Δ3 (at53 bs)
           d53 = Typed.g-pre 𝓤 H A W 𝓣 E G38 G39 b42 Δ3 (λ Ψ. Ψ) (at52 bs) (Lifetime.g-forget 𝓤 H A W E G38 11 Row.dead Path'.refl) d52
@@ -2034,7 +2034,7 @@ module _ (claims· : Claims) where
           d63 = Typed.g-pre 𝓤 H A W 𝓣 E G28 G29 b42 Δ3 (Typed.pass T28 T29 (s25 bs)) (at62 bs) (Scalar.g-room 𝓤 H A W E G28 14 type·0 (Local.room-whole 𝓤 H A W (Declared'.row Loads.the-type) type·0 Path'.refl)) d62
 
           d64 : Typed.Typed 𝓤 H A 𝓣 E G27 b43 Δ3 (at64 bs)
-          d64 = Typed.s-seq 𝓤 H A W 𝓣 E G27 G28 b13 b42 Δ3 (Typed.both (s24 bs)) (at63 bs) (Plain.t-call-plain 𝓤 H A W 𝓣 7 ps·0 r·0 (claims· .0) (claims· .1) "fiduccia_mattheyses::make_pass" (known .0) E (λ pos β. β) G27 (record { pos = 1; ty = Syntax.tyRef (Syntax.named 0) Syntax.imm (Syntax.tyInt Syntax.w32); ref = λ x. x }, (record { pos = 2; ty = Syntax.tyRef (Syntax.named 1) Syntax.imm (Syntax.tyInt Syntax.w32); ref = λ x. x }, (record { pos = 3; ty = Syntax.tyRef (Syntax.named 2) Syntax.imm (Syntax.tyInt Syntax.w32); ref = λ x. x }, (record { pos = 4; ty = Syntax.tyRef (Syntax.named 3) Syntax.imm (Syntax.tyInt Syntax.w32); ref = λ x. x }, (record { pos = 24; ty = Syntax.tyRef Syntax.erased Syntax.mut (Syntax.tyInt Syntax.w32); ref = λ x. x }, (record { pos = 26; ty = Syntax.tyRef Syntax.erased Syntax.mut (Syntax.tyInt Syntax.w64); ref = λ x. x }, (record { pos = 28; ty = Syntax.tyRef Syntax.erased Syntax.mut MoveTy.behind; ref = λ x. x }, (record { pos = 14; st = List.[]; d = 0; at = λ x. x }, (Num.vAt 15 λ x. x, (record { pos = 12; st = List.[]; d = 0; at = λ x. x }, tt)))))))))) 17 (List._∷_ 0 (List._∷_ 1 (List._∷_ 2 (List._∷_ 3 (List._∷_ 9 (List._∷_ 10 (List._∷_ 11 List.[]))))))) (Call.sub-id 𝓤 H A W (G27 .slots)) (ShrSlice.spares-sslice 𝓤 H A W (Referent.rtF (Referent.fInt Syntax.w32)) type·10 0, Shared.reads-sslice 𝓤 H A W (Referent.rtF (Referent.fInt Syntax.w32)) type·10 0, Path'.refl, (ShrSlice.spares-sslice 𝓤 H A W (Referent.rtF (Referent.fInt Syntax.w32)) type·11 1, Shared.reads-sslice 𝓤 H A W (Referent.rtF (Referent.fInt Syntax.w32)) type·11 1, Path'.refl, (ShrSlice.spares-sslice 𝓤 H A W (Referent.rtF (Referent.fInt Syntax.w32)) type·12 2, Shared.reads-sslice 𝓤 H A W (Referent.rtF (Referent.fInt Syntax.w32)) type·12 2, Path'.refl, (ShrSlice.spares-sslice 𝓤 H A W (Referent.rtF (Referent.fInt Syntax.w32)) type·13 3, Shared.reads-sslice 𝓤 H A W (Referent.rtF (Referent.fInt Syntax.w32)) type·13 3, Path'.refl, (Reads'.as-is 𝓤 H A (Mut.mslice (Referent.rtF (Referent.fInt Syntax.w32)) type·2 9), Mut.reads-mslice 𝓤 H A W (Referent.rtF (Referent.fInt Syntax.w32)) type·2 9, Path'.refl, (Reads'.as-is 𝓤 H A (Mut.mslice (Signed'.SInt Syntax.w64) type·4 10), Mut.reads-mslice 𝓤 H A W (Signed'.SInt Syntax.w64) type·4 10, Path'.refl, (Reads'.as-is 𝓤 H A (Mut.mslice MoveTy.R type·6 11), Mut.reads-mslice 𝓤 H A W MoveTy.R type·6 11, Path'.refl, ((Yields.yields-copy 𝓤 H A W (λ ρ. Unit) (Declared'.row Loads.the-type) Path'.refl (Copies.cStruct Loads.the-type Laws'4.the-laws Laws'4.the-copy .copy 𝓤 H A W) (Rows.whole (Declared'.row Loads.the-type)) (λ x. x) (λ x. x) (λ ρ told. Local.mem-whole 𝓤 H A W (Declared'.row Loads.the-type) ρ) λ ρ told. Local.whole-mem 𝓤 H A W (Declared'.row Loads.the-type) ρ, Path'.refl), ((Scalar.reads-sc 𝓤 H A W (Row.sInt Syntax.w64), Path'.refl), ((Yields.yields-copy 𝓤 H A W (λ ρ. Unit) (Declared'.row Limits.the-type) Path'.refl (Copies.cStruct Limits.the-type Laws.the-laws Laws.the-copy .copy 𝓤 H A W) (Rows.whole (Declared'.row Limits.the-type)) (λ x. x) (λ x. x) (λ ρ told. Local.mem-whole 𝓤 H A W (Declared'.row Limits.the-type) ρ) λ ρ told. Local.whole-mem 𝓤 H A W (Declared'.row Limits.the-type) ρ, Path'.refl), tt)))))))))) (Reads'.room-gone 𝓤 H A type·1) (tt, (tt, (tt, (tt, (tt, (tt, (tt, tt))))))) Path'.refl) d63
+          d64 = Typed.s-seq 𝓤 H A W 𝓣 E G27 G28 b13 b42 Δ3 (Typed.both (s24 bs)) (at63 bs) (Plain.t-call-plain 𝓤 H A W 𝓣 7 ps·0 r·0 (claims· .0) (claims· .1) "fiduccia_mattheyses_pass::make_pass" (known .0) E (λ pos β. β) G27 (record { pos = 1; ty = Syntax.tyRef (Syntax.named 0) Syntax.imm (Syntax.tyInt Syntax.w32); ref = λ x. x }, (record { pos = 2; ty = Syntax.tyRef (Syntax.named 1) Syntax.imm (Syntax.tyInt Syntax.w32); ref = λ x. x }, (record { pos = 3; ty = Syntax.tyRef (Syntax.named 2) Syntax.imm (Syntax.tyInt Syntax.w32); ref = λ x. x }, (record { pos = 4; ty = Syntax.tyRef (Syntax.named 3) Syntax.imm (Syntax.tyInt Syntax.w32); ref = λ x. x }, (record { pos = 24; ty = Syntax.tyRef Syntax.erased Syntax.mut (Syntax.tyInt Syntax.w32); ref = λ x. x }, (record { pos = 26; ty = Syntax.tyRef Syntax.erased Syntax.mut (Syntax.tyInt Syntax.w64); ref = λ x. x }, (record { pos = 28; ty = Syntax.tyRef Syntax.erased Syntax.mut MoveTy.behind; ref = λ x. x }, (record { pos = 14; st = List.[]; d = 0; at = λ x. x }, (Num.vAt 15 λ x. x, (record { pos = 12; st = List.[]; d = 0; at = λ x. x }, tt)))))))))) 17 (List._∷_ 0 (List._∷_ 1 (List._∷_ 2 (List._∷_ 3 (List._∷_ 9 (List._∷_ 10 (List._∷_ 11 List.[]))))))) (Call.sub-id 𝓤 H A W (G27 .slots)) (ShrSlice.spares-sslice 𝓤 H A W (Referent.rtF (Referent.fInt Syntax.w32)) type·10 0, Shared.reads-sslice 𝓤 H A W (Referent.rtF (Referent.fInt Syntax.w32)) type·10 0, Path'.refl, (ShrSlice.spares-sslice 𝓤 H A W (Referent.rtF (Referent.fInt Syntax.w32)) type·11 1, Shared.reads-sslice 𝓤 H A W (Referent.rtF (Referent.fInt Syntax.w32)) type·11 1, Path'.refl, (ShrSlice.spares-sslice 𝓤 H A W (Referent.rtF (Referent.fInt Syntax.w32)) type·12 2, Shared.reads-sslice 𝓤 H A W (Referent.rtF (Referent.fInt Syntax.w32)) type·12 2, Path'.refl, (ShrSlice.spares-sslice 𝓤 H A W (Referent.rtF (Referent.fInt Syntax.w32)) type·13 3, Shared.reads-sslice 𝓤 H A W (Referent.rtF (Referent.fInt Syntax.w32)) type·13 3, Path'.refl, (Reads'.as-is 𝓤 H A (Mut.mslice (Referent.rtF (Referent.fInt Syntax.w32)) type·2 9), Mut.reads-mslice 𝓤 H A W (Referent.rtF (Referent.fInt Syntax.w32)) type·2 9, Path'.refl, (Reads'.as-is 𝓤 H A (Mut.mslice (Signed'.SInt Syntax.w64) type·4 10), Mut.reads-mslice 𝓤 H A W (Signed'.SInt Syntax.w64) type·4 10, Path'.refl, (Reads'.as-is 𝓤 H A (Mut.mslice MoveTy.R type·6 11), Mut.reads-mslice 𝓤 H A W MoveTy.R type·6 11, Path'.refl, ((Yields.yields-copy 𝓤 H A W (λ ρ. Unit) (Declared'.row Loads.the-type) Path'.refl (Copies.cStruct Loads.the-type Laws'4.the-laws Laws'4.the-copy .copy 𝓤 H A W) (Rows.whole (Declared'.row Loads.the-type)) (λ x. x) (λ x. x) (λ ρ told. Local.mem-whole 𝓤 H A W (Declared'.row Loads.the-type) ρ) λ ρ told. Local.whole-mem 𝓤 H A W (Declared'.row Loads.the-type) ρ, Path'.refl), ((Scalar.reads-sc 𝓤 H A W (Row.sInt Syntax.w64), Path'.refl), ((Yields.yields-copy 𝓤 H A W (λ ρ. Unit) (Declared'.row Limits.the-type) Path'.refl (Copies.cStruct Limits.the-type Laws.the-laws Laws.the-copy .copy 𝓤 H A W) (Rows.whole (Declared'.row Limits.the-type)) (λ x. x) (λ x. x) (λ ρ told. Local.mem-whole 𝓤 H A W (Declared'.row Limits.the-type) ρ) λ ρ told. Local.whole-mem 𝓤 H A W (Declared'.row Limits.the-type) ρ, Path'.refl), tt)))))))))) (Reads'.room-gone 𝓤 H A type·1) (tt, (tt, (tt, (tt, (tt, (tt, (tt, tt))))))) Path'.refl) d63
 
           d65 : Typed.Typed 𝓤 H A 𝓣 E G26 b44 Δ3 (at65 bs)
           d65 = Typed.s-seq 𝓤 H A W 𝓣 E G26 G27 b12 b43 Δ3 (Typed.ask (s23 bs)) (at64 bs) (Relend.t-sl-aggregate 𝓤 H A W E MoveTy.R 𝓣 (Relend.asMut MoveTy.R) G26 27 28 11 type·6 type·6 (λ x. x) (Scalar.oFld 7 (List._∷_ (Syntax.field 1) List.[]) (Syntax.tyInt Syntax.w64) 8 λ v. Shared.lenV (v .0)) (Reads'.as-is 𝓤 H A (Relend.msptr MoveTy.R type·6 11)) (Reads'.room-gone 𝓤 H A type·7) (Relend.reads-owed-len 𝓤 H A W MoveTy.R type·16 6 11 (Row.lease (κs .1 .1 .1 .1 .1 .1 .0) (qs .1 .1 .1 .1 .1 .1 .0)) 8 Path'.refl, Path'.refl) Path'.refl Path'.refl λ b o k. tt) d64
@@ -2097,7 +2097,7 @@ module _ (claims· : Claims) where
           d84 = Typed.g-pre 𝓤 H A W 𝓣 E G85 G86 b55 Δ0 (Typed.pass T85 T86 (s81 bs)) (at83 bs) (Scalar.g-room 𝓤 H A W E G85 14 type·0 (Local.room-whole 𝓤 H A W (Declared'.row Loads.the-type) type·0 Path'.refl)) d83
 
           d85 : Typed.Typed 𝓤 H A 𝓣 E G13 b56 Δ0 (at85 bs)
-          d85 = Typed.s-seq 𝓤 H A W 𝓣 E G13 G85 b54 b55 Δ0 (Typed.pass T13 T85 (s80 bs)) (at84 bs) (Make.t-make-told 𝓤 H A W E 𝓣 (Declared'.row (Apart.apartT Ended.the-type)) Path'.refl (Laws'7.val (Apart.apartT Ended.the-type) Laws''.the-laws) (Laws'7.lawful (Apart.apartT Ended.the-type) Laws''.the-laws 𝓤 H A W) (Laws'7.makes (Apart.apartT Ended.the-type) Laws''.the-plain 𝓤 H A) G13 0 (List._∷_ (Scalar.oInt Syntax.w32 0) (List._∷_ (Scalar.oAt 16 (Syntax.tyInt Syntax.w32) (Row.valS (Row.sInt Syntax.w32))) (List._∷_ (Scalar.oAt 15 (Syntax.tyInt Syntax.w64) (Row.valS (Row.sInt Syntax.w64))) (List._∷_ (Scalar.oAt 14 type·0 (Laws'7.val Loads.the-type Laws'4.the-laws)) List.[])))) (λ m. (0, (m .1 .1 .1 .1 .1 .1 .1 .1 .1 .1 .1 .1 .1 .1 .1 .1 .0, (m .1 .1 .1 .1 .1 .1 .1 .1 .1 .1 .1 .1 .1 .1 .1 .0, (m .1 .1 .1 .1 .1 .1 .1 .1 .1 .1 .1 .1 .1 .1 .0, tt))))) (λ m. Laws'6.Is (Declared'.row Loads.the-type) (m .1 .1 .1 .1 .1 .1 .1 .1 .1 .1 .1 .1 .1 .1 .0) (Laws'7.vals Loads.the-type Laws'4.the-laws (m .1 .1 .1 .1 .1 .1 .1 .1 .1 .1 .1 .1 .1 .1 .0))) (Reads'.room-gone 𝓤 H A type·9) (tt, ((Scalar.reads-sc 𝓤 H A W (Row.sInt Syntax.w32), Path'.refl), ((Scalar.reads-sc 𝓤 H A W (Row.sInt Syntax.w64), Path'.refl), ((Reads.reads-struct 𝓤 H A W Loads.the-type Laws'4.the-laws, Path'.refl), tt)))) Path'.refl (λ ρ m. Make.tells-row 𝓤 H A W E ρ (Row.out 0 (G13 .locals)) m 14 (Laws'6.Is (Declared'.row Loads.the-type) (m .1 .1 .1 .1 .1 .1 .1 .1 .1 .1 .1 .1 .1 .1 .0) (Laws'7.vals Loads.the-type Laws'4.the-laws (m .1 .1 .1 .1 .1 .1 .1 .1 .1 .1 .1 .1 .1 .1 .0))) (Make.whole-is 𝓤 H A W E (Declared'.row Loads.the-type) Path'.refl (Laws'7.val Loads.the-type Laws'4.the-laws) (Laws'7.tells Loads.the-type Laws'4.the-laws) ρ 14 (m .1 .1 .1 .1 .1 .1 .1 .1 .1 .1 .1 .1 .1 .1 .0))) (λ m q. Signed.made-val (Apart.apartT Ended.the-type) Laws''.the-laws (List._∷_ (Laws''.the-laws .0 .val 0) (List._∷_ (Laws''.the-laws .1 .0 .val (m .1 .1 .1 .1 .1 .1 .1 .1 .1 .1 .1 .1 .1 .1 .1 .1 .0)) (List._∷_ (Laws''.the-laws .1 .1 .0 .val (m .1 .1 .1 .1 .1 .1 .1 .1 .1 .1 .1 .1 .1 .1 .1 .0)) (List._∷_ (Laws'7.val Loads.the-type Laws'4.the-laws (m .1 .1 .1 .1 .1 .1 .1 .1 .1 .1 .1 .1 .1 .1 .0)) List.[])))) (0, (m .1 .1 .1 .1 .1 .1 .1 .1 .1 .1 .1 .1 .1 .1 .1 .1 .0, (m .1 .1 .1 .1 .1 .1 .1 .1 .1 .1 .1 .1 .1 .1 .1 .0, (m .1 .1 .1 .1 .1 .1 .1 .1 .1 .1 .1 .1 .1 .1 .0, tt)))) (Signed.made-wt Field.u32-field (Laws''.the-laws .0) Make.u32-wt 0, (Signed.made-wt Field.u32-field (Laws''.the-laws .1 .0) Make.u32-wt (m .1 .1 .1 .1 .1 .1 .1 .1 .1 .1 .1 .1 .1 .1 .1 .1 .0), (Signed.made-wt Field.u64-field (Laws''.the-laws .1 .1 .0) Make.u64-wt (m .1 .1 .1 .1 .1 .1 .1 .1 .1 .1 .1 .1 .1 .1 .1 .0), (Signed.made-struct Loads.the-type Laws'4.the-laws Laws'4.lowers (m .1 .1 .1 .1 .1 .1 .1 .1 .1 .1 .1 .1 .1 .1 .0) q, tt))))) λ m q. Signed.made-is (Apart.apartT Ended.the-type) Laws''.the-laws (List._∷_ (Laws''.the-laws .0 .val 0) (List._∷_ (Laws''.the-laws .1 .0 .val (m .1 .1 .1 .1 .1 .1 .1 .1 .1 .1 .1 .1 .1 .1 .1 .1 .0)) (List._∷_ (Laws''.the-laws .1 .1 .0 .val (m .1 .1 .1 .1 .1 .1 .1 .1 .1 .1 .1 .1 .1 .1 .1 .0)) (List._∷_ (Laws'7.val Loads.the-type Laws'4.the-laws (m .1 .1 .1 .1 .1 .1 .1 .1 .1 .1 .1 .1 .1 .1 .0)) List.[])))) (0, (m .1 .1 .1 .1 .1 .1 .1 .1 .1 .1 .1 .1 .1 .1 .1 .1 .0, (m .1 .1 .1 .1 .1 .1 .1 .1 .1 .1 .1 .1 .1 .1 .1 .0, (m .1 .1 .1 .1 .1 .1 .1 .1 .1 .1 .1 .1 .1 .1 .0, tt)))) (Signed.made-wt Field.u32-field (Laws''.the-laws .0) Make.u32-wt 0, (Signed.made-wt Field.u32-field (Laws''.the-laws .1 .0) Make.u32-wt (m .1 .1 .1 .1 .1 .1 .1 .1 .1 .1 .1 .1 .1 .1 .1 .1 .0), (Signed.made-wt Field.u64-field (Laws''.the-laws .1 .1 .0) Make.u64-wt (m .1 .1 .1 .1 .1 .1 .1 .1 .1 .1 .1 .1 .1 .1 .1 .0), (Signed.made-struct Loads.the-type Laws'4.the-laws Laws'4.lowers (m .1 .1 .1 .1 .1 .1 .1 .1 .1 .1 .1 .1 .1 .1 .0) q, tt))))) d84
+          d85 = Typed.s-seq 𝓤 H A W 𝓣 E G13 G85 b54 b55 Δ0 (Typed.pass T13 T85 (s80 bs)) (at84 bs) (Make.t-make-told 𝓤 H A W E 𝓣 (Declared'.row (Apart.apartT Ended.the-type)) Path'.refl (Laws'7.val (Apart.apartT Ended.the-type) Laws'3.the-laws) (Laws'7.lawful (Apart.apartT Ended.the-type) Laws'3.the-laws 𝓤 H A W) (Laws'7.makes (Apart.apartT Ended.the-type) Laws'3.the-plain 𝓤 H A) G13 0 (List._∷_ (Scalar.oInt Syntax.w32 0) (List._∷_ (Scalar.oAt 16 (Syntax.tyInt Syntax.w32) (Row.valS (Row.sInt Syntax.w32))) (List._∷_ (Scalar.oAt 15 (Syntax.tyInt Syntax.w64) (Row.valS (Row.sInt Syntax.w64))) (List._∷_ (Scalar.oAt 14 type·0 (Laws'7.val Loads.the-type Laws'4.the-laws)) List.[])))) (λ m. (0, (m .1 .1 .1 .1 .1 .1 .1 .1 .1 .1 .1 .1 .1 .1 .1 .1 .0, (m .1 .1 .1 .1 .1 .1 .1 .1 .1 .1 .1 .1 .1 .1 .1 .0, (m .1 .1 .1 .1 .1 .1 .1 .1 .1 .1 .1 .1 .1 .1 .0, tt))))) (λ m. Laws'6.Is (Declared'.row Loads.the-type) (m .1 .1 .1 .1 .1 .1 .1 .1 .1 .1 .1 .1 .1 .1 .0) (Laws'7.vals Loads.the-type Laws'4.the-laws (m .1 .1 .1 .1 .1 .1 .1 .1 .1 .1 .1 .1 .1 .1 .0))) (Reads'.room-gone 𝓤 H A type·9) (tt, ((Scalar.reads-sc 𝓤 H A W (Row.sInt Syntax.w32), Path'.refl), ((Scalar.reads-sc 𝓤 H A W (Row.sInt Syntax.w64), Path'.refl), ((Reads.reads-struct 𝓤 H A W Loads.the-type Laws'4.the-laws, Path'.refl), tt)))) Path'.refl (λ ρ m. Make.tells-row 𝓤 H A W E ρ (Row.out 0 (G13 .locals)) m 14 (Laws'6.Is (Declared'.row Loads.the-type) (m .1 .1 .1 .1 .1 .1 .1 .1 .1 .1 .1 .1 .1 .1 .0) (Laws'7.vals Loads.the-type Laws'4.the-laws (m .1 .1 .1 .1 .1 .1 .1 .1 .1 .1 .1 .1 .1 .1 .0))) (Make.whole-is 𝓤 H A W E (Declared'.row Loads.the-type) Path'.refl (Laws'7.val Loads.the-type Laws'4.the-laws) (Laws'7.tells Loads.the-type Laws'4.the-laws) ρ 14 (m .1 .1 .1 .1 .1 .1 .1 .1 .1 .1 .1 .1 .1 .1 .0))) (λ m q. Signed.made-val (Apart.apartT Ended.the-type) Laws'3.the-laws (List._∷_ (Laws'3.the-laws .0 .val 0) (List._∷_ (Laws'3.the-laws .1 .0 .val (m .1 .1 .1 .1 .1 .1 .1 .1 .1 .1 .1 .1 .1 .1 .1 .1 .0)) (List._∷_ (Laws'3.the-laws .1 .1 .0 .val (m .1 .1 .1 .1 .1 .1 .1 .1 .1 .1 .1 .1 .1 .1 .1 .0)) (List._∷_ (Laws'7.val Loads.the-type Laws'4.the-laws (m .1 .1 .1 .1 .1 .1 .1 .1 .1 .1 .1 .1 .1 .1 .0)) List.[])))) (0, (m .1 .1 .1 .1 .1 .1 .1 .1 .1 .1 .1 .1 .1 .1 .1 .1 .0, (m .1 .1 .1 .1 .1 .1 .1 .1 .1 .1 .1 .1 .1 .1 .1 .0, (m .1 .1 .1 .1 .1 .1 .1 .1 .1 .1 .1 .1 .1 .1 .0, tt)))) (Signed.made-wt Field.u32-field (Laws'3.the-laws .0) Make.u32-wt 0, (Signed.made-wt Field.u32-field (Laws'3.the-laws .1 .0) Make.u32-wt (m .1 .1 .1 .1 .1 .1 .1 .1 .1 .1 .1 .1 .1 .1 .1 .1 .0), (Signed.made-wt Field.u64-field (Laws'3.the-laws .1 .1 .0) Make.u64-wt (m .1 .1 .1 .1 .1 .1 .1 .1 .1 .1 .1 .1 .1 .1 .1 .0), (Signed.made-struct Loads.the-type Laws'4.the-laws Laws'4.lowers (m .1 .1 .1 .1 .1 .1 .1 .1 .1 .1 .1 .1 .1 .1 .0) q, tt))))) λ m q. Signed.made-is (Apart.apartT Ended.the-type) Laws'3.the-laws (List._∷_ (Laws'3.the-laws .0 .val 0) (List._∷_ (Laws'3.the-laws .1 .0 .val (m .1 .1 .1 .1 .1 .1 .1 .1 .1 .1 .1 .1 .1 .1 .1 .1 .0)) (List._∷_ (Laws'3.the-laws .1 .1 .0 .val (m .1 .1 .1 .1 .1 .1 .1 .1 .1 .1 .1 .1 .1 .1 .1 .0)) (List._∷_ (Laws'7.val Loads.the-type Laws'4.the-laws (m .1 .1 .1 .1 .1 .1 .1 .1 .1 .1 .1 .1 .1 .1 .0)) List.[])))) (0, (m .1 .1 .1 .1 .1 .1 .1 .1 .1 .1 .1 .1 .1 .1 .1 .1 .0, (m .1 .1 .1 .1 .1 .1 .1 .1 .1 .1 .1 .1 .1 .1 .1 .0, (m .1 .1 .1 .1 .1 .1 .1 .1 .1 .1 .1 .1 .1 .1 .0, tt)))) (Signed.made-wt Field.u32-field (Laws'3.the-laws .0) Make.u32-wt 0, (Signed.made-wt Field.u32-field (Laws'3.the-laws .1 .0) Make.u32-wt (m .1 .1 .1 .1 .1 .1 .1 .1 .1 .1 .1 .1 .1 .1 .1 .1 .0), (Signed.made-wt Field.u64-field (Laws'3.the-laws .1 .1 .0) Make.u64-wt (m .1 .1 .1 .1 .1 .1 .1 .1 .1 .1 .1 .1 .1 .1 .1 .0), (Signed.made-struct Loads.the-type Laws'4.the-laws Laws'4.lowers (m .1 .1 .1 .1 .1 .1 .1 .1 .1 .1 .1 .1 .1 .1 .0) q, tt))))) d84
 
           d86 : Typed.Typed 𝓤 H A 𝓣 E G12 b57 Δ0 (at86 bs)
           d86 = Typed.t-seq 𝓤 H A W 𝓣 E G12 G13 b53 b56 Δ0 (at77 bs) (at85 bs) d77 d85
@@ -2775,6 +2775,6 @@ module _ (claims· : Claims) where
           pub asked : (a : Kinds.Dens κs ps) → (good : Kinds.GoodsP κs ps a) → (pre : Pre· κs a) → (bs : List.List Nat.ℕ) → Φ bs (Any.wantQ 9 ps r xs m κs qs a (Post· κs a)) (Function.init 9 ps r xs m κs qs a)
           asked = λ a good pre bs. laid record { κs = κs; args = record { starts = a .0; neighbours = a .1 .0; arc-weights = a .1 .1 .0; weights = a .1 .1 .1 .0; labels = a .1 .1 .1 .1 .0; gains = a .1 .1 .1 .1 .1 .0; moves = a .1 .1 .1 .1 .1 .1 .0; rows-made = a .1 .1 .1 .1 .1 .1 .1 .0; rows-rewound = a .1 .1 .1 .1 .1 .1 .1 .1 .0; first = a .1 .1 .1 .1 .1 .1 .1 .1 .1 .0; first-cut = a .1 .1 .1 .1 .1 .1 .1 .1 .1 .1 .0; limits = a .1 .1 .1 .1 .1 .1 .1 .1 .1 .1 .1 .0; pass-limit = a .1 .1 .1 .1 .1 .1 .1 .1 .1 .1 .1 .1 .0 }; blocks = bs; good = good; fits = record { first-cut = record { fits = good .1 .1 .1 .1 .1 .1 .1 .1 .1 .1 .0 .1 }; pass-limit = record { fits = good .1 .1 .1 .1 .1 .1 .1 .1 .1 .1 .1 .1 .0 .1 } }; pre = pre }
 
-        module _ {M : Type 1} (𝓤 : URA.URA M) (H : Wp.Heap 𝓤) (A : Atoms.Atoms 𝓤) (W : Kit.Given 𝓤 H A) (𝓣 : Wp.Tables 𝓤 H) (known0 : Plain.Known 𝓤 H A W 𝓣 7 ps·0 r·0 (claims· .0) (claims· .1) "fiduccia_mattheyses::make_pass") (known1 : Plain.Known 𝓤 H A W 𝓣 2 ps·1 r·1 (claims· .2) (claims· .3) "fiduccia_mattheyses::steps::put_row") (known2 : Plain.Known 𝓤 H A W 𝓣 0 ps·2 r·2 (claims· .4) (claims· .5) "fiduccia_mattheyses::steps::course_of") where
+        module _ {M : Type 1} (𝓤 : URA.URA M) (H : Wp.Heap 𝓤) (A : Atoms.Atoms 𝓤) (W : Kit.Given 𝓤 H A) (𝓣 : Wp.Tables 𝓤 H) (known0 : Plain.Known 𝓤 H A W 𝓣 7 ps·0 r·0 (claims· .0) (claims· .1) "fiduccia_mattheyses_pass::make_pass") (known1 : Plain.Known 𝓤 H A W 𝓣 2 ps·1 r·1 (claims· .2) (claims· .3) "fiduccia_mattheyses::steps::put_row") (known2 : Plain.Known 𝓤 H A W 𝓣 0 ps·2 r·2 (claims· .4) (claims· .5) "fiduccia_mattheyses::steps::course_of") where
           pub spec : Statement.Triple 𝓤 (Wp.WpFn 𝓤 H (𝓣 .C) (𝓣 .Λ) (Function.fnOf 9 ps r xs m hs body)) (Function.plainOf 𝓤 H A 9 ps r Pre· Post·)
           spec = Plain.t-fn-plain 𝓤 H A W 𝓣 9 ps r xs m hs body (λ κs qs bs. Φ bs) (λ κs qs bs bd. typed κs qs 𝓤 H A W 𝓣 (known0, known1, known2) bs bd) Pre· Post· asked

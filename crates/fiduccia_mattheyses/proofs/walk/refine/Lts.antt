@@ -1,5 +1,5 @@
 -- Made by tools/walkgen.py: do not edit.
-use Rattle.fiduccia_mattheyses.proofs.walk.MoveTy
+use Rattle.fiduccia_mattheyses_pass.proofs.walk.MoveTy
 use Prim.Native.Nat
 use Rattle.fiduccia_mattheyses_pass.proofs.Limits
 use Rattle.fiduccia_mattheyses_pass.proofs.Limits.Laws
@@ -515,7 +515,7 @@ abbrev b26 : Syntax.Body
 b26 = Syntax.assign (Syntax.place 38 List.[]) (Syntax.aggregate (List._∷_ (Syntax.copy (Syntax.place 37 List.[])) (List._∷_ (Syntax.copy (Syntax.place 7 (List._∷_ (Syntax.field 1) List.[]))) List.[])))
 
 abbrev b27 : Syntax.Body
-b27 = Syntax.call "fiduccia_mattheyses::clear" (List._∷_ (Syntax.copy (Syntax.place 38 List.[])) (List._∷_ (Syntax.copy (Syntax.place 11 List.[])) List.[])) (Syntax.place 36 List.[])
+b27 = Syntax.call "fiduccia_mattheyses_pass::clear" (List._∷_ (Syntax.copy (Syntax.place 38 List.[])) (List._∷_ (Syntax.copy (Syntax.place 11 List.[])) List.[])) (Syntax.place 36 List.[])
 
 abbrev b28 : Syntax.Body
 b28 = Syntax.assign (Syntax.place 39 List.[]) (Syntax.addrOf (Syntax.place 6 (List._∷_ (Syntax.field 0) (List._∷_ (Syntax.deref (Syntax.tyInt Syntax.w64)) List.[]))))
@@ -1244,7 +1244,7 @@ module _ (claims· : Claims) where
   module _ (Pre· : (κs : Lifetimes.Lfts 9) → Kinds.Dens κs ps → Type 0) (Post· : (κs : Lifetimes.Lfts 9) → (a : Kinds.Dens κs ps) → Kinds.Plain 9 ps r κs) where
     module _ (M : Type 1) where
       abbrev pub Closed : Type 2
-      Closed = (𝓤 : URA.URA M) (H : Wp.Heap 𝓤) (A : Atoms.Atoms 𝓤) (W : Kit.Given 𝓤 H A) (𝓣 : Wp.Tables 𝓤 H) (known0 : Plain.Known 𝓤 H A W 𝓣 2 ps·0 r·0 (claims· .0) (claims· .1) "imbalance::parts_load") (known1 : Plain.Known 𝓤 H A W 𝓣 1 ps·1 r·1 (claims· .2) (claims· .3) "imbalance::total_weight") (known2 : Plain.Known 𝓤 H A W 𝓣 0 ps·2 r·2 (claims· .4) (claims· .5) "fiduccia_mattheyses::number::asked_ceiling") (known3 : Plain.Known 𝓤 H A W 𝓣 0 ps·3 r·3 (claims· .6) (claims· .7) "imbalance::ceilings_of") (known4 : Plain.Known 𝓤 H A W 𝓣 4 ps·4 r·4 (claims· .8) (claims· .9) "topology::cut::cut_of") (known5 : Plain.Known 𝓤 H A W 𝓣 0 ps·5 r·5 (claims· .10) (claims· .11) "lists::wide") (known6 : Plain.Known 𝓤 H A W 𝓣 0 ps·6 r·6 (claims· .12) (claims· .13) "lists::index") (known7 : Plain.Known 𝓤 H A W 𝓣 9 ps·7 r·7 (claims· .14) (claims· .15) "fiduccia_mattheyses::make_passes") (known8 : Plain.Known 𝓤 H A W 𝓣 1 ps·8 r·8 (claims· .16) (claims· .17) "fiduccia_mattheyses::clear") (known9 : Plain.Known 𝓤 H A W 𝓣 1 ps·9 r·9 (claims· .18) (claims· .19) "fiduccia_mattheyses::answers::finish") → Statement.Triple 𝓤 (Wp.WpFn 𝓤 H (𝓣 .C) (𝓣 .Λ) (Function.fnOf 9 ps r xs m hs body)) (Function.plainOf 𝓤 H A 9 ps r Pre· Post·)
+      Closed = (𝓤 : URA.URA M) (H : Wp.Heap 𝓤) (A : Atoms.Atoms 𝓤) (W : Kit.Given 𝓤 H A) (𝓣 : Wp.Tables 𝓤 H) (known0 : Plain.Known 𝓤 H A W 𝓣 2 ps·0 r·0 (claims· .0) (claims· .1) "imbalance::parts_load") (known1 : Plain.Known 𝓤 H A W 𝓣 1 ps·1 r·1 (claims· .2) (claims· .3) "imbalance::total_weight") (known2 : Plain.Known 𝓤 H A W 𝓣 0 ps·2 r·2 (claims· .4) (claims· .5) "fiduccia_mattheyses::number::asked_ceiling") (known3 : Plain.Known 𝓤 H A W 𝓣 0 ps·3 r·3 (claims· .6) (claims· .7) "imbalance::ceilings_of") (known4 : Plain.Known 𝓤 H A W 𝓣 4 ps·4 r·4 (claims· .8) (claims· .9) "topology::cut::cut_of") (known5 : Plain.Known 𝓤 H A W 𝓣 0 ps·5 r·5 (claims· .10) (claims· .11) "lists::wide") (known6 : Plain.Known 𝓤 H A W 𝓣 0 ps·6 r·6 (claims· .12) (claims· .13) "lists::index") (known7 : Plain.Known 𝓤 H A W 𝓣 9 ps·7 r·7 (claims· .14) (claims· .15) "fiduccia_mattheyses::make_passes") (known8 : Plain.Known 𝓤 H A W 𝓣 1 ps·8 r·8 (claims· .16) (claims· .17) "fiduccia_mattheyses_pass::clear") (known9 : Plain.Known 𝓤 H A W 𝓣 1 ps·9 r·9 (claims· .18) (claims· .19) "fiduccia_mattheyses::answers::finish") → Statement.Triple 𝓤 (Wp.WpFn 𝓤 H (𝓣 .C) (𝓣 .Λ) (Function.fnOf 9 ps r xs m hs body)) (Function.plainOf 𝓤 H A 9 ps r Pre· Post·)
 
     module _ where
       abbrev at0 : Typed.TF T93 O0
@@ -1534,7 +1534,7 @@ module _ (claims· : Claims) where
 
       module _ {M : Type 1} (𝓤 : URA.URA M) (H : Wp.Heap 𝓤) (A : Atoms.Atoms 𝓤) (W : Kit.Given 𝓤 H A) (𝓣 : Wp.Tables 𝓤 H) where
         abbrev Knowns : Type 1
-        Knowns = Plain.Known 𝓤 H A W 𝓣 2 ps·0 r·0 (claims· .0) (claims· .1) "imbalance::parts_load" × Plain.Known 𝓤 H A W 𝓣 1 ps·1 r·1 (claims· .2) (claims· .3) "imbalance::total_weight" × Plain.Known 𝓤 H A W 𝓣 0 ps·2 r·2 (claims· .4) (claims· .5) "fiduccia_mattheyses::number::asked_ceiling" × Plain.Known 𝓤 H A W 𝓣 0 ps·3 r·3 (claims· .6) (claims· .7) "imbalance::ceilings_of" × Plain.Known 𝓤 H A W 𝓣 4 ps·4 r·4 (claims· .8) (claims· .9) "topology::cut::cut_of" × Plain.Known 𝓤 H A W 𝓣 0 ps·5 r·5 (claims· .10) (claims· .11) "lists::wide" × Plain.Known 𝓤 H A W 𝓣 0 ps·6 r·6 (claims· .12) (claims· .13) "lists::index" × Plain.Known 𝓤 H A W 𝓣 9 ps·7 r·7 (claims· .14) (claims· .15) "fiduccia_mattheyses::make_passes" × Plain.Known 𝓤 H A W 𝓣 1 ps·8 r·8 (claims· .16) (claims· .17) "fiduccia_mattheyses::clear" × Plain.Known 𝓤 H A W 𝓣 1 ps·9 r·9 (claims· .18) (claims· .19) "fiduccia_mattheyses::answers::finish"
+        Knowns = Plain.Known 𝓤 H A W 𝓣 2 ps·0 r·0 (claims· .0) (claims· .1) "imbalance::parts_load" × Plain.Known 𝓤 H A W 𝓣 1 ps·1 r·1 (claims· .2) (claims· .3) "imbalance::total_weight" × Plain.Known 𝓤 H A W 𝓣 0 ps·2 r·2 (claims· .4) (claims· .5) "fiduccia_mattheyses::number::asked_ceiling" × Plain.Known 𝓤 H A W 𝓣 0 ps·3 r·3 (claims· .6) (claims· .7) "imbalance::ceilings_of" × Plain.Known 𝓤 H A W 𝓣 4 ps·4 r·4 (claims· .8) (claims· .9) "topology::cut::cut_of" × Plain.Known 𝓤 H A W 𝓣 0 ps·5 r·5 (claims· .10) (claims· .11) "lists::wide" × Plain.Known 𝓤 H A W 𝓣 0 ps·6 r·6 (claims· .12) (claims· .13) "lists::index" × Plain.Known 𝓤 H A W 𝓣 9 ps·7 r·7 (claims· .14) (claims· .15) "fiduccia_mattheyses::make_passes" × Plain.Known 𝓤 H A W 𝓣 1 ps·8 r·8 (claims· .16) (claims· .17) "fiduccia_mattheyses_pass::clear" × Plain.Known 𝓤 H A W 𝓣 1 ps·9 r·9 (claims· .18) (claims· .19) "fiduccia_mattheyses::answers::finish"
 
       module _ (κs : Lifetimes.Lfts 9) (qs : Lifetimes.Shares 9) where
         abbrev g5 : List.List Row.Entry
@@ -1974,7 +1974,7 @@ module _ (claims· : Claims) where
           d16 = Typed.g-pre 𝓤 H A W 𝓣 E G78 G79 b34 Δ0 (Typed.pass T78 T79 s77) at15 (Scalar.g-room 𝓤 H A W E G78 36 Syntax.tyUnit (Scalar.room-sc 𝓤 H A W Row.sUnit)) d15
 
           d17 : Typed.Typed 𝓤 H A 𝓣 E G77 b35 Δ0 at17
-          d17 = Typed.s-seq 𝓤 H A W 𝓣 E G77 G78 b27 b34 Δ0 (Typed.both s76) at16 (Plain.t-call-plain 𝓤 H A W 𝓣 1 ps·8 r·8 (claims· .16) (claims· .17) "fiduccia_mattheyses::clear" (known .8) E (λ pos β. β) G77 (record { pos = 38; ty = Syntax.tyRef Syntax.erased Syntax.mut MoveTy.behind; ref = λ x. x }, (Num.vAt 11 λ x. x, tt)) 36 (List._∷_ 16 List.[]) (Call.sub-id 𝓤 H A W (G77 .slots)) (Reads'.as-is 𝓤 H A (Mut.mslice MoveTy.R type·11 16), Mut.reads-mslice 𝓤 H A W MoveTy.R type·11 16, Path'.refl, ((Scalar.reads-sc 𝓤 H A W (Row.sInt Syntax.w64), Path'.refl), tt)) (Reads'.room-gone 𝓤 H A Syntax.tyUnit) (tt, tt) Path'.refl) d16
+          d17 = Typed.s-seq 𝓤 H A W 𝓣 E G77 G78 b27 b34 Δ0 (Typed.both s76) at16 (Plain.t-call-plain 𝓤 H A W 𝓣 1 ps·8 r·8 (claims· .16) (claims· .17) "fiduccia_mattheyses_pass::clear" (known .8) E (λ pos β. β) G77 (record { pos = 38; ty = Syntax.tyRef Syntax.erased Syntax.mut MoveTy.behind; ref = λ x. x }, (Num.vAt 11 λ x. x, tt)) 36 (List._∷_ 16 List.[]) (Call.sub-id 𝓤 H A W (G77 .slots)) (Reads'.as-is 𝓤 H A (Mut.mslice MoveTy.R type·11 16), Mut.reads-mslice 𝓤 H A W MoveTy.R type·11 16, Path'.refl, ((Scalar.reads-sc 𝓤 H A W (Row.sInt Syntax.w64), Path'.refl), tt)) (Reads'.room-gone 𝓤 H A Syntax.tyUnit) (tt, tt) Path'.refl) d16
 
           d18 : Typed.Typed 𝓤 H A 𝓣 E G76 b36 Δ0 at18
           d18 = Typed.s-seq 𝓤 H A W 𝓣 E G76 G77 b26 b35 Δ0 (Typed.ask s75) at17 (Relend.t-sl-aggregate 𝓤 H A W E MoveTy.R 𝓣 (Relend.asMut MoveTy.R) G76 37 38 16 type·11 type·11 (λ x. x) (Scalar.oFld 7 (List._∷_ (Syntax.field 1) List.[]) (Syntax.tyInt Syntax.w64) 8 λ v. Shared.lenV (v .0)) (Reads'.as-is 𝓤 H A (Relend.msptr MoveTy.R type·11 16)) (Reads'.room-gone 𝓤 H A type·12) (Relend.reads-owed-len 𝓤 H A W MoveTy.R type·20 6 16 (Row.lease (κs .1 .1 .1 .1 .1 .1 .0) (qs .1 .1 .1 .1 .1 .1 .0)) 8 Path'.refl, Path'.refl) Path'.refl Path'.refl λ b o k. tt) d17
@@ -2843,6 +2843,6 @@ module _ (claims· : Claims) where
           pub asked : (a : Kinds.Dens κs ps) → (good : Kinds.GoodsP κs ps a) → (pre : Pre· κs a) → (bs : List.List Nat.ℕ) → Φ (Any.wantQ 9 ps r xs m κs qs a (Post· κs a)) (Function.init 9 ps r xs m κs qs a)
           asked = λ a good pre bs. laid record { κs = κs; args = record { starts = a .0; neighbours = a .1 .0; arc-weights = a .1 .1 .0; weights = a .1 .1 .1 .0; labels = a .1 .1 .1 .1 .0; gains = a .1 .1 .1 .1 .1 .0; moves = a .1 .1 .1 .1 .1 .1 .0; rows-made = a .1 .1 .1 .1 .1 .1 .1 .0; rows-rewound = a .1 .1 .1 .1 .1 .1 .1 .1 .0; s = a .1 .1 .1 .1 .1 .1 .1 .1 .1 .0 }; good = good; pre = pre }
 
-        module _ {M : Type 1} (𝓤 : URA.URA M) (H : Wp.Heap 𝓤) (A : Atoms.Atoms 𝓤) (W : Kit.Given 𝓤 H A) (𝓣 : Wp.Tables 𝓤 H) (known0 : Plain.Known 𝓤 H A W 𝓣 2 ps·0 r·0 (claims· .0) (claims· .1) "imbalance::parts_load") (known1 : Plain.Known 𝓤 H A W 𝓣 1 ps·1 r·1 (claims· .2) (claims· .3) "imbalance::total_weight") (known2 : Plain.Known 𝓤 H A W 𝓣 0 ps·2 r·2 (claims· .4) (claims· .5) "fiduccia_mattheyses::number::asked_ceiling") (known3 : Plain.Known 𝓤 H A W 𝓣 0 ps·3 r·3 (claims· .6) (claims· .7) "imbalance::ceilings_of") (known4 : Plain.Known 𝓤 H A W 𝓣 4 ps·4 r·4 (claims· .8) (claims· .9) "topology::cut::cut_of") (known5 : Plain.Known 𝓤 H A W 𝓣 0 ps·5 r·5 (claims· .10) (claims· .11) "lists::wide") (known6 : Plain.Known 𝓤 H A W 𝓣 0 ps·6 r·6 (claims· .12) (claims· .13) "lists::index") (known7 : Plain.Known 𝓤 H A W 𝓣 9 ps·7 r·7 (claims· .14) (claims· .15) "fiduccia_mattheyses::make_passes") (known8 : Plain.Known 𝓤 H A W 𝓣 1 ps·8 r·8 (claims· .16) (claims· .17) "fiduccia_mattheyses::clear") (known9 : Plain.Known 𝓤 H A W 𝓣 1 ps·9 r·9 (claims· .18) (claims· .19) "fiduccia_mattheyses::answers::finish") where
+        module _ {M : Type 1} (𝓤 : URA.URA M) (H : Wp.Heap 𝓤) (A : Atoms.Atoms 𝓤) (W : Kit.Given 𝓤 H A) (𝓣 : Wp.Tables 𝓤 H) (known0 : Plain.Known 𝓤 H A W 𝓣 2 ps·0 r·0 (claims· .0) (claims· .1) "imbalance::parts_load") (known1 : Plain.Known 𝓤 H A W 𝓣 1 ps·1 r·1 (claims· .2) (claims· .3) "imbalance::total_weight") (known2 : Plain.Known 𝓤 H A W 𝓣 0 ps·2 r·2 (claims· .4) (claims· .5) "fiduccia_mattheyses::number::asked_ceiling") (known3 : Plain.Known 𝓤 H A W 𝓣 0 ps·3 r·3 (claims· .6) (claims· .7) "imbalance::ceilings_of") (known4 : Plain.Known 𝓤 H A W 𝓣 4 ps·4 r·4 (claims· .8) (claims· .9) "topology::cut::cut_of") (known5 : Plain.Known 𝓤 H A W 𝓣 0 ps·5 r·5 (claims· .10) (claims· .11) "lists::wide") (known6 : Plain.Known 𝓤 H A W 𝓣 0 ps·6 r·6 (claims· .12) (claims· .13) "lists::index") (known7 : Plain.Known 𝓤 H A W 𝓣 9 ps·7 r·7 (claims· .14) (claims· .15) "fiduccia_mattheyses::make_passes") (known8 : Plain.Known 𝓤 H A W 𝓣 1 ps·8 r·8 (claims· .16) (claims· .17) "fiduccia_mattheyses_pass::clear") (known9 : Plain.Known 𝓤 H A W 𝓣 1 ps·9 r·9 (claims· .18) (claims· .19) "fiduccia_mattheyses::answers::finish") where
           pub spec : Statement.Triple 𝓤 (Wp.WpFn 𝓤 H (𝓣 .C) (𝓣 .Λ) (Function.fnOf 9 ps r xs m hs body)) (Function.plainOf 𝓤 H A 9 ps r Pre· Post·)
           spec = Plain.t-fn-plain 𝓤 H A W 𝓣 9 ps r xs m hs body (λ κs qs bs. Φ) (λ κs qs bs bd. typed κs qs 𝓤 H A W 𝓣 (known0, known1, known2, known3, known4, known5, known6, known7, known8, known9) bs bd) Pre· Post· asked

@@ -1,3 +1,4 @@
+-- `topology::rows::oversized` meets its contract: each return rewrites with the tests that led there. Assumes nothing.
 use borrow.Author.Tests.{lt-ltb, le-ltb}
 use Rattle.topology.specs.Rule.{oversize}
 use Rattle.topology.proofs.rows.oversized.Statement.{statement}
