@@ -1,9 +1,13 @@
 // The eight-block grid as constant tables, and the self-test over its ten rows and three ceilings. Document 01, "The eight-block grid" and "Ceiling".
+mod same; // same.rt: whether labels, numbers and gains are the same
+
 ghost use mathlib.Core.Path.{_≡_};
-ghost use mathlib.Core.Bool.{_&&_};
-ghost use lib.Signed.{leZ};
-ghost use Rattle.eight_block_grid.specs.SelfTest.{same, equalGains, sameGains, cutsGive, loadsGive, fmGives, klGives, swapGives, row1, row2, row3, row4, row5, row6, row7, row8, row9, row10, rounds, Tested};
+ghost use Rattle.eight_block_grid.specs.SelfTest.{cutsGive, loadsGive, fmGives, klGives, swapGives, row1, row2, row3, row4, row5, row6, row7, row8, row9, row10, rounds, Tested};
 use imbalance::Ceiling;
+use same::both;
+use same::same_gains;
+use same::same_labels;
+use same::same_numbers;
 
 // 0-1-2-3, 4-5-6-7, 0-4, 1-5, 2-6, 3-7, weights 1.
 const STARTS: [u32; 9] = [0, 2, 5, 8, 10, 12, 15, 18, 20];
@@ -54,79 +58,6 @@ const TOTALS: [u32; 8] = [5, 75, 0, 0, 0, 0, 0, 0];
 const TWO_PARTS: [u32; 8] = [0, 1, 0, 0, 0, 0, 0, 0];
 
 const CEILINGS: [u64; 3] = [4, 122, 5];
-
-// Whether two lists of labels are the same.
-fn same_labels(xs: &[u32], ys: &[u32]) -> bool
-    ensures { λ r. ⌜ r ≡ same (now (xs .entry)) (now (ys .entry)) ⌝ }
-{
-    if xs.len() != ys.len() {
-        return false;
-    }
-    let mut i: usize = 0;
-    while i < xs.len() {
-        if xs[i] != ys[i] {
-            return false;
-        }
-        i += 1;
-    }
-    true
-}
-
-// Whether two lists of numbers are the same.
-fn same_numbers(xs: &[u64], ys: &[u64]) -> bool
-    ensures { λ r. ⌜ r ≡ same (now (xs .entry)) (now (ys .entry)) ⌝ }
-{
-    if xs.len() != ys.len() {
-        return false;
-    }
-    let mut i: usize = 0;
-    while i < xs.len() {
-        if xs[i] != ys[i] {
-            return false;
-        }
-        i += 1;
-    }
-    true
-}
-
-// Whether both hold.
-fn both(x: bool, y: bool) -> bool
-    ensures { λ r. ⌜ r ≡ (x && y) ⌝ }
-{
-    x && y
-}
-
-// Whether a gain is not above another.
-fn at_most(g: i64, h: i64) -> bool
-    ensures { λ r. ⌜ r ≡ leZ g h ⌝ }
-{
-    g <= h
-}
-
-// Whether two gains are equal.
-fn equal_gains(g: i64, h: i64) -> bool
-    ensures { λ r. ⌜ r ≡ equalGains g h ⌝ }
-{
-    both(at_most(g, h), at_most(h, g))
-}
-
-// Whether two lists of gains are the same.
-fn same_gains(xs: &[i64], ys: &[i64]) -> bool
-    ensures { λ r. ⌜ r ≡ sameGains (now (xs .entry)) (now (ys .entry)) ⌝ }
-{
-    if xs.len() != ys.len() {
-        return false;
-    }
-    let mut i: usize = 0;
-    while i < xs.len() {
-        let equal = equal_gains(xs[i], ys[i]);
-        if !equal {
-            return false;
-        }
-        i += 1;
-    }
-    true
-}
 
 // Whether the cuts of the labels are these.
 fn cuts_give(labels: &[u32], numbers: &[u64]) -> bool

@@ -1,4 +1,5 @@
 // Kernighan-Lin between two parts: coupe's algorithms/kernighan_lin.rs. Document 01, "KL".
+mod answers;
 mod number;
 
 ghost use mathlib.Core.Path.{_≡_};
@@ -84,23 +85,11 @@ fn make_passes(
         );
         i += 1;
         if last <= after {
-            return Report {
-                number: 0,
-                end: 1,
-                passes: i,
-                first: before,
-                last: after,
-            };
+            return answers::run_report(1, i, before, after);
         }
         last = after;
     }
-    Report {
-        number: 0,
-        end: 0,
-        passes: i,
-        first: before,
-        last,
-    }
+    answers::run_report(0, i, before, last)
 }
 
 // The call, for every input. The lent lists may be longer than is needed: the run has their fronts, and these are zeros afterwards.
@@ -139,13 +128,7 @@ pub fn kernighan_lin(
         passes,
     );
     if number != 0 {
-        return Report {
-            number,
-            end: 0,
-            passes: 0,
-            first: 0,
-            last: 0,
-        };
+        return answers::bare_report(number);
     }
     let report = make_passes(
         starts,

@@ -6,23 +6,23 @@ use imbalance::Ceiling;
 use imbalance::Loads;
 
 // A number of the line that fits 32 bits, and the place past it.
-struct Setting {
+struct Word {
     value: u32,
     place: Place,
 }
 
-fn read_setting(buffer: &mut [u8; 65536], place: Place) -> Setting {
+fn read_setting(buffer: &mut [u8; 65536], place: Place) -> Word {
     let read = text::read_number(buffer, place);
     let value = read.value;
     if 4294967295 < value {
         let after = text::only_if(false, read.place);
-        return Setting {
+        return Word {
             value: 0,
             place: after,
         };
     }
     let after = read.place;
-    Setting {
+    Word {
         value: value as u32,
         place: after,
     }

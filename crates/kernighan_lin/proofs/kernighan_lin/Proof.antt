@@ -1,5 +1,5 @@
 -- `kernighan_lin::kernighan_lin` meets its contract: refused or run. Assumes nothing.
-use mathlib.Core.Path.{_≡_, refl, sym, _∙_}
+use mathlib.Core.Path.{_≡_, sym, _∙_}
 use mathlib.Core.List.{_++_}
 use Prim.Native.Nat.{_/_}
 use native.Mathlib.Omega.{arith}
@@ -72,13 +72,17 @@ swaps-whole c =
 number-of-requires : tie.Need-number-of-requires
 number-of-requires c κs = search needs
 
+bare-report-requires : tie.Need-bare-report-requires
+bare-report-requires c κs = search needs
+
 same-length : tie.Need-same-length
 same-length c = search needs
 
 returns : tie.Need-returns
 returns c =
     let given : tie.Start = search needs in
-    at-refusal (given-by given) (lent given) _ (c .before .number-of .result) (c .before .number-of .ensures) (c .if1 .taken) refl
+    let refusing : tie.Then1 = search needs in
+    at-refusal (given-by given) (lent given) _ (refusing .before .number-of .result) (refusing .before .number-of .ensures) (refusing .if1 .taken) (c .bare-report .ensures)
 
 slice-relend-prefix-make-passes : tie.Need-slice-relend-prefix-make-passes
 slice-relend-prefix-make-passes c = ok (c .before) .in-gains
@@ -189,6 +193,7 @@ kernighan-lin-spec =
     tie.close
     (tie.spec
     number-of-requires
+    bare-report-requires
     same-length
     returns
     slice-relend-prefix-make-passes

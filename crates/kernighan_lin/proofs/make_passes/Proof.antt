@@ -1,4 +1,5 @@
 -- `kernighan_lin::make_passes` meets its contract. The invariant: what is left of the run from here is the run from the start. Assumes nothing.
+use mathlib.Core.Path.{sym, _∙_}
 use Prim.Native.Nat.{_-_}
 use native.Mathlib.Omega.{arith}
 use lib.ListN.{getD}
@@ -54,14 +55,32 @@ add-i c = search needs
 same-length : tie.Need-same-length Inv-loop μ-loop
 same-length c = search needs
 
+abbrev start-of : tie.After-most-swaps Inv-loop μ-loop → tie.Start Inv-loop μ-loop
+start-of limited = search needs
+
 same-length-2 : tie.Need-same-length-2 Inv-loop μ-loop
-same-length-2 c = search needs
+same-length-2 c =
+    let passed : tie.After-make-pass Inv-loop μ-loop = search needs in
+    let turn : tie.In-loop Inv-loop μ-loop = search needs in
+    let limited : tie.After-most-swaps Inv-loop μ-loop = search needs in
+    passed .make-pass .kept .1 .1 .1 .1 .0 ∙ turn .before .loop .inv .gains-long ∙ sym (start-of limited .pre .gains-long)
 
 same-length-3 : tie.Need-same-length-3 Inv-loop μ-loop
-same-length-3 c = search needs
+same-length-3 c =
+    let passed : tie.After-make-pass Inv-loop μ-loop = search needs in
+    let turn : tie.In-loop Inv-loop μ-loop = search needs in
+    let limited : tie.After-most-swaps Inv-loop μ-loop = search needs in
+    passed .make-pass .kept .1 .1 .1 .1 .1 .0 ∙ turn .before .loop .inv .locks-long ∙ sym (start-of limited .pre .locks-long)
 
 same-length-4 : tie.Need-same-length-4 Inv-loop μ-loop
-same-length-4 c = search needs
+same-length-4 c =
+    let passed : tie.After-make-pass Inv-loop μ-loop = search needs in
+    let turn : tie.In-loop Inv-loop μ-loop = search needs in
+    let limited : tie.After-most-swaps Inv-loop μ-loop = search needs in
+    passed .make-pass .kept .1 .1 .1 .1 .1 .1 .0 ∙ turn .before .loop .inv .swaps-long ∙ sym (start-of limited .pre .swaps-long)
+
+run-report-requires : tie.Need-run-report-requires Inv-loop μ-loop
+run-report-requires c κs = search needs
 
 returns : tie.Need-returns Inv-loop μ-loop
 returns c =
@@ -69,12 +88,13 @@ returns c =
     let turn : tie.In-loop Inv-loop μ-loop = search needs in
     let after-cut-of : tie.After-cut-of Inv-loop μ-loop = search needs in
     let after-most-swaps : tie.After-most-swaps Inv-loop μ-loop = search needs in
-    let given : tie.Start Inv-loop μ-loop = search needs in
+    let given = start-of after-most-swaps in
     let l = turn .before .loop in
     let m = after-make-pass .make-pass in
-    pass-ends (S given) (given .args .settings .swaps) (given .args .settings .passes) (given .args .labels .now) (l .i) (l .last)
+    rw (c .run-report .ensures)
+    (pass-ends (S given) (given .args .settings .swaps) (given .args .settings .passes) (given .args .labels .now) (l .i) (l .last)
     (l .labels) (l .gains) (l .locks) (l .swaps) (l .inv) (turn .loop-test .taken) _ (after-most-swaps .most-swaps .ensures) _
-    (m .ensures .0) _ (m .ensures .1) _ (after-cut-of .cut-of .ensures) (omega (arith, c .if1 .taken))
+    (m .ensures .0) _ (m .ensures .1) _ (after-cut-of .cut-of .ensures) (let ends : tie.Then1 Inv-loop μ-loop = search needs in omega (arith, ends .if1 .taken)))
 
 loop-less : tie.Need-loop-less Inv-loop μ-loop
 loop-less c = search needs
@@ -93,7 +113,9 @@ loop-again c =
     (c .if1 .left)
 
 same-length-5 : tie.Need-same-length-5 Inv-loop μ-loop
-same-length-5 c = c .before .loop .inv .long
+same-length-5 c =
+    let out : tie.After-loop Inv-loop μ-loop = search needs in
+    out .before .loop .inv .long
 
 same-length-6 : tie.Need-same-length-6 Inv-loop μ-loop
 same-length-6 c = search needs
@@ -104,12 +126,18 @@ same-length-7 c = search needs
 same-length-8 : tie.Need-same-length-8 Inv-loop μ-loop
 same-length-8 c = search needs
 
+run-report-requires-2 : tie.Need-run-report-requires-2 Inv-loop μ-loop
+run-report-requires-2 c κs = search needs
+
 returns-2 : tie.Need-returns-2 Inv-loop μ-loop
 returns-2 c =
     let given : tie.Start Inv-loop μ-loop = search needs in
-    let l = c .before .loop in
-    limit-ends (S given) (given .args .settings .swaps) (given .args .settings .passes) (given .args .labels .now) (l .i) (l .last)
-    (l .labels) (l .gains) (l .locks) (l .swaps) (l .inv) _ (c .before .before .cut-of .ensures) (c .loop-test .left)
+    let after-cut-of : tie.After-cut-of Inv-loop μ-loop = search needs in
+    let out : tie.After-loop Inv-loop μ-loop = search needs in
+    let l = out .before .loop in
+    rw (c .run-report2 .ensures)
+    (limit-ends (S given) (given .args .settings .swaps) (given .args .settings .passes) (given .args .labels .now) (l .i) (l .last)
+    (l .labels) (l .gains) (l .locks) (l .swaps) (l .inv) _ (after-cut-of .cut-of .ensures) (out .loop-test .left))
 
 pub make-passes-spec : {M : Type 1} → statement M
 make-passes-spec =
@@ -123,6 +151,7 @@ make-passes-spec =
     loop-holds
     make-pass-requires
     add-i
+    run-report-requires
     same-length
     same-length-2
     same-length-3
@@ -130,6 +159,7 @@ make-passes-spec =
     returns
     loop-less
     loop-again
+    run-report-requires-2
     same-length-5
     same-length-6
     same-length-7

@@ -1,4 +1,4 @@
--- `eight_block_grid::same_gains` meets its contract. The loop's invariant: the places so far are equal. Assumes nothing.
+-- `eight_block_grid::same::same_gains` meets its contract. The loop's invariant: the places so far are equal. Assumes nothing.
 use Prim.Native.Nat.{_-_}
 use lib.ListN.{length, getD}
 use lib.IntN.{pos}
@@ -7,8 +7,8 @@ use mir.Syntax.{w64}
 use mir.ValLaws.{toZ-ofZ}
 use Rattle.eight_block_grid.specs.SelfTest.{equalGains}
 use Rattle.eight_block_grid.proofs.Alikes.{Equal, at-start, one-more, longer, differs, at-end, place-differs, place-equal}
-use Rattle.eight_block_grid.proofs.same_gains.Statement.{statement}
-use Rattle.eight_block_grid.proofs.same_gains.Tie as tie
+use Rattle.eight_block_grid.proofs.same.same_gains.Statement.{statement}
+use Rattle.eight_block_grid.proofs.same.same_gains.Tie as tie
 
 abbrev Inv-loop : tie.InvT-loop
 Inv-loop xs ys i₀ i = Equal equalGains (pos 0) xs ys i

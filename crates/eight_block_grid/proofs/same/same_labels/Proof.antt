@@ -1,12 +1,12 @@
--- `eight_block_grid::same_labels` meets its contract. The loop's invariant: the places so far are equal. Assumes nothing.
+-- `eight_block_grid::same::same_labels` meets its contract. The loop's invariant: the places so far are equal. Assumes nothing.
 use Prim.Native.Nat.{_-_}
 use lib.ListN.{length}
 use lib.Dec.{eqb}
 use borrow.Author.Needs.{needs}
 use borrow.Author.Tests.{eq-eqb, ne-eqb}
 use Rattle.eight_block_grid.proofs.Alikes.{Equal, at-start, one-more, longer, differs, at-end}
-use Rattle.eight_block_grid.proofs.same_labels.Statement.{statement}
-use Rattle.eight_block_grid.proofs.same_labels.Tie as tie
+use Rattle.eight_block_grid.proofs.same.same_labels.Statement.{statement}
+use Rattle.eight_block_grid.proofs.same.same_labels.Tie as tie
 
 abbrev Inv-loop : tie.InvT-loop
 Inv-loop xs ys i₀ i = Equal eqb 0 xs ys i

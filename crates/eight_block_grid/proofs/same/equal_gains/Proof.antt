@@ -1,10 +1,10 @@
--- `eight_block_grid::equal_gains` meets its contract. Assumes nothing.
+-- `eight_block_grid::same::equal_gains` meets its contract. Assumes nothing.
 use mir.Syntax.{w64}
 use mir.ValLaws.{toZ-ofZ}
 use borrow.Author.Needs.{needs}
 use Rattle.eight_block_grid.proofs.Alikes.{equal-is}
-use Rattle.eight_block_grid.proofs.equal_gains.Statement.{statement}
-use Rattle.eight_block_grid.proofs.equal_gains.Tie as tie
+use Rattle.eight_block_grid.proofs.same.equal_gains.Statement.{statement}
+use Rattle.eight_block_grid.proofs.same.equal_gains.Tie as tie
 
 at-most-requires : tie.Need-at-most-requires
 at-most-requires c κs = search needs
