@@ -23,8 +23,11 @@
  *
  * STACK. Nothing is on the heap. The most stack that a call takes below the caller's frame, in bytes, measured (docs/SPEED.md):
  *
- *     loads 304, edge cut 256, lambda cut 272, FM 1,024, KL 464, arc-swap 1,152, reading a plan 160, writing one 144,
+ *     loads 304, edge cut 64, lambda cut 64, FM 1,024, KL 464, arc-swap 1,152, reading a plan 160, writing one 144,
  *     self-test 2,176
+ *
+ * What a call writes below the stack pointer is counted in: the calling convention leaves a function 128 bytes there, its red zone,
+ * and an interrupt handler on the same stack must not touch them.
  *
  * TIME. Every call ends. The checks walk each list a fixed number of times and look for each arc's opposite by halving a row. Beyond
  * them:
@@ -39,7 +42,7 @@
  * The longest calls measured, at 4,096 vertices, in instructions (docs/SPEED.md has their graphs and settings); longer ones are
  * possible within the bounds above:
  *
- *     loads 71,778, edge cut 2,896,528, lambda cut 2,855,432, FM 530,946,630 with 36,864 moves, KL 78,769,588, arc-swap 19,732,521
+ *     loads 63,602, edge cut 2,830,939, lambda cut 2,802,201, FM 528,276,670 with 36,864 moves, KL 78,690,175, arc-swap 19,654,723
  *
  * THREADS. The library keeps no state of its own, so it may be called from several threads at once, each with lent lists of its own.
  *

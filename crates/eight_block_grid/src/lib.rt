@@ -2,6 +2,8 @@
 mod same; // same.rt: whether labels, numbers and gains are the same
 
 ghost use mathlib.Core.Path.{_≡_};
+ghost use Rattle.topology.specs.EightBlockGrid.{grid, ones};
+ghost use Rattle.topology.specs.Number.{edgeCutNumber, lambdaCutNumber};
 ghost use Rattle.eight_block_grid.specs.SelfTest.{cutsGive, loadsGive, fmGives, klGives, swapGives, row1, row2, row3, row4, row5, row6, row7, row8, row9, row10, rounds, Tested};
 use imbalance::Ceiling;
 use same::both;
@@ -59,18 +61,32 @@ const TWO_PARTS: [u32; 8] = [0, 1, 0, 0, 0, 0, 0, 0];
 
 const CEILINGS: [u64; 3] = [4, 122, 5];
 
-// Whether the cuts of the labels are these.
+// The number that both cuts give to the labels.
+fn cuts_number(labels: &[u32]) -> u32
+    ensures { λ r. ⌜ (r ≡ edgeCutNumber grid (now (labels .entry))) × (r ≡ lambdaCutNumber grid ones (now (labels .entry))) ⌝ }
+{
+    let number = topology::rows_number(&STARTS, &NEIGHBOURS, &ARC_WEIGHTS, labels.len());
+    if number != 0 {
+        return number;
+    }
+    if imbalance::label_above(labels, 15) {
+        return 6;
+    }
+    0
+}
+
+// Whether the cuts of the labels are these. They are worked out from their parts, so that the C entry is the one caller of each cut and the compiler gives its whole call a single frame of stack.
 fn cuts_give(labels: &[u32], numbers: &[u64]) -> bool
     ensures { λ r. ⌜ r ≡ cutsGive (now (labels .entry)) (now (numbers .entry)) ⌝ }
 {
-    let edge = topology::edge_cut(&STARTS, &NEIGHBOURS, &ARC_WEIGHTS, labels);
-    let lambda = topology::lambda_cut(&STARTS, &NEIGHBOURS, &ARC_WEIGHTS, &WEIGHTS, labels);
-    let seen = [
-        edge.number as u64,
-        edge.cut,
-        lambda.number as u64,
-        lambda.cut,
-    ];
+    let number = cuts_number(labels);
+    if number != 0 {
+        let refused = [number as u64, 0, number as u64, 0];
+        return same_numbers(&refused, numbers);
+    }
+    let edge = topology::cut_of(&STARTS, &NEIGHBOURS, &ARC_WEIGHTS, labels);
+    let lambda = topology::lambda_of(&STARTS, &NEIGHBOURS, &WEIGHTS, labels);
+    let seen = [0, edge, 0, lambda];
     same_numbers(&seen, numbers)
 }
 

@@ -2,13 +2,14 @@
 use mathlib.Core.Path.{_≡_, sym}
 use mathlib.Core.Bool.{Bool, true, false}
 use mathlib.Core.List.{List}
-use Prim.Native.Nat.{ℕ, _≤_, _<_}
+use Prim.Native.Nat.{ℕ, _+_, _-_, _≤_, _<_}
 use native.Mathlib.Omega.{arith}
 use lib.ListN.{length, getD}
 use lib.Dec.{ltb}
 use borrow.Author.Tests.{lt-ltb, le-ltb, ltb-false}
 use Rattle.lists.specs.Sum.{sum, total}
 use Rattle.lists.specs.All.{any}
+use Rattle.lists.proofs.Sums.{sum-none, sum-more}
 use Rattle.lists.proofs.Totals.{sum-grows}
 use Rattle.lists.proofs.Alls.{any-holds, any-at}
 use Rattle.imbalance.specs.Limit.{mostWeight, heavy, labelAbove}
@@ -31,19 +32,40 @@ pub light-total : (weights : List ℕ) → heavy weights ≡ false → total wei
 unfolding heavy
 light-total weights h = ltb-false mostWeight (total weights) h
 
--- a first part over the limit decides the test
-pub heavy-part : (weights : List ℕ) (n s : ℕ) → n ≤ length weights → s ≡ totalTo n weights → mostWeight < s → true ≡ heavy weights
-unfolding heavy
-heavy-part weights n s h e l =
-    let g = total-holds weights n h in
-    sym (lt-ltb mostWeight (total weights) (omega arith))
+-- what remains of the limit once the first n weights are taken off it
+pub record Remains (weights : List ℕ) (n rest : ℕ) : Type 0 where
+  pub upto : n ≤ length weights
+  pub made-up : totalTo n weights + rest ≡ mostWeight
 
--- the whole within the limit decides it too
-pub light-whole : (weights : List ℕ) (n s : ℕ) → n ≡ length weights → s ≡ totalTo n weights → s ≤ mostWeight → false ≡ heavy weights
-unfolding heavy total
-light-whole weights n s h e l =
-    let g : s ≡ total weights = rw h at e in
-    sym (le-ltb mostWeight (total weights) (omega arith))
+pub nothing-off : (weights : List ℕ) → Remains weights 0 mostWeight
+nothing-off weights = let z = sum-none (λ i. getD weights i 0) in record { upto = omega arith; made-up = omega arith }
+
+module _ (weights : List ℕ) (n rest : ℕ) (here : Remains weights n rest) where
+  -- the next weight, w
+  module _ (l : n < length weights) (w : ℕ) (w-is : w ≡ getD weights n 0) where
+    pub one-off : w ≤ rest → Remains weights (n + 1) (rest - w)
+    one-off h =
+        let m = sum-more n (λ i. getD weights i 0) in
+        let k = here .made-up in
+        record { upto = omega arith; made-up = omega arith }
+
+    -- it does not fit, which decides the test
+    pub too-heavy : rest < w → true ≡ heavy weights
+    unfolding heavy
+    too-heavy h =
+        let m = sum-more n (λ i. getD weights i 0) in
+        let g = total-holds weights (n + 1) (omega arith) in
+        let k = here .made-up in
+        sym (lt-ltb mostWeight (total weights) (omega arith))
+
+  -- all weights taken off decide it too
+  pub all-off : length weights ≤ n → false ≡ heavy weights
+  unfolding heavy total
+  all-off h =
+      let u = here .upto in
+      let q : n ≡ length weights = omega arith in
+      let k = rw q at (here .made-up) in
+      sym (le-ltb mostWeight (total weights) (omega arith))
 
 -- where number 6's test fails, every label is at most `most`
 pub label-most : (most : ℕ) (labels : List ℕ) → labelAbove most labels ≡ false → (v : ℕ) → v < length labels → getD labels v 0 ≤ most

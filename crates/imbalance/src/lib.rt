@@ -50,17 +50,18 @@ pub struct Ceilings {
     pub at: [u64; 16],
 }
 
-// Number 5's test: whether the weights sum to more than their limit. It stops at the first weight that passes it, so no sum can wrap.
+// Number 5's test: whether the weights sum to more than their limit. It takes each weight off what remains of the limit and stops at the first that does not fit, so no sum can wrap.
 pub fn over_limit(weights: &[u32]) -> bool
     ensures { λ r. ⌜ r ≡ heavy (now (weights .entry)) ⌝ }
 {
-    let mut sum: u64 = 0;
+    let mut rest: u64 = MOST_WEIGHT;
     let mut i: usize = 0;
     while i < weights.len() {
-        sum += lists::wide(weights[i]);
-        if MOST_WEIGHT < sum {
+        let w = lists::wide(weights[i]);
+        if rest < w {
             return true;
         }
+        rest -= w;
         i += 1;
     }
     false

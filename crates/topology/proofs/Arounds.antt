@@ -1,12 +1,12 @@
--- The parts around a vertex, as one byte a part counts them, and their sum over the vertices. Assumes nothing.
+-- The parts around a vertex, as one bit a part counts them, and their sum over the vertices. Assumes nothing.
 use mathlib.Core.Path.{_≡_, refl, sym, _∙_}
-use mathlib.Core.Bool.{Bool, true, false, not, _&&_, _||_}
+use mathlib.Core.Bool.{Bool, true, false, not, cond, _&&_, _||_}
 use mathlib.Core.List.{List}
 use Prim.Native.Nat.{ℕ, _+_, _*_, _≤_, _<_}
 use native.Mathlib.Omega.{arith}
 use native.Mathlib.Nat.{mul-le-mul}
-use lib.ListN.{length, getD, set, replicate, length-set, getD-replicate}
-use lib.Seq.{getD-set-same, getD-set-other}
+use lib.ListN.{length, getD}
+use lib.Bits.{bitOr}
 use lib.Dec.{eqb}
 use borrow.Author.Tests.{eq-eqb, ne-eqb, eqb-true, eqb-false}
 use Rattle.lists.specs.Sum.{sum, weigh}
@@ -20,6 +20,7 @@ use Rattle.imbalance.proofs.Limits.{label-most}
 use Rattle.topology.specs.Graph.{Graph, first, past, neighbour}
 use Rattle.topology.specs.Cut.{touches, partsAround, lambda}
 use Rattle.topology.specs.inner.Row.{Row, wordBound}
+use Rattle.topology.proofs.Digits.{digit, bit, with-bit, bit-alone}
 use Rattle.topology.proofs.RowWalks.{Walk, enters, further, at-end}
 
 -- a label is below 16
@@ -30,18 +31,17 @@ label-below {weights} {labels} ok v l = let a = label-most 15 labels (ok .named)
 abbrev meets : Graph → List ℕ → ℕ → ℕ → ℕ → Bool
 meets g p a e t = anyFrom a e (λ i. eqb (part p (neighbour g i)) t)
 
--- a part's byte once the arcs from a up to e are passed, and what the part counts
-abbrev byte : Graph → List ℕ → ℕ → ℕ → ℕ → ℕ → ℕ
-byte g p u a e t = weigh (eqb t (part p u) || meets g p a e t) 1
+-- a part's bit once the arcs from a up to e are passed, and what the part counts
+abbrev mark : Graph → List ℕ → ℕ → ℕ → ℕ → ℕ → ℕ
+mark g p u a e t = weigh (eqb t (part p u) || meets g p a e t) 1
 
 abbrev term : Graph → List ℕ → ℕ → ℕ → ℕ → ℕ → ℕ
 term g p u a e t = weigh (not (eqb t (part p u)) && meets g p a e t) 1
 
 -- the arcs from a up to e are passed
-pub record Met (g : Graph) (p : List ℕ) (u a b e : ℕ) (met : List ℕ) (count : ℕ) : Type 0 where
+pub record Met (g : Graph) (p : List ℕ) (u a b e met count : ℕ) : Type 0 where
   pub walk : Walk (length p) (g .neighbours) a b e
-  pub sized : length met ≡ 16
-  pub bytes : (t : ℕ) → t < 16 → getD met t 0 ≡ byte g p u a e t
+  pub marks : (t : ℕ) → t < 16 → digit met t ≡ mark g p u a e t
   pub count-is : count ≡ sum 16 (term g p u a e)
 
 -- an arc changes nothing of a part that it does not go into, nor of one that was met or is the vertex's own
@@ -64,32 +64,27 @@ weighs-little : (b : Bool) → weigh b 1 ≤ 1
 weighs-little true = omega arith
 weighs-little false = omega arith
 
--- no part is met yet
-abbrev fresh : List ℕ
-fresh = replicate 16 0
-
 module _ (g : Graph) (p : List ℕ) (u a b : ℕ) where
   -- at most one for each part
   at-most : (e : ℕ) → sum 16 (term g p u a e) ≤ 16
   unfolding sum
   at-most e = sum-below 16 (term g p u a e) (λ t. 1) (λ t l. weighs-little (not (eqb t (part p u)) && meets g p a e t))
 
-  pub begins : Row (length p) (g .neighbours) (first g u) (past g u) → a ≡ first g u → b ≡ past g u → (own mark : ℕ) → own ≡ part p u → own < 16 → mark ≡ 1 → Met g p u a b a (set fresh own mark) 0
-  begins row q r own mark o l m = record {
+  pub begins : Row (length p) (g .neighbours) (first g u) (past g u) → a ≡ first g u → b ≡ past g u → (own : ℕ) → own ≡ part p u → own < 16 → Met g p u a b a (bit own) 0
+  begins row q r own o l = record {
     walk = enters (rw (q, r) row);
-    sized = length-set fresh own mark;
-    bytes = λ t k. at t k (eqb t own) refl;
+    marks = λ t k. bit-alone own t l ∙ at t (eqb own t) refl;
     count-is = sym (sum-ext 16 (term g p u a a) (λ t. 0) (λ t k. rw (unmet t, and-false)) ∙ sum-zero 16);
   }
     where
       unmet : (t : ℕ) → meets g p a a t ≡ false
       unmet t = any-from-empty a 0 (λ i. eqb (part p (neighbour g i)) t)
 
-      at : (t : ℕ) → t < 16 → (s : Bool) → eqb t own ≡ s → getD (set fresh own mark) t 0 ≡ byte g p u a a t
-      at t k true n = rw (unmet t, ← o, n, eqb-true t own n, getD-set-same fresh own mark 0 l) m
-      at t k false n = rw (unmet t, ← o, n, getD-set-other fresh own t mark 0 (eqb-false t own n)) (getD-replicate 16 t 0 0 k)
+      at : (t : ℕ) (s : Bool) → eqb own t ≡ s → cond s 1 0 ≡ mark g p u a a t
+      at t true n = rw (← eqb-true own t n, ← o, eq-eqb own own refl)
+      at t false n = rw (unmet t, ← o, ne-eqb t own (λ q. eqb-false own t n (sym q)))
 
-  module _ (e : ℕ) (met : List ℕ) (count : ℕ) (inv : Met g p u a b e met count) where
+  module _ (e met count : ℕ) (inv : Met g p u a b e met count) where
     pub few : count ≤ 16
     few = let c = inv .count-is in let m = at-most e in omega arith
 
@@ -102,43 +97,43 @@ module _ (g : Graph) (p : List ℕ) (u a b : ℕ) where
       meets-more : (x : ℕ) → meets g p a (e + 1) x ≡ meets g p a e x || eqb t x
       meets-more x = rw (t-is, v-is) (any-from-more a e (λ i. eqb (part p (neighbour g i)) x) (inv .walk .from))
 
-      same : (x : ℕ) → (eqb t x ≡ true → eqb x (part p u) || meets g p a e x ≡ true) → (byte g p u a (e + 1) x ≡ byte g p u a e x) × (term g p u a (e + 1) x ≡ term g p u a e x)
+      same : (x : ℕ) → (eqb t x ≡ true → eqb x (part p u) || meets g p a e x ≡ true) → (mark g p u a (e + 1) x ≡ mark g p u a e x) × (term g p u a (e + 1) x ≡ term g p u a e x)
       same x h =
           let r = stays (eqb x (part p u)) (meets g p a e x) (eqb t x) h in
           (rw (meets-more x, r .0), rw (meets-more x, r .1))
 
+      other : (x : ℕ) → eqb t x ≡ false → eqb t x ≡ true → eqb x (part p u) || meets g p a e x ≡ true
+      other x q r = let o : _≡_ {A = ℕ} 0 1 = cc in absurd (omega arith)
+
+      -- the part's bit is put in, whether it was there or not
+      marked : (x : ℕ) → x < 16 → digit (bitOr met (bit t)) x ≡ mark g p u a (e + 1) x
+      marked x k = with-bit met t x t-below ∙ at (eqb t x) refl
+        where
+          at : (s : Bool) → eqb t x ≡ s → cond s 1 (digit met x) ≡ mark g p u a (e + 1) x
+          at true q = rw (meets-more x, q, or-true, or-true)
+          at false q = inv .marks x k ∙ sym (same x (other x q) .0)
+
       -- the part was met, or is u's own
-      pub turn-known : (getD met t 0 ≡ 0 → ⊥) → Met g p u a b (e + 1) met count
+      pub turn-known : (digit met t ≡ 0 → ⊥) → Met g p u a b (e + 1) (bitOr met (bit t)) count
       turn-known h = record {
         walk = further (inv .walk) l;
-        sized = inv .sized;
-        bytes = λ x k. inv .bytes x k ∙ sym (same x (known x) .0);
+        marks = marked;
         count-is = inv .count-is ∙ sum-ext 16 (term g p u a e) (term g p u a (e + 1)) (λ x k. sym (same x (known x) .1));
       }
         where
           known : (x : ℕ) → eqb t x ≡ true → eqb x (part p u) || meets g p a e x ≡ true
-          known x q = rw (← eqb-true t x q) (weighs-one (eqb t (part p u) || meets g p a e t) (λ z. h (inv .bytes t t-below ∙ z)))
+          known x q = rw (← eqb-true t x q) (weighs-one (eqb t (part p u) || meets g p a e t) (λ z. h (inv .marks t t-below ∙ z)))
 
       -- the part is a new one
-      pub turn-new : getD met t 0 ≡ 0 → Met g p u a b (e + 1) (set met t 1) (count + 1)
+      pub turn-new : digit met t ≡ 0 → Met g p u a b (e + 1) (bitOr met (bit t)) (count + 1)
       turn-new h = record {
         walk = further (inv .walk) l;
-        sized = length-set met t 1 ∙ inv .sized;
-        bytes = λ x k. at x k (eqb t x) refl;
+        marks = marked;
         count-is = omega (arith, counts, inv .count-is, before, after);
       }
         where
           unmet : (eqb t (part p u) ≡ false) × (meets g p a e t ≡ false)
-          unmet = or-false (eqb t (part p u)) (meets g p a e t) (weighs-none (eqb t (part p u) || meets g p a e t) (sym (inv .bytes t t-below) ∙ h))
-
-          other : (x : ℕ) → eqb t x ≡ false → eqb t x ≡ true → eqb x (part p u) || meets g p a e x ≡ true
-          other x q r = let o : _≡_ {A = ℕ} 0 1 = cc in absurd (omega arith)
-
-          at : (x : ℕ) → x < 16 → (s : Bool) → eqb t x ≡ s → getD (set met t 1) x 0 ≡ byte g p u a (e + 1) x
-          at x k true q =
-              let z = inv .sized in
-              rw (meets-more x, q, or-true, or-true, ← eqb-true t x q) (getD-set-same met t 1 0 (omega arith))
-          at x k false q = getD-set-other met t x 1 0 (λ r. eqb-false t x q (sym r)) ∙ inv .bytes x k ∙ sym (same x (other x q) .0)
+          unmet = or-false (eqb t (part p u)) (meets g p a e t) (weighs-none (eqb t (part p u) || meets g p a e t) (sym (inv .marks t t-below) ∙ h))
 
           before : term g p u a e t ≡ 0
           before = rw (unmet .0, unmet .1)

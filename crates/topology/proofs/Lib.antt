@@ -4,6 +4,7 @@ pub mod Rises
 pub mod Rules
 pub mod Lookups
 pub mod Numbers
+pub mod Digits
 pub mod Arounds
 pub mod RowWalks
 pub mod GainSums

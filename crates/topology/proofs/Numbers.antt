@@ -1,7 +1,7 @@
 -- What number 0 tells of a graph: no number from 1 to 5 applies, so its rows are in order, it is symmetric without loops, and its weights are within their limits. Assumes nothing.
 use mathlib.Core.Path.{_≡_, refl, sym, ap, _∙_}
 use mathlib.Core.Bool.{Bool, true, false, not, cond, _||_}
-use mathlib.Core.List.{List}
+use mathlib.Core.List.{List, []}
 use Prim.Native.Nat.{ℕ, zero, suc, _+_, _≤_, _<_}
 use native.Mathlib.Omega.{arith}
 use native.Mathlib.Numerals.{add-one}
@@ -15,13 +15,13 @@ use Rattle.lists.proofs.Numbers.{or-else-zero, not-given}
 use Rattle.imbalance.specs.Limit.{mostVertices, mostArcs, heavy, labelAbove}
 use Rattle.imbalance.specs.Load.{Loadable}
 use Rattle.imbalance.proofs.Limits.{light-total}
-use Rattle.topology.specs.Graph.{Graph, first, past}
+use Rattle.topology.specs.Graph.{Graph, inRows, first, past}
 use Rattle.topology.specs.Rule.{misfit, oversize, startsOk, rowsOk, rowOk, answered, rowsNumber, graphNumber, Rows, Symmetric, Sound}
 use Rattle.topology.specs.Number.{edgeCutNumber, lambdaCutNumber, answerOf}
 use Rattle.topology.specs.inner.Row.{RowsAlone}
 use Rattle.topology.proofs.Starts.{start-first, start-last, start-rises, start-inside}
 use Rattle.topology.proofs.RowWalks.{each-row}
-use Rattle.topology.proofs.Rules.{arc-below, symmetric}
+use Rattle.topology.proofs.Rules.{arc-below, symmetric, rows-found}
 
 -- every place below the last start is in some row
 in-row : (n e : ℕ) (g : Graph) → first g 0 ≡ 0 → e < first g n → (u : ℕ) × (u < n) × (first g u ≤ e) × (e < past g u)
@@ -33,7 +33,7 @@ in-row (suc n) e g z l = go (ltb e (first g n)) refl (in-row n e g z)
     go false t ih = (n, omega arith, ltb-false e (first g n) t, rw (add-one n) l)
 
 module _ (n : ℕ) (g : Graph) where
-  pub rows-hold : misfit n g ≡ false → oversize n (length (g .neighbours)) ≡ false → rowsOk n g ≡ true → Rows n g
+  rows-hold : misfit n g ≡ false → oversize n (length (g .neighbours)) ≡ false → rowsOk n g ≡ true → Rows n g
   unfolding misfit oversize rowsOk
   rows-hold m o r =
       let fit = or-false (not (eqb (length (g .starts)) (n + 1))) (not (eqb (length (g .neighbours)) (length (g .weights)))) m in
@@ -76,12 +76,23 @@ sound n ws g e =
       lightArcs = light-total (g .weights) (five .1);
     }
 
--- a list of starts that fits
-pub starts-fit : (n : ℕ) (g : Graph) (t : Bool) → t ≡ misfit n g → t ≡ false → length (g .starts) ≡ n + 1
+-- the code's tests of 1, 2 and 3, which did not hold: a list of starts that fits
+pub starts-fit : (n : ℕ) (starts neighbours weights : List ℕ) (unfit : Bool) → unfit ≡ misfit n (inRows starts neighbours weights) → unfit ≡ false → length starts ≡ n + 1
 unfolding misfit
-starts-fit n g t e f =
-    let fit = or-false (not (eqb (length (g .starts)) (n + 1))) (not (eqb (length (g .neighbours)) (length (g .weights)))) (sym e ∙ f) in
-    eqb-true (length (g .starts)) (n + 1) (not-false (eqb (length (g .starts)) (n + 1)) (fit .0))
+starts-fit n starts neighbours weights unfit e f =
+    let fit = or-false (not (eqb (length starts) (n + 1))) (not (eqb (length neighbours) (length weights))) (sym e ∙ f) in
+    eqb-true (length starts) (n + 1) (not-false (eqb (length starts) (n + 1)) (fit .0))
+
+-- and rows that are in order
+pub rows-ready :
+    (n : ℕ) (starts neighbours weights : List ℕ) (unfit large ok : Bool)
+    → unfit ≡ misfit n (inRows starts neighbours weights) → unfit ≡ false
+    → large ≡ oversize n (length neighbours) → large ≡ false
+    → ok ≡ rowsOk n (inRows starts neighbours []) → not ok ≡ false
+    → Rows n (inRows starts neighbours weights) × (rowsOk n (inRows starts neighbours weights) ≡ true)
+rows-ready n starts neighbours weights unfit large ok unfit-is fits large-is small ok-is in-order =
+    let r = sym (rows-found n starts neighbours weights ok ok-is) ∙ not-false ok in-order in
+    (rows-hold n (inRows starts neighbours weights) (sym unfit-is ∙ fits) (sym large-is ∙ small) r, r)
 
 -- what the stand-alone cuts answer: a number that is not 0, or the cut
 pub answer-refused : (number cut r : ℕ) → r ≡ number → (r ≡ 0 → ⊥) → record { number = r; cut = 0 } ≡ answerOf number cut

@@ -112,6 +112,9 @@ module _ (n : ℕ) (starts neighbours weights : List ℕ) where
   unfolding rowsOk startsOk arcOk
   rows-alone = refl
 
+  pub rows-found : (ok : Bool) → ok ≡ rowsOk n (inRows starts neighbours []) → ok ≡ rowsOk n (inRows starts neighbours weights)
+  rows-found ok e = e ∙ rows-alone
+
   -- what was found of the arcs from lo up to hi is found of row u
   pub row-read :
       (u lo hi : ℕ) (ok : Bool)

@@ -9,7 +9,11 @@ ghost use Rattle.lists.specs.Sum.{between, weigh};
 ghost use Rattle.topology.specs.Graph.{inRows};
 ghost use Rattle.topology.specs.Rule.{Rows};
 ghost use Rattle.topology.specs.Cut.{crossing, cut};
+ghost use Rattle.topology.specs.Number.{edgeCutNumber, edgeCutAnswer};
 ghost use Rattle.topology.specs.inner.Row.{Row, wordBound, rowBound};
+use crate::CutAnswer;
+use crate::opposites;
+use crate::rows;
 
 // What an arc from u to v counts: its weight where v is lower and of another part, else 0.
 fn crossed(u: usize, v: usize, pu: u32, pv: u32, w: u32) -> u64
@@ -58,4 +62,47 @@ pub fn cut_of(starts: &[u32], neighbours: &[u32], arc_weights: &[u32], labels: &
         u += 1;
     }
     sum
+}
+
+// The number of a call of the stand-alone edge cut.
+fn edge_cut_number(starts: &[u32], neighbours: &[u32], arc_weights: &[u32], labels: &[u32]) -> u32
+    ensures { λ r. ⌜ r ≡ edgeCutNumber (inRows (now (starts .entry)) (now (neighbours .entry)) (now («arc_weights» .entry))) (now (labels .entry)) ⌝ }
+{
+    let n = labels.len();
+    if rows::misfits(starts, neighbours, arc_weights, n) {
+        return 1;
+    }
+    if rows::oversized(n, neighbours.len()) {
+        return 2;
+    }
+    if !rows::rows_ok(starts, neighbours, n) {
+        return 3;
+    }
+    if !opposites::answered_all(starts, neighbours, arc_weights, n) {
+        return 4;
+    }
+    if imbalance::over_limit(arc_weights) {
+        return 5;
+    }
+    if imbalance::label_above(labels, 15) {
+        return 6;
+    }
+    0
+}
+
+// The edge cut, for every input: the stand-alone call.
+pub fn edge_cut(
+    starts: &[u32],
+    neighbours: &[u32],
+    arc_weights: &[u32],
+    labels: &[u32],
+) -> CutAnswer
+    ensures { λ r. ⌜ r ≡ edgeCutAnswer (inRows (now (starts .entry)) (now (neighbours .entry)) (now («arc_weights» .entry))) (now (labels .entry)) ⌝ }
+{
+    let number = edge_cut_number(starts, neighbours, arc_weights, labels);
+    if number != 0 {
+        return CutAnswer { number, cut: 0 };
+    }
+    let cut = cut_of(starts, neighbours, arc_weights, labels);
+    CutAnswer { number: 0, cut }
 }

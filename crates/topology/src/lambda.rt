@@ -6,26 +6,29 @@ ghost use lib.ListN.{length};
 ghost use Rattle.imbalance.specs.Load.{part, Loadable};
 ghost use Rattle.topology.specs.Graph.{inRows};
 ghost use Rattle.topology.specs.Cut.{partsAround, lambda};
+ghost use Rattle.topology.specs.Number.{lambdaCutNumber, lambdaCutAnswer};
 ghost use Rattle.topology.specs.inner.Row.{RowsAlone};
+use crate::CutAnswer;
+use crate::opposites;
+use crate::rows;
 
-// The number of parts around u other than its own. One byte a part says whether it was met.
+// The number of parts around u other than its own. One bit a part says whether it was met, and its own is from the start.
 fn parts_around(starts: &[u32], neighbours: &[u32], labels: &[u32], u: usize) -> u64
     requires { ⌜ RowsAlone (length (now labels)) (now starts) (now neighbours) × ((v : ℕ) → v < length (now labels) → part (now labels) v < 16) × (u < length (now labels)) ⌝ }
     ensures { λ r. ⌜ (r ≡ partsAround (inRows (now (starts .entry)) (now (neighbours .entry)) []) (now (labels .entry)) u) × (r ≤ 16) ⌝ }
 {
     let end = lists::index(starts[u + 1]);
     let mut e = lists::index(starts[u]);
-    let own = lists::index(labels[u]);
-    let mut met = [0u8; 16];
-    met[own] = 1;
+    let mut met = 1u16 << labels[u];
     let mut count: u64 = 0;
     while e < end {
         let v = lists::index(neighbours[e]);
-        let t = lists::index(labels[v]);
-        if met[t] == 0 {
-            met[t] = 1;
+        let t = labels[v];
+        let bit = 1u16 << t;
+        if (met >> t) % 2 == 0 {
             count += 1;
         }
+        met = met | bit;
         e += 1;
     }
     count
@@ -44,4 +47,60 @@ pub fn lambda_of(starts: &[u32], neighbours: &[u32], weights: &[u32], labels: &[
         u += 1;
     }
     sum
+}
+
+// The number of a call of the stand-alone lambda cut.
+fn lambda_cut_number(
+    starts: &[u32],
+    neighbours: &[u32],
+    arc_weights: &[u32],
+    weights: &[u32],
+    labels: &[u32],
+) -> u32
+    ensures { λ r. ⌜ r ≡ lambdaCutNumber (inRows (now (starts .entry)) (now (neighbours .entry)) (now («arc_weights» .entry))) (now (weights .entry)) (now (labels .entry)) ⌝ }
+{
+    let n = labels.len();
+    if weights.len() != n {
+        return 1;
+    }
+    if rows::misfits(starts, neighbours, arc_weights, n) {
+        return 1;
+    }
+    if rows::oversized(n, neighbours.len()) {
+        return 2;
+    }
+    if !rows::rows_ok(starts, neighbours, n) {
+        return 3;
+    }
+    if !opposites::answered_all(starts, neighbours, arc_weights, n) {
+        return 4;
+    }
+    if imbalance::over_limit(weights) {
+        return 5;
+    }
+    if imbalance::over_limit(arc_weights) {
+        return 5;
+    }
+    if imbalance::label_above(labels, 15) {
+        return 6;
+    }
+    0
+}
+
+// The lambda cut, for every input: the stand-alone call.
+pub fn lambda_cut(
+    starts: &[u32],
+    neighbours: &[u32],
+    arc_weights: &[u32],
+    weights: &[u32],
+    labels: &[u32],
+) -> CutAnswer
+    ensures { λ r. ⌜ r ≡ lambdaCutAnswer (inRows (now (starts .entry)) (now (neighbours .entry)) (now («arc_weights» .entry))) (now (weights .entry)) (now (labels .entry)) ⌝ }
+{
+    let number = lambda_cut_number(starts, neighbours, arc_weights, weights, labels);
+    if number != 0 {
+        return CutAnswer { number, cut: 0 };
+    }
+    let cut = lambda_of(starts, neighbours, weights, labels);
+    CutAnswer { number: 0, cut }
 }

@@ -1,23 +1,19 @@
--- `imbalance::over_limit` meets its contract. The loop's invariant: the sum is that of the weights passed, and within the limit. Assumes nothing.
-use mathlib.Core.Path.{_≡_, sym}
-use Prim.Native.Nat.{_+_, _-_, _≤_}
+-- `imbalance::over_limit` meets its contract. The loop's invariant: the weights passed and what remains make up the limit. Assumes nothing.
+use Prim.Native.Nat.{_-_}
 use lib.ListN.{length}
 use borrow.Author.Needs.{needs}
-use native.Mathlib.Omega.{arith}
-use Rattle.lists.proofs.Sums.{sum-none, sum-step}
-use Rattle.imbalance.specs.Limit.{mostWeight}
-use Rattle.imbalance.proofs.Limits.{totalTo, heavy-part, light-whole}
+use Rattle.imbalance.proofs.Limits.{Remains, nothing-off, one-off, too-heavy, all-off}
 use Rattle.imbalance.proofs.over_limit.Statement.{statement}
 use Rattle.imbalance.proofs.over_limit.Tie as tie
 
 abbrev Inv-loop : tie.InvT-loop
-Inv-loop weights sum₀ i₀ sum i = (i ≤ length weights) × (sum ≡ totalTo i weights) × (sum ≤ mostWeight)
+Inv-loop weights rest₀ i₀ rest i = Remains weights i rest
 
 abbrev μ-loop : tie.MeasureT-loop
-μ-loop weights sum₀ i₀ sum i = length weights - i
+μ-loop weights rest₀ i₀ rest i = length weights - i
 
 loop-holds : tie.Need-loop-holds Inv-loop μ-loop
-loop-holds c = (search needs, sym (sum-none _), search needs)
+loop-holds c = search (nothing-off, needs)
 
 mul-wide : tie.Need-mul-wide Inv-loop μ-loop
 mul-wide c = search needs
@@ -28,18 +24,8 @@ shared-slice-read-wide c = search needs
 wide-requires : tie.Need-wide-requires Inv-loop μ-loop
 wide-requires c κs = search needs
 
-add-sum : tie.Need-add-sum Inv-loop μ-loop
-add-sum c =
-    let entered : tie.At-loop Inv-loop μ-loop = search needs in
-    omega (arith, c .before .shared-slice-known2 .given (entered .loop .i))
-
 returns : tie.Need-returns Inv-loop μ-loop
-returns c =
-    let entered : tie.At-loop Inv-loop μ-loop = search needs in
-    let given : tie.Start Inv-loop μ-loop = search needs in
-    let w = given .args .weights .now in
-    let l = entered .loop in
-    heavy-part w (l .i + 1) _ (search needs) (sum-step (l .i) _ _ _ (l .inv .1) (c .before .wide .ensures)) (search needs)
+returns c = search (too-heavy, needs)
 
 add-i : tie.Need-add-i Inv-loop μ-loop
 add-i c = search needs
@@ -48,15 +34,10 @@ loop-less : tie.Need-loop-less Inv-loop μ-loop
 loop-less c = search needs
 
 loop-again : tie.Need-loop-again Inv-loop μ-loop
-loop-again c =
-    let entered : tie.At-loop Inv-loop μ-loop = search needs in
-    (search needs, sum-step _ _ _ _ (entered .loop .inv .1) (c .before .wide .ensures), search needs)
+loop-again c = search (one-off, needs)
 
 returns-2 : tie.Need-returns-2 Inv-loop μ-loop
-returns-2 c =
-    let given : tie.Start Inv-loop μ-loop = search needs in
-    let l = c .before .loop in
-    light-whole (given .args .weights .now) (l .i) _ (search needs) (l .inv .1) (l .inv .2)
+returns-2 c = search (all-off, needs)
 
 pub over-limit-spec : {M : Type 1} → statement M
 over-limit-spec =
@@ -68,7 +49,6 @@ over-limit-spec =
     mul-wide
     shared-slice-read-wide
     wide-requires
-    add-sum
     returns
     add-i
     loop-less

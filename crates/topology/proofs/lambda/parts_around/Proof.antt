@@ -1,19 +1,20 @@
--- `topology::lambda::parts_around` meets its contract. The invariant: the bytes and the count are those of the arcs passed. Assumes nothing.
+-- `topology::lambda::parts_around` meets its contract. The invariant: the bits and the count are those of the arcs passed. Assumes nothing.
+use mathlib.Core.Path.{refl}
 use mathlib.Core.Logic.{⊎-elim}
 use mathlib.Core.List.{[]}
-use Prim.Native.Nat.{_-_, _<_}
+use Prim.Native.Nat.{_-_}
 use native.Mathlib.Omega.{arith}
 use borrow.Author.Needs.{needs}
 use Rattle.topology.specs.Graph.{inRows}
-use Rattle.topology.proofs.Arounds.{Met, begins, few, turn-new, turn-known, ended}
+use Rattle.topology.proofs.Arounds.{Met, begins, few, turn-known, turn-new, ended}
 use Rattle.topology.proofs.lambda.parts_around.Statement.{statement}
 use Rattle.topology.proofs.lambda.parts_around.Tie as tie
 
 abbrev Inv-loop : tie.InvT-loop
-Inv-loop starts neighbours labels u end e₀ own met₀ count₀ e met count = Met (inRows starts neighbours []) labels u e₀ end e met count
+Inv-loop starts neighbours labels u end e₀ met₀ count₀ e met count = Met (inRows starts neighbours []) labels u e₀ end e met count
 
 abbrev μ-loop : tie.MeasureT-loop
-μ-loop starts neighbours labels u end e₀ own met₀ count₀ e met count = end - e
+μ-loop starts neighbours labels u end e₀ met₀ count₀ e met count = end - e
 
 add-index : tie.Need-add-index Inv-loop μ-loop
 add-index c = search needs
@@ -36,6 +37,26 @@ shared-slice-read-index-2 c = search needs
 index-requires-2 : tie.Need-index-requires-2 Inv-loop μ-loop
 index-requires-2 c κs = search needs
 
+mul-met : tie.Need-mul-met Inv-loop μ-loop
+mul-met c = search needs
+
+shared-slice-read-met : tie.Need-shared-slice-read-met Inv-loop μ-loop
+shared-slice-read-met c = search needs
+
+-- u's own part is one of the sixteen
+shl-met : tie.Need-shl-met Inv-loop μ-loop
+shl-met c =
+    let given : tie.Start Inv-loop μ-loop = search needs in
+    given .pre .1 (given .args .u) (given .pre .2)
+
+cast-met : tie.Need-cast-met Inv-loop μ-loop
+cast-met c = omega (arith, shl-met c)
+
+loop-holds : tie.Need-loop-holds Inv-loop μ-loop
+loop-holds c =
+    let given : tie.Start Inv-loop μ-loop = search needs in
+    search (begins, given .pre .0 .row (given .args .u) (given .pre .2), shl-met c, needs)
+
 mul-index-3 : tie.Need-mul-index-3 Inv-loop μ-loop
 mul-index-3 c = search needs
 
@@ -45,50 +66,27 @@ shared-slice-read-index-3 c = search needs
 index-requires-3 : tie.Need-index-requires-3 Inv-loop μ-loop
 index-requires-3 c κs = search needs
 
--- u's own part is one of the sixteen
-own-named : (c : tie.After-index3 Inv-loop μ-loop) → c .index3 .result < 16
-own-named c =
-    let given : tie.Start Inv-loop μ-loop = search needs in
-    omega (arith, given .pre .1 (given .args .u) (given .pre .2), c .index3 .ensures)
+mul-t : tie.Need-mul-t Inv-loop μ-loop
+mul-t c = search needs
 
-array-write-met : tie.Need-array-write-met Inv-loop μ-loop
-array-write-met c = own-named c
-
-loop-holds : tie.Need-loop-holds Inv-loop μ-loop
-loop-holds c =
-    let given : tie.Start Inv-loop μ-loop = search needs in
-    search (begins, given .pre .0 .row (given .args .u) (given .pre .2), own-named c, needs)
+shared-slice-read-t : tie.Need-shared-slice-read-t Inv-loop μ-loop
+shared-slice-read-t c = search needs
 
 -- the arc goes to a vertex whose part is one of the sixteen
-named : (c : tie.After-index5 Inv-loop μ-loop) → c .index5 .result < 16
-named c =
+shl-bit : tie.Need-shl-bit Inv-loop μ-loop
+shl-bit c =
     let given : tie.Start Inv-loop μ-loop = search needs in
-    let goes : tie.After-index4 Inv-loop μ-loop = search needs in
-    omega (arith, given .pre .1 (goes .index4 .result) (search needs), c .index5 .ensures)
+    let goes : tie.After-index3 Inv-loop μ-loop = search needs in
+    given .pre .1 (goes .index3 .result) (search needs)
 
-mul-index-4 : tie.Need-mul-index-4 Inv-loop μ-loop
-mul-index-4 c = search needs
+cast-bit : tie.Need-cast-bit Inv-loop μ-loop
+cast-bit c = omega (arith, shl-bit c)
 
-shared-slice-read-index-4 : tie.Need-shared-slice-read-index-4 Inv-loop μ-loop
-shared-slice-read-index-4 c = search needs
+cast-if1 : tie.Need-cast-if1 Inv-loop μ-loop
+cast-if1 c = omega (arith, shl-bit c)
 
-index-requires-4 : tie.Need-index-requires-4 Inv-loop μ-loop
-index-requires-4 c κs = search needs
-
-mul-index-5 : tie.Need-mul-index-5 Inv-loop μ-loop
-mul-index-5 c = search needs
-
-shared-slice-read-index-5 : tie.Need-shared-slice-read-index-5 Inv-loop μ-loop
-shared-slice-read-index-5 c = search needs
-
-index-requires-5 : tie.Need-index-requires-5 Inv-loop μ-loop
-index-requires-5 c κs = search needs
-
-array-read-if1 : tie.Need-array-read-if1 Inv-loop μ-loop
-array-read-if1 c = named c
-
-array-write-met-2 : tie.Need-array-write-met-2 Inv-loop μ-loop
-array-write-met-2 c = named (c .before)
+shr-if1 : tie.Need-shr-if1 Inv-loop μ-loop
+shr-if1 c = shl-bit c
 
 add-count : tie.Need-add-count Inv-loop μ-loop
 add-count c =
@@ -103,15 +101,15 @@ loop-less c = search needs
 
 loop-again : tie.Need-loop-again Inv-loop μ-loop
 loop-again c =
-    let after-index4 : tie.After-index4 Inv-loop μ-loop = search needs in
+    let goes : tie.After-index3 Inv-loop μ-loop = search needs in
     let turn : tie.In-loop Inv-loop μ-loop = search needs in
     let i = turn .before .loop .inv in
     let l = turn .loop-test .taken in
-    let v = after-index4 .index4 .ensures in
-    let t = c .before .index5 .ensures in
+    let v = goes .index3 .ensures in
+    let t = shl-bit (c .before) in
     ⊎-elim
-    (λ w. rw (w .1, w .2) (turn-new _ _ _ _ _ _ _ _ i l _ _ v t (named (c .before)) (w .0 .taken)))
-    (λ w. rw (w .1, w .2) (turn-known _ _ _ _ _ _ _ _ i l _ _ v t (named (c .before)) (w .0 .left)))
+    (λ w. rw (w .1) (turn-new _ _ _ _ _ _ _ _ i l _ _ v refl t (w .0 .taken)))
+    (λ w. rw (w .1) (turn-known _ _ _ _ _ _ _ _ i l _ _ v refl t (w .0 .left)))
     (c .if1 .came)
 
 returns : tie.Need-returns Inv-loop μ-loop
@@ -130,19 +128,20 @@ parts-around-spec =
     mul-index-2
     shared-slice-read-index-2
     index-requires-2
+    mul-met
+    shared-slice-read-met
+    cast-met
+    shl-met
+    loop-holds
     mul-index-3
     shared-slice-read-index-3
     index-requires-3
-    array-write-met
-    loop-holds
-    mul-index-4
-    shared-slice-read-index-4
-    index-requires-4
-    mul-index-5
-    shared-slice-read-index-5
-    index-requires-5
-    array-read-if1
-    array-write-met-2
+    mul-t
+    shared-slice-read-t
+    cast-bit
+    shl-bit
+    cast-if1
+    shr-if1
     add-count
     add-e
     loop-less

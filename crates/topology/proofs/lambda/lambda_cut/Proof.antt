@@ -1,10 +1,10 @@
--- `topology::lambda_cut` meets its contract: a refusal, or the cut. Assumes nothing.
+-- `topology::lambda::lambda_cut` meets its contract: a refusal, or the cut. Assumes nothing.
 use Rattle.topology.specs.Cut.{touches, partsAround, lambda}
 use Rattle.topology.specs.Number.{lambdaCutAnswer}
 use Rattle.topology.proofs.Numbers.{answer-refused, answer-done, lambda-cut-asked}
 use borrow.Author.Needs.{needs}
-use Rattle.topology.proofs.lambda_cut.Statement.{statement}
-use Rattle.topology.proofs.lambda_cut.Tie as tie
+use Rattle.topology.proofs.lambda.lambda_cut.Statement.{statement}
+use Rattle.topology.proofs.lambda.lambda_cut.Tie as tie
 
 lambda-cut-number-requires : tie.Need-lambda-cut-number-requires
 lambda-cut-number-requires c κs = search needs

@@ -1,9 +1,9 @@
--- `topology::edge_cut` meets its contract: a refusal, or the cut. Assumes nothing.
+-- `topology::cut::edge_cut` meets its contract: a refusal, or the cut. Assumes nothing.
 use Rattle.topology.specs.Number.{edgeCutAnswer}
 use Rattle.topology.proofs.Numbers.{answer-refused, answer-done, edge-cut-asked}
 use borrow.Author.Needs.{needs}
-use Rattle.topology.proofs.edge_cut.Statement.{statement}
-use Rattle.topology.proofs.edge_cut.Tie as tie
+use Rattle.topology.proofs.cut.edge_cut.Statement.{statement}
+use Rattle.topology.proofs.cut.edge_cut.Tie as tie
 
 edge-cut-number-requires : tie.Need-edge-cut-number-requires
 edge-cut-number-requires c κs = search needs
