@@ -31,7 +31,7 @@ pub fn attempt(
         (now (labels .entry)) (now (stack .entry)) st (now (labels .exit)) (now (stack .exit)) r ⌝ }
 {
     let top = st.top - 1;
-    let v = lists::index(stack[top]);
+    let v = lists::index_at(stack, top);
     let loads = st.loads;
     let trial = arc_swap_attempt::try_vertex(
         starts,
@@ -71,10 +71,10 @@ fn on_cut(starts: &[u32], neighbours: &[u32], labels: &[u32], v: usize) -> bool
     requires { ⌜ RowsAlone (length (now labels)) (now starts) (now neighbours) × (v < length (now labels)) ⌝ }
     ensures { λ r. ⌜ r ≡ onCut (inRows (now (starts .entry)) (now (neighbours .entry)) []) (now (labels .entry)) v ⌝ }
 {
-    let end = lists::index(starts[v + 1]);
-    let mut e = lists::index(starts[v]);
+    let end = lists::index_at(starts, v + 1);
+    let mut e = lists::index_at(starts, v);
     while e < end {
-        let u = lists::index(neighbours[e]);
+        let u = lists::index_at(neighbours, e);
         if labels[u] != labels[v] {
             return true;
         }

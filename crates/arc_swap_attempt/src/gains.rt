@@ -22,12 +22,12 @@ pub fn sums_of(
     requires { ⌜ Rows (length (now labels)) (inRows (now starts) (now neighbours) (now «arc_weights»)) × ((u : ℕ) → u < length (now labels) → part (now labels) u < 16) × (v < length (now labels)) ⌝ }
     ensures { λ r. ⌜ r .at ≡ table 16 (into (inRows (now (starts .entry)) (now (neighbours .entry)) (now («arc_weights» .entry))) (now (labels .entry)) v) ⌝ }
 {
-    let end = lists::index(starts[v + 1]);
-    let mut e = lists::index(starts[v]);
+    let end = lists::index_at(starts, v + 1);
+    let mut e = lists::index_at(starts, v);
     let mut at = [0u64; 16];
     while e < end {
-        let u = lists::index(neighbours[e]);
-        let t = lists::index(labels[u]);
+        let u = lists::index_at(neighbours, e);
+        let t = lists::index_at(labels, u);
         at[t] = at[t] + lists::wide(arc_weights[e]);
         e += 1;
     }
@@ -67,7 +67,7 @@ pub fn has_gain(
     requires { ⌜ Named (inRows (now starts) (now neighbours) (now «arc_weights»)) parts (now labels) × (u < length (now labels)) ⌝ }
     ensures { λ r. ⌜ r ≡ hasGain (inRows (now (starts .entry)) (now (neighbours .entry)) (now («arc_weights» .entry))) parts (now (labels .entry)) u ⌝ }
 {
-    let own = lists::index(labels[u]);
+    let own = lists::index_at(labels, u);
     let sums = sums_of(starts, neighbours, arc_weights, labels, u);
     let best = best_part(sums, own, parts);
     sums.at[own] < best.sum

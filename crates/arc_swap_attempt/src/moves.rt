@@ -20,8 +20,8 @@ fn push_neighbours(
     requires { ⌜ Named (inRows (now starts) (now neighbours) (now «arc_weights»)) parts (now labels) × (v < length (now labels)) × (used ≤ length (now stack)) ⌝ }
     ensures { λ r. ⌜ PushDone (pushedBy (inRows (now (starts .entry)) (now (neighbours .entry)) (now («arc_weights» .entry))) parts (now (labels .entry)) v) (now (stack .entry)) used (now (stack .exit)) (r .fits) (r .top) ⌝ }
 {
-    let end = lists::index(starts[v + 1]);
-    let mut e = lists::index(starts[v]);
+    let end = lists::index_at(starts, v + 1);
+    let mut e = lists::index_at(starts, v);
     let mut top = used;
     while e < end {
         let u = neighbours[e];

@@ -22,7 +22,7 @@ pub fn try_vertex(
     requires { ⌜ Tryable (inRows (now starts) (now neighbours) (now «arc_weights»)) parts (now weights) (ceilings .at) (loads .at) (now labels) v ⌝ }
     ensures { λ r. ⌜ r ≡ trial (inRows (now (starts .entry)) (now (neighbours .entry)) (now («arc_weights» .entry))) parts (now (weights .entry)) (ceilings .at) (now (labels .entry)) v ⌝ }
 {
-    let own = lists::index(labels[v]);
+    let own = lists::index_at(labels, v);
     let sums = crate::gains::sums_of(starts, neighbours, arc_weights, labels, v);
     let best = crate::gains::best_part(sums, own, parts);
     let here = sums.at[own];

@@ -122,7 +122,7 @@ fn look(
             return held;
         }
     }
-    let p = lists::index(labels[v]);
+    let p = lists::index_at(labels, v);
     if rooms[p] <= w {
         return held;
     }

@@ -103,7 +103,7 @@ pub fn parts_load(weights: &[u32], labels: &[u32]) -> Loads
     let mut at = [0u64; 16];
     let mut v: usize = 0;
     while v < labels.len() {
-        let t = lists::index(labels[v]);
+        let t = lists::index_at(labels, v);
         at[t] = at[t] + lists::wide(weights[v]);
         v += 1;
     }

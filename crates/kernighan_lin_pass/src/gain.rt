@@ -18,12 +18,12 @@ fn fresh_gain(
     ensures { λ r. ⌜ r ≡ fresh (inRows (now (starts .entry)) (now (neighbours .entry)) (now («arc_weights» .entry))) (now (labels .entry)) u ⌝ }
 {
     let own = labels[u];
-    let end = lists::index(starts[u + 1]);
-    let mut e = lists::index(starts[u]);
+    let end = lists::index_at(starts, u + 1);
+    let mut e = lists::index_at(starts, u);
     let mut there: u64 = 0;
     let mut here: u64 = 0;
     while e < end {
-        let v = lists::index(neighbours[e]);
+        let v = lists::index_at(neighbours, e);
         let w = lists::wide(arc_weights[e]);
         if labels[v] == own {
             here += w;
@@ -67,10 +67,10 @@ pub fn update_neighbours(
     ensures { λ _. ⌜ now (gains .exit) ≡ updated (inRows (now (starts .entry)) (now (neighbours .entry)) (now («arc_weights» .entry))) (now (labels .entry)) v (now (gains .entry)) ⌝ }
 {
     let own = labels[v];
-    let end = lists::index(starts[v + 1]);
-    let mut e = lists::index(starts[v]);
+    let end = lists::index_at(starts, v + 1);
+    let mut e = lists::index_at(starts, v);
     while e < end {
-        let x = lists::index(neighbours[e]);
+        let x = lists::index_at(neighbours, e);
         let g = gains[x];
         gains[x] = g + topology::twice(arc_weights[e], labels[x], own);
         e += 1;

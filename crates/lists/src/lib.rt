@@ -1,8 +1,8 @@
 // What every crate shares: numbers widened out of a lent list and narrowed into one, and lent lists cleared. Document 01, "What must change shape": u32 in, wider inside; lent lists.
 ghost use mathlib.Core.Path.{_≡_};
-ghost use Prim.Native.Nat.{_≤_, _<_};
+ghost use Prim.Native.Nat.{_^_, _≤_, _<_};
 ghost use lib.IntN.{pos};
-ghost use lib.ListN.{length};
+ghost use lib.ListN.{length, getD};
 ghost use Rattle.lists.specs.Fill.{filled};
 
 // The number as a sum takes it.
@@ -19,9 +19,17 @@ pub fn index(x: u32) -> usize
     x as usize
 }
 
+// What a list of places has at a place: where a row starts, the vertex that an arc goes to, a vertex's part.
+pub fn index_at(xs: &[u32], at: usize) -> usize
+    requires { ⌜ at < length (now xs) ⌝ }
+    ensures { λ r. ⌜ r ≡ getD (now (xs .entry)) at 0 ⌝ }
+{
+    index(xs[at])
+}
+
 // A count or a place as a lent list holds it.
 pub fn narrow(x: usize) -> u32
-    requires { ⌜ x < 4294967296 ⌝ }
+    requires { ⌜ x < 2 ^ 32 ⌝ }
     ensures { λ r. ⌜ r ≡ x ⌝ }
 {
     x as u32

@@ -10,6 +10,7 @@ ghost use mathlib.Core.Bool.{true, false};
 ghost use Prim.Native.Nat.{_+_, _*_, _/_, _≤_, _<_};
 ghost use lib.ListN.{length};
 ghost use Rattle.lists.specs.Fill.{over};
+ghost use Rattle.imbalance.specs.Limit.{mostVertices, mostArcs};
 ghost use Rattle.plan_blocks.specs.Block.{laidOut, blocksOf};
 ghost use Rattle.plan_blocks.specs.Decode.{inBlock, blocksIn, headerAt, badLength, badCheck, badNumbers, laterLaid, badLater, badRecords, planOf, fileNumber};
 ghost use Rattle.plan.specs.Read.{short, startsOf, headerAnswer, refusalOf};
@@ -61,7 +62,7 @@ fn laid_out(bytes: &[u8], b: usize, second: usize, kind: usize, count: usize) ->
 
 // Whether each later block is laid out as n and a ask.
 fn later_laid(bytes: &[u8], second: usize, n: usize, a: usize) -> bool
-    requires { ⌜ (second < 256) × (n ≤ 65535) × (a ≤ 65535) × (blocksIn (now bytes) ≡ blocksOf n a) ⌝ }
+    requires { ⌜ (second < 256) × (n ≤ mostVertices) × (a ≤ mostArcs) × (blocksIn (now bytes) ≡ blocksOf n a) ⌝ }
     ensures { λ r. ⌜ r ≡ laterLaid second n a (now (bytes .entry)) ⌝ }
 {
     let blocks = bytes.len() / 512;
@@ -137,7 +138,7 @@ fn short_of(
     neighbours: usize,
     arc_weights: usize,
 ) -> bool
-    requires { ⌜ n ≤ 4096 ⌝ }
+    requires { ⌜ n ≤ mostVertices ⌝ }
     ensures { λ r. ⌜ r ≡ short n a labels weights starts neighbours «arc_weights» ⌝ }
 {
     if labels < n {

@@ -30,7 +30,7 @@ fn unfit(n: usize, a: usize, k: u32, asked: Ceiling) -> bool
 
 // Number 1's test, on the lists' lengths.
 fn miscounted(n: usize, a: usize, weights: usize, starts: usize, arc_weights: usize) -> bool
-    requires { ⌜ n ≤ 4096 ⌝ }
+    requires { ⌜ n ≤ mostVertices ⌝ }
     ensures { λ r. ⌜ r ≡ (not (eqb weights n) || (not (eqb starts (n + 1)) || not (eqb a «arc_weights»))) ⌝ }
 {
     if weights != n {

@@ -6,7 +6,7 @@ use Rattle.lists.specs.Fill.{table}
 
 -- how many words there are: sums of words wrap here
 abbrev pub wrap : ℕ
-wrap = 4294967296
+wrap = 2 ^ 32
 
 -- word w of a file: four bytes, the lowest first
 unfoldable pub word : List ℕ → ℕ → ℕ

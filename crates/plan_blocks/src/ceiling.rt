@@ -9,11 +9,14 @@ ghost use Rattle.imbalance.specs.Ceiling.{zero64, legalE, unfitChoice};
 ghost use Rattle.plan_blocks.specs.Word.{wrap};
 ghost use Rattle.plan_blocks.specs.Plan.{unfitValue, valueOf};
 
+// How many words there are: a number of two words has the upper one so many times.
+const WORDS: u64 = 4294967296;
+
 // The number of two words, the lower first.
 pub fn paired(low: u32, high: u32) -> u64
     ensures { λ r. ⌜ r ≡ low + wrap * high ⌝ }
 {
-    (low as u64) + 4294967296 * (high as u64)
+    (low as u64) + WORDS * (high as u64)
 }
 
 // The imbalance of a legal e's bits.
@@ -40,7 +43,7 @@ pub fn unfit_value(choice: u32, value: u64) -> bool
         return value != 0;
     }
     if choice == 1 {
-        return 4294967296 <= value;
+        return WORDS <= value;
     }
     if choice == 2 {
         if imbalance::legal_bits(value) {
@@ -91,11 +94,11 @@ pub fn value_of(asked: Ceiling) -> u64
 pub fn low_word(value: u64) -> u32
     ensures { λ r. ⌜ r ≡ value % wrap ⌝ }
 {
-    (value % 4294967296) as u32
+    (value % WORDS) as u32
 }
 
 pub fn high_word(value: u64) -> u32
     ensures { λ r. ⌜ r ≡ value / wrap ⌝ }
 {
-    (value / 4294967296) as u32
+    (value / WORDS) as u32
 }

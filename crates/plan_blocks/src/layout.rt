@@ -1,12 +1,13 @@
 // How many blocks there are, and their kinds and record counts. Document 01, "Plan blocks".
 ghost use mathlib.Core.Path.{_≡_};
 ghost use Prim.Native.Nat.{_+_, _*_, _/_, _%_, _≤_, _<_};
+ghost use Rattle.imbalance.specs.Limit.{mostVertices, mostArcs};
 ghost use Rattle.plan_blocks.specs.Block.{blocksFor, blocksOf, heldBy, kindAt, countAt};
 ghost use Rattle.plan_blocks.specs.Plan.{outOfRange};
 
 // The blocks that so many records fill.
 pub fn blocks_for(records: usize) -> usize
-    requires { ⌜ records ≤ 65535 ⌝ }
+    requires { ⌜ records ≤ mostArcs ⌝ }
     ensures { λ r. ⌜ r ≡ blocksFor records ⌝ }
 {
     (records + 62) / 63
@@ -14,7 +15,7 @@ pub fn blocks_for(records: usize) -> usize
 
 // The blocks of a plan of n vertices and a arcs.
 pub fn blocks_of(n: usize, a: usize) -> usize
-    requires { ⌜ (n ≤ 65535) × (a ≤ 65535) ⌝ }
+    requires { ⌜ (n ≤ mostVertices) × (a ≤ mostArcs) ⌝ }
     ensures { λ r. ⌜ r ≡ blocksOf n a ⌝ }
 {
     1 + blocks_for(n) + blocks_for(a)
@@ -22,7 +23,7 @@ pub fn blocks_of(n: usize, a: usize) -> usize
 
 // The records in block i of a later kind.
 fn held_by(records: usize, i: usize) -> usize
-    requires { ⌜ (i < 65536) × (63 * i ≤ records) ⌝ }
+    requires { ⌜ (i ≤ mostArcs) × (63 * i ≤ records) ⌝ }
     ensures { λ r. ⌜ r ≡ heldBy records i ⌝ }
 {
     let rest = records - 63 * i;
@@ -34,7 +35,7 @@ fn held_by(records: usize, i: usize) -> usize
 
 // Block b's kind.
 pub fn kind_at(n: usize, b: usize) -> usize
-    requires { ⌜ n ≤ 65535 ⌝ }
+    requires { ⌜ n ≤ mostVertices ⌝ }
     ensures { λ r. ⌜ r ≡ kindAt n b ⌝ }
 {
     if b == 0 {
@@ -48,7 +49,7 @@ pub fn kind_at(n: usize, b: usize) -> usize
 
 // Block b's record count.
 pub fn count_at(n: usize, a: usize, b: usize) -> usize
-    requires { ⌜ (n ≤ 65535) × (a ≤ 65535) × (b < blocksOf n a) ⌝ }
+    requires { ⌜ (n ≤ mostVertices) × (a ≤ mostArcs) × (b < blocksOf n a) ⌝ }
     ensures { λ r. ⌜ r ≡ countAt n a b ⌝ }
 {
     if b == 0 {
@@ -68,10 +69,10 @@ pub fn out_of_range(n: usize, a: usize, k: u32) -> bool
     if n == 0 {
         return true;
     }
-    if 4096 < n {
+    if imbalance::MOST_VERTICES < n {
         return true;
     }
-    if 65535 < a {
+    if imbalance::MOST_ARCS < a {
         return true;
     }
     if k < 2 {
@@ -82,7 +83,7 @@ pub fn out_of_range(n: usize, a: usize, k: u32) -> bool
 
 // The first word of record i of a kind, where the blocks of that kind start at block `first`.
 pub fn place(first: usize, i: usize) -> usize
-    requires { ⌜ (first ≤ 65535) × (i ≤ 65535) ⌝ }
+    requires { ⌜ (first ≤ mostArcs) × (i ≤ mostArcs) ⌝ }
     ensures { λ r. ⌜ r ≡ 128 * (first + i / 63) + 1 + 2 * (i % 63) ⌝ }
 {
     128 * (first + i / 63) + 1 + 2 * (i % 63)

@@ -125,7 +125,7 @@ pub(crate) fn refine_many(
         16384 0 (now (out .entry)) (now (out .exit)) r ⌝ }
 {
     let parts = lists::index(arc_swap::parts_of(labels));
-    let mut stack = [0u32; 4096];
+    let mut stack = [0u32; imbalance::MOST_VERTICES];
     let answered = arc_swap::arc_swap_counted(
         starts,
         neighbours,

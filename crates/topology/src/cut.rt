@@ -41,7 +41,7 @@ fn row_cut(
     let mut sum: u64 = 0;
     let mut e = a;
     while e < b {
-        let v = lists::index(neighbours[e]);
+        let v = lists::index_at(neighbours, e);
         sum += crossed(u, v, labels[u], labels[v], arc_weights[e]);
         e += 1;
     }
@@ -56,8 +56,8 @@ pub fn cut_of(starts: &[u32], neighbours: &[u32], arc_weights: &[u32], labels: &
     let mut sum: u64 = 0;
     let mut u: usize = 0;
     while u < labels.len() {
-        let a = lists::index(starts[u]);
-        let b = lists::index(starts[u + 1]);
+        let a = lists::index_at(starts, u);
+        let b = lists::index_at(starts, u + 1);
         sum += row_cut(neighbours, arc_weights, labels, u, a, b);
         u += 1;
     }

@@ -28,12 +28,12 @@ pub fn gain_of(
     ensures { λ r. ⌜ r ≡ gain (inRows (now (starts .entry)) (now (neighbours .entry)) (now («arc_weights» .entry))) (now (labels .entry)) u target ⌝ }
 {
     let own = labels[u];
-    let end = lists::index(starts[u + 1]);
-    let mut e = lists::index(starts[u]);
+    let end = lists::index_at(starts, u + 1);
+    let mut e = lists::index_at(starts, u);
     let mut there: u64 = 0;
     let mut here: u64 = 0;
     while e < end {
-        let v = lists::index(neighbours[e]);
+        let v = lists::index_at(neighbours, e);
         let p = labels[v];
         let w = arc_weights[e];
         there += counted(p, target, w);

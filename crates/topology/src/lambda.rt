@@ -17,12 +17,12 @@ fn parts_around(starts: &[u32], neighbours: &[u32], labels: &[u32], u: usize) ->
     requires { ⌜ RowsAlone (length (now labels)) (now starts) (now neighbours) × ((v : ℕ) → v < length (now labels) → part (now labels) v < 16) × (u < length (now labels)) ⌝ }
     ensures { λ r. ⌜ (r ≡ partsAround (inRows (now (starts .entry)) (now (neighbours .entry)) []) (now (labels .entry)) u) × (r ≤ 16) ⌝ }
 {
-    let end = lists::index(starts[u + 1]);
-    let mut e = lists::index(starts[u]);
+    let end = lists::index_at(starts, u + 1);
+    let mut e = lists::index_at(starts, u);
     let mut met = 1u16 << labels[u];
     let mut count: u64 = 0;
     while e < end {
-        let v = lists::index(neighbours[e]);
+        let v = lists::index_at(neighbours, e);
         let t = labels[v];
         let bit = 1u16 << t;
         if (met >> t) % 2 == 0 {

@@ -17,7 +17,7 @@ fn lowest_from(neighbours: &[u32], lo: usize, hi: usize, u: usize) -> usize
     let mut b = hi;
     while a < b {
         let middle = a + (b - a) / 2;
-        let v = lists::index(neighbours[middle]);
+        let v = lists::index_at(neighbours, middle);
         if v < u {
             a = middle + 1;
         } else {
@@ -39,13 +39,13 @@ fn has_arc(
     requires { ⌜ (v + 1 < length (now starts)) × Rises (now neighbours) (getD (now starts) v 0) (getD (now starts) (v + 1) 0) × (length (now «arc_weights») ≡ length (now neighbours)) ⌝ }
     ensures { λ r. ⌜ r ≡ hasArc (inRows (now (starts .entry)) (now (neighbours .entry)) (now («arc_weights» .entry))) v u w ⌝ }
 {
-    let lo = lists::index(starts[v]);
-    let hi = lists::index(starts[v + 1]);
+    let lo = lists::index_at(starts, v);
+    let hi = lists::index_at(starts, v + 1);
     let e = lowest_from(neighbours, lo, hi, u);
     if hi <= e {
         return false;
     }
-    let x = lists::index(neighbours[e]);
+    let x = lists::index_at(neighbours, e);
     if x != u {
         return false;
     }
@@ -67,7 +67,7 @@ fn row_answered(
 {
     let mut e = lo;
     while e < hi {
-        let v = lists::index(neighbours[e]);
+        let v = lists::index_at(neighbours, e);
         let ok = has_arc(starts, neighbours, arc_weights, v, u, arc_weights[e]);
         if !ok {
             return false;
@@ -84,8 +84,8 @@ pub fn answered_all(starts: &[u32], neighbours: &[u32], arc_weights: &[u32], n: 
 {
     let mut u: usize = 0;
     while u < n {
-        let lo = lists::index(starts[u]);
-        let hi = lists::index(starts[u + 1]);
+        let lo = lists::index_at(starts, u);
+        let hi = lists::index_at(starts, u + 1);
         let ok = row_answered(starts, neighbours, arc_weights, u, lo, hi);
         if !ok {
             return false;

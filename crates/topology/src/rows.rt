@@ -39,7 +39,7 @@ pub fn starts_ok(starts: &[u32], neighbours: &[u32], n: usize) -> bool
     if starts[0] != 0 {
         return false;
     }
-    let last = lists::index(starts[n]);
+    let last = lists::index_at(starts, n);
     if last != neighbours.len() {
         return false;
     }
@@ -58,7 +58,7 @@ fn arc_ok(neighbours: &[u32], n: usize, u: usize, lo: usize, e: usize) -> bool
     requires { ⌜ (lo ≤ e) × (e < length (now neighbours)) ⌝ }
     ensures { λ r. ⌜ r ≡ arcOk n (inRows [] (now (neighbours .entry)) []) u lo e ⌝ }
 {
-    let v = lists::index(neighbours[e]);
+    let v = lists::index_at(neighbours, e);
     if n <= v {
         return false;
     }
@@ -68,7 +68,7 @@ fn arc_ok(neighbours: &[u32], n: usize, u: usize, lo: usize, e: usize) -> bool
     if e == lo {
         return true;
     }
-    let before = lists::index(neighbours[e - 1]);
+    let before = lists::index_at(neighbours, e - 1);
     before < v
 }
 
@@ -95,8 +95,8 @@ fn all_rows_ok(starts: &[u32], neighbours: &[u32], n: usize) -> bool
 {
     let mut u: usize = 0;
     while u < n {
-        let lo = lists::index(starts[u]);
-        let hi = lists::index(starts[u + 1]);
+        let lo = lists::index_at(starts, u);
+        let hi = lists::index_at(starts, u + 1);
         let ok = row_ok(neighbours, n, u, lo, hi);
         if !ok {
             return false;

@@ -20,29 +20,23 @@ abbrev μ-loop : tie.MeasureT-loop
 μ-loop weights labels at₀ v₀ at v = length labels - v
 
 -- the label that was read names one of the sixteen parts
-in-parts : (c : tie.After-index Inv-loop μ-loop) → c .index .result ≤ 15
+in-parts : (c : tie.After-index-at Inv-loop μ-loop) → c .index-at .result ≤ 15
 in-parts c =
     let entered : tie.At-loop Inv-loop μ-loop = search needs in
     let given : tie.Start Inv-loop μ-loop = search needs in
     omega (
       arith,
-      c .index .ensures,
+      c .index-at .ensures,
       label-most 15 (given .args .labels .now) (given .pre .named) (entered .loop .v)
-          (c .before .before .loop-test .taken),
+          (c .before .loop-test .taken),
     )
 
 loop-holds : tie.Need-loop-holds Inv-loop μ-loop
 unfolding table sum
 loop-holds c = (search needs, refl)
 
-mul-index : tie.Need-mul-index Inv-loop μ-loop
-mul-index c = search needs
-
-shared-slice-read-index : tie.Need-shared-slice-read-index Inv-loop μ-loop
-shared-slice-read-index c = search needs
-
-index-requires : tie.Need-index-requires Inv-loop μ-loop
-index-requires c κs = search needs
+index-at-requires : tie.Need-index-at-requires Inv-loop μ-loop
+index-at-requires c κs = search needs
 
 mul-at : tie.Need-mul-at Inv-loop μ-loop
 mul-at c = omega (arith, in-parts c)
@@ -68,7 +62,7 @@ add-at c =
       arith,
       load-held (given .args .weights .now) (given .args .labels .now) (given .pre .paired) (l .v) _ _ (l .inv .0)
           (in-parts (c .before .before)) (l .inv .1),
-      c .before .shared-slice-known4 .given (l .v),
+      c .before .shared-slice-known3 .given (l .v),
     )
 
 mul-at-2 : tie.Need-mul-at-2 Inv-loop μ-loop
@@ -90,7 +84,7 @@ loop-again c =
     let l = entered .loop in (
       search needs,
       load-turn (given .args .weights .now) (given .args .labels .now) (l .v) _ _ _ (in-parts (c .before .before))
-          (c .before .before .index .ensures) (c .wide .ensures) (l .inv .1),
+          (c .before .before .index-at .ensures) (c .wide .ensures) (l .inv .1),
     )
 
 returns : tie.Need-returns Inv-loop μ-loop
@@ -107,9 +101,7 @@ parts-load-spec =
     Inv-loop
     μ-loop
     loop-holds
-    mul-index
-    shared-slice-read-index
-    index-requires
+    index-at-requires
     mul-at
     array-read-at
     mul-wide

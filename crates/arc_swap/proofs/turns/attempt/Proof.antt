@@ -16,22 +16,20 @@ use Rattle.arc_swap.proofs.turns.attempt.Tie as tie
 not-goes : (tr : Trial) → (_≡_ {A = ℕ} (tagOf (declared enum) tr) 0) ⊎ (_≡_ {A = ℕ} (tagOf (declared enum) tr) 1) → (t x : ℕ) → tr ≡ Goes t x → ⊥
 not-goes tr h t x e = ⊎-elim (λ w. let q = rw e at w in omega arith) (λ w. let q = rw e at w in omega arith) h
 
+-- the start lies far back
+abbrev start-of : tie.After-index-at → tie.Start
+start-of c = search needs
+
 sub-top : tie.Need-sub-top
 sub-top c = search needs
 
-mul-index : tie.Need-mul-index
-mul-index c = search needs
-
-slice-read-index : tie.Need-slice-read-index
-slice-read-index c = search needs
-
-index-requires : tie.Need-index-requires
-index-requires c κs = search needs
+index-at-requires : tie.Need-index-at-requires
+index-at-requires c κs = search needs
 
 try-vertex-requires : tie.Need-try-vertex-requires
 try-vertex-requires c κs =
-    let given : tie.Start = search needs in
-    tryable _ _ _ _ (given .pre) _ (c .before .before .index .ensures)
+    let after-index-at : tie.After-index-at = search needs in
+    tryable _ _ _ _ (start-of after-index-at .pre) _ (after-index-at .index-at .ensures)
 
 enum-known-trial : tie.Need-enum-known-trial
 enum-known-trial c = search needs
@@ -39,38 +37,34 @@ enum-known-trial c = search needs
 same-length : tie.Need-same-length
 same-length c = search needs
 
+same-length-2 : tie.Need-same-length-2
+same-length-2 c = search needs
+
 returns : tie.Need-returns
 returns c =
-    let after-index : tie.After-index = search needs in
-    let given : tie.Start = search needs in
-    attempt-stays _ _ _ _ (given .pre) _ (after-index .index .ensures) _ (c .before .try-vertex .ensures) (not-goes _ (c .match .keys2))
+    let after-index-at : tie.After-index-at = search needs in
+    attempt-stays _ _ _ _ (start-of after-index-at .pre) _ (after-index-at .index-at .ensures) _ (c .before .try-vertex .ensures) (not-goes _ (c .match .keys2))
 
 move-vertex-requires : tie.Need-move-vertex-requires
 move-vertex-requires c κs =
     let after-trial : tie.After-trial = search needs in
     let after-try-vertex : tie.After-try-vertex = search needs in
-    let after-index : tie.After-index = search needs in
-    let given : tie.Start = search needs in
-    move-asked _ _ _ _ (given .pre) _ (after-index .index .ensures) _ _ _ (after-try-vertex .try-vertex .ensures) (after-trial .trial .given .1)
-
-same-length-2 : tie.Need-same-length-2
-same-length-2 c = search needs
+    let after-index-at : tie.After-index-at = search needs in
+    move-asked _ _ _ _ (start-of after-index-at .pre) _ (after-index-at .index-at .ensures) _ _ _ (after-try-vertex .try-vertex .ensures) (after-trial .trial .given .1)
 
 same-length-3 : tie.Need-same-length-3
 same-length-3 c = search needs
 
--- the stations that lie far back, each from a nearer one
-abbrev start-of : tie.After-index → tie.Start
-start-of c = search needs
+same-length-4 : tie.Need-same-length-4
+same-length-4 c = search needs
 
 returns-2 : tie.Need-returns-2
 returns-2 c =
     let after-move-vertex : tie.After-move-vertex = search needs in
     let after-trial : tie.After-trial = search needs in
     let after-try-vertex : tie.After-try-vertex = search needs in
-    let after-index : tie.After-index = search needs in
-    let given = start-of after-index in
-    attempt-goes _ _ _ _ (given .pre) _ (after-index .index .ensures) _ _
+    let after-index-at : tie.After-index-at = search needs in
+    attempt-goes _ _ _ _ (start-of after-index-at .pre) _ (after-index-at .index-at .ensures) _ _
     (sym (after-trial .trial .given .1) ∙ after-try-vertex .try-vertex .ensures) _ _ _ (after-move-vertex .move-vertex .ensures)
 
 pub attempt-spec : {M : Type 1} → statement M
@@ -78,14 +72,13 @@ attempt-spec =
     tie.close
     (tie.spec
     sub-top
-    mul-index
-    slice-read-index
-    index-requires
+    index-at-requires
     try-vertex-requires
     enum-known-trial
     same-length
+    same-length-2
     returns
     move-vertex-requires
-    same-length-2
     same-length-3
+    same-length-4
     returns-2)

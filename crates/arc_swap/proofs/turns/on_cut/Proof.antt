@@ -13,38 +13,20 @@ Inv-loop starts neighbours labels v end e₀ e = Looking (inRows starts neighbou
 abbrev μ-loop : tie.MeasureT-loop
 μ-loop starts neighbours labels v end e₀ e = end - e
 
-add-index : tie.Need-add-index Inv-loop μ-loop
-add-index c = search needs
+add-index-at : tie.Need-add-index-at Inv-loop μ-loop
+add-index-at c = search needs
 
-mul-index : tie.Need-mul-index Inv-loop μ-loop
-mul-index c = search needs
+index-at-requires : tie.Need-index-at-requires Inv-loop μ-loop
+index-at-requires c κs = search needs
 
-shared-slice-read-index : tie.Need-shared-slice-read-index Inv-loop μ-loop
-shared-slice-read-index c = search needs
-
-index-requires : tie.Need-index-requires Inv-loop μ-loop
-index-requires c κs = search needs
-
-mul-index-2 : tie.Need-mul-index-2 Inv-loop μ-loop
-mul-index-2 c = search needs
-
-shared-slice-read-index-2 : tie.Need-shared-slice-read-index-2 Inv-loop μ-loop
-shared-slice-read-index-2 c = search needs
-
-index-requires-2 : tie.Need-index-requires-2 Inv-loop μ-loop
-index-requires-2 c κs = search needs
+index-at-requires-2 : tie.Need-index-at-requires-2 Inv-loop μ-loop
+index-at-requires-2 c κs = search needs
 
 loop-holds : tie.Need-loop-holds Inv-loop μ-loop
 loop-holds c = search (begins, needs)
 
-mul-index-3 : tie.Need-mul-index-3 Inv-loop μ-loop
-mul-index-3 c = search needs
-
-shared-slice-read-index-3 : tie.Need-shared-slice-read-index-3 Inv-loop μ-loop
-shared-slice-read-index-3 c = search needs
-
-index-requires-3 : tie.Need-index-requires-3 Inv-loop μ-loop
-index-requires-3 c κs = search needs
+index-at-requires-3 : tie.Need-index-at-requires-3 Inv-loop μ-loop
+index-at-requires-3 c κs = search needs
 
 mul-if1 : tie.Need-mul-if1 Inv-loop μ-loop
 mul-if1 c = search needs
@@ -69,9 +51,9 @@ loop-less c = search needs
 
 loop-again : tie.Need-loop-again Inv-loop μ-loop
 loop-again c =
-    let goes : tie.After-index3 Inv-loop μ-loop = search needs in
+    let goes : tie.After-index-at3 Inv-loop μ-loop = search needs in
     let turn : tie.In-loop Inv-loop μ-loop = search needs in
-    passed _ _ _ _ _ _ (turn .before .loop .inv) (turn .loop-test .taken) _ (goes .index3 .ensures) (c .if1 .left)
+    passed _ _ _ _ _ _ (turn .before .loop .inv) (turn .loop-test .taken) _ (goes .index-at3 .ensures) (c .if1 .left)
 
 returns-2 : tie.Need-returns-2 Inv-loop μ-loop
 returns-2 c = search (nowhere, needs)
@@ -82,17 +64,11 @@ on-cut-spec =
     (tie.spec
     Inv-loop
     μ-loop
-    add-index
-    mul-index
-    shared-slice-read-index
-    index-requires
-    mul-index-2
-    shared-slice-read-index-2
-    index-requires-2
+    add-index-at
+    index-at-requires
+    index-at-requires-2
     loop-holds
-    mul-index-3
-    shared-slice-read-index-3
-    index-requires-3
+    index-at-requires-3
     mul-if1
     shared-slice-read-if1
     mul-if1-2

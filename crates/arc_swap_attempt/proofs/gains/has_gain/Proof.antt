@@ -5,17 +5,9 @@ use borrow.Author.Needs.{needs}
 use Rattle.arc_swap_attempt.proofs.gains.has_gain.Statement.{statement}
 use Rattle.arc_swap_attempt.proofs.gains.has_gain.Tie as tie
 
--- src/gains.rt:70:28
-mul-index : tie.Need-mul-index
-mul-index c = search needs
-
--- src/gains.rt:70:28
-shared-slice-read-index : tie.Need-shared-slice-read-index
-shared-slice-read-index c = search needs
-
 -- src/gains.rt:70:9
-index-requires : tie.Need-index-requires
-index-requires c κs = search needs
+index-at-requires : tie.Need-index-at-requires
+index-at-requires c κs = search needs
 
 -- src/gains.rt:71:16
 sums-of-requires : tie.Need-sums-of-requires
@@ -34,7 +26,7 @@ mul-result c =
     let given : tie.Start = search needs in
     omega (
       arith,
-      own-below _ _ _ _ (given .pre .0) (given .pre .1) _ _ _ (c .before .before .index .ensures) (c .before .sums-of .ensures)
+      own-below _ _ _ _ (given .pre .0) (given .pre .1) _ _ _ (c .before .before .index-at .ensures) (c .before .sums-of .ensures)
           (c .best-part .ensures),
     )
 
@@ -42,24 +34,22 @@ mul-result c =
 element-copy-out-result : tie.Need-element-copy-out-result
 element-copy-out-result c =
     let given : tie.Start = search needs in
-    own-below _ _ _ _ (given .pre .0) (given .pre .1) _ _ _ (c .before .before .index .ensures) (c .before .sums-of .ensures) (c .best-part .ensures)
+    own-below _ _ _ _ (given .pre .0) (given .pre .1) _ _ _ (c .before .before .index-at .ensures) (c .before .sums-of .ensures) (c .best-part .ensures)
 
 -- src/gains.rt:59:1
 returns : tie.Need-returns
 returns c =
     let after-sums-of : tie.After-sums-of = search needs in
-    let after-index : tie.After-index = search needs in
+    let after-index-at : tie.After-index-at = search needs in
     let given : tie.Start = search needs in
-    has-gain-by _ _ _ _ (given .pre .0) (given .pre .1) _ _ _ (after-index .index .ensures) (after-sums-of .sums-of .ensures)
+    has-gain-by _ _ _ _ (given .pre .0) (given .pre .1) _ _ _ (after-index-at .index-at .ensures) (after-sums-of .sums-of .ensures)
     (c .before .before .best-part .ensures)
 
 pub has-gain-spec : {M : Type 1} → statement M
 has-gain-spec =
     tie.close
     (tie.spec
-    mul-index
-    shared-slice-read-index
-    index-requires
+    index-at-requires
     sums-of-requires
     best-part-requires
     mul-result

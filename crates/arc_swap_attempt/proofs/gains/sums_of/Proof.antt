@@ -13,54 +13,30 @@ Inv-loop starts neighbours arc-weights labels v end e₀ at₀ e at = Passed (in
 abbrev μ-loop : tie.MeasureT-loop
 μ-loop starts neighbours arc-weights labels v end e₀ at₀ e at = end - e
 
-add-index : tie.Need-add-index Inv-loop μ-loop
-add-index c = search needs
+add-index-at : tie.Need-add-index-at Inv-loop μ-loop
+add-index-at c = search needs
 
-mul-index : tie.Need-mul-index Inv-loop μ-loop
-mul-index c = search needs
+index-at-requires : tie.Need-index-at-requires Inv-loop μ-loop
+index-at-requires c κs = search needs
 
-shared-slice-read-index : tie.Need-shared-slice-read-index Inv-loop μ-loop
-shared-slice-read-index c = search needs
-
-index-requires : tie.Need-index-requires Inv-loop μ-loop
-index-requires c κs = search needs
-
-mul-index-2 : tie.Need-mul-index-2 Inv-loop μ-loop
-mul-index-2 c = search needs
-
-shared-slice-read-index-2 : tie.Need-shared-slice-read-index-2 Inv-loop μ-loop
-shared-slice-read-index-2 c = search needs
-
-index-requires-2 : tie.Need-index-requires-2 Inv-loop μ-loop
-index-requires-2 c κs = search needs
+index-at-requires-2 : tie.Need-index-at-requires-2 Inv-loop μ-loop
+index-at-requires-2 c κs = search needs
 
 loop-holds : tie.Need-loop-holds Inv-loop μ-loop
 loop-holds c = search (begins, needs)
 
 -- the arc goes to a vertex whose part is one of the sixteen
-named : (c : tie.After-index4 Inv-loop μ-loop) → c .index4 .result < 16
+named : (c : tie.After-index-at4 Inv-loop μ-loop) → c .index-at4 .result < 16
 named c =
     let given : tie.Start Inv-loop μ-loop = search needs in
-    let goes : tie.After-index3 Inv-loop μ-loop = search needs in
-    omega (arith, given .pre .1 (goes .index3 .result) (search needs), c .index4 .ensures)
+    let goes : tie.After-index-at3 Inv-loop μ-loop = search needs in
+    omega (arith, given .pre .1 (goes .index-at3 .result) (search needs), c .index-at4 .ensures)
 
-mul-index-3 : tie.Need-mul-index-3 Inv-loop μ-loop
-mul-index-3 c = search needs
+index-at-requires-3 : tie.Need-index-at-requires-3 Inv-loop μ-loop
+index-at-requires-3 c κs = search needs
 
-shared-slice-read-index-3 : tie.Need-shared-slice-read-index-3 Inv-loop μ-loop
-shared-slice-read-index-3 c = search needs
-
-index-requires-3 : tie.Need-index-requires-3 Inv-loop μ-loop
-index-requires-3 c κs = search needs
-
-mul-index-4 : tie.Need-mul-index-4 Inv-loop μ-loop
-mul-index-4 c = search needs
-
-shared-slice-read-index-4 : tie.Need-shared-slice-read-index-4 Inv-loop μ-loop
-shared-slice-read-index-4 c = search needs
-
-index-requires-4 : tie.Need-index-requires-4 Inv-loop μ-loop
-index-requires-4 c κs = search needs
+index-at-requires-4 : tie.Need-index-at-requires-4 Inv-loop μ-loop
+index-at-requires-4 c κs = search needs
 
 mul-at : tie.Need-mul-at Inv-loop μ-loop
 mul-at c = omega (arith, named c)
@@ -81,7 +57,7 @@ add-at : tie.Need-add-at Inv-loop μ-loop
 add-at c =
     let entered : tie.At-loop Inv-loop μ-loop = search needs in
     let l = entered .loop in
-    omega (arith, places (l .inv) _ (named (c .before .before)), c .wide .ensures, c .before .shared-slice-known9 .given (l .e))
+    omega (arith, places (l .inv) _ (named (c .before .before)), c .wide .ensures, c .before .shared-slice-known5 .given (l .e))
 
 mul-at-2 : tie.Need-mul-at-2 Inv-loop μ-loop
 mul-at-2 c = omega (arith, named (c .before .before))
@@ -97,12 +73,12 @@ loop-less c = search needs
 
 loop-again : tie.Need-loop-again Inv-loop μ-loop
 loop-again c =
-    let named-by : tie.After-index4 Inv-loop μ-loop = search needs in
-    let goes : tie.After-index3 Inv-loop μ-loop = search needs in
+    let named-by : tie.After-index-at4 Inv-loop μ-loop = search needs in
+    let goes : tie.After-index-at3 Inv-loop μ-loop = search needs in
     let in-turn : tie.In-loop Inv-loop μ-loop = search needs in
     let l = in-turn .before .loop in
-    turn (l .inv) (in-turn .loop-test .taken) _ _ _ (goes .index3 .ensures) (named-by .index4 .ensures) (named named-by) (c .wide .ensures)
-    (omega (arith, c .wide .ensures, c .before .shared-slice-known9 .given (l .e)))
+    turn (l .inv) (in-turn .loop-test .taken) _ _ _ (goes .index-at3 .ensures) (named-by .index-at4 .ensures) (named named-by) (c .wide .ensures)
+    (omega (arith, c .wide .ensures, c .before .shared-slice-known5 .given (l .e)))
 
 returns : tie.Need-returns Inv-loop μ-loop
 returns c = search (ended, needs)
@@ -113,20 +89,12 @@ sums-of-spec =
     (tie.spec
     Inv-loop
     μ-loop
-    add-index
-    mul-index
-    shared-slice-read-index
-    index-requires
-    mul-index-2
-    shared-slice-read-index-2
-    index-requires-2
+    add-index-at
+    index-at-requires
+    index-at-requires-2
     loop-holds
-    mul-index-3
-    shared-slice-read-index-3
-    index-requires-3
-    mul-index-4
-    shared-slice-read-index-4
-    index-requires-4
+    index-at-requires-3
+    index-at-requires-4
     mul-at
     array-read-at
     mul-wide

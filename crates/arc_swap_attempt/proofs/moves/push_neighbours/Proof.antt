@@ -15,31 +15,19 @@ Inv-loop starts neighbours arc-weights labels stack₀ parts used v end e₀ top
 abbrev μ-loop : tie.MeasureT-loop
 μ-loop starts neighbours arc-weights labels stack₀ parts used v end e₀ top₀ stack e top = end - e
 
-add-index : tie.Need-add-index Inv-loop μ-loop
-add-index c = search needs
+add-index-at : tie.Need-add-index-at Inv-loop μ-loop
+add-index-at c = search needs
 
-mul-index : tie.Need-mul-index Inv-loop μ-loop
-mul-index c = search needs
+index-at-requires : tie.Need-index-at-requires Inv-loop μ-loop
+index-at-requires c κs = search needs
 
-shared-slice-read-index : tie.Need-shared-slice-read-index Inv-loop μ-loop
-shared-slice-read-index c = search needs
-
-index-requires : tie.Need-index-requires Inv-loop μ-loop
-index-requires c κs = search needs
-
-mul-index-2 : tie.Need-mul-index-2 Inv-loop μ-loop
-mul-index-2 c = search needs
-
-shared-slice-read-index-2 : tie.Need-shared-slice-read-index-2 Inv-loop μ-loop
-shared-slice-read-index-2 c = search needs
-
-index-requires-2 : tie.Need-index-requires-2 Inv-loop μ-loop
-index-requires-2 c κs = search needs
+index-at-requires-2 : tie.Need-index-at-requires-2 Inv-loop μ-loop
+index-at-requires-2 c κs = search needs
 
 loop-holds : tie.Need-loop-holds Inv-loop μ-loop
 loop-holds c =
     let given : tie.Start Inv-loop μ-loop = search needs in
-    begins _ _ _ _ _ _ (given .pre .2) (given .pre .0 .rows) (given .pre .1) _ _ (c .before .before .index .ensures) (c .index2 .ensures)
+    begins _ _ _ _ _ _ (given .pre .2) (given .pre .0 .rows) (given .pre .1) _ _ (c .before .index-at .ensures) (c .index-at2 .ensures)
 
 mul-u : tie.Need-mul-u Inv-loop μ-loop
 mul-u c = search needs
@@ -47,8 +35,8 @@ mul-u c = search needs
 shared-slice-read-u : tie.Need-shared-slice-read-u Inv-loop μ-loop
 shared-slice-read-u c = search needs
 
-index-requires-3 : tie.Need-index-requires-3 Inv-loop μ-loop
-index-requires-3 c κs = search needs
+index-requires : tie.Need-index-requires Inv-loop μ-loop
+index-requires c κs = search needs
 
 has-gain-requires : tie.Need-has-gain-requires Inv-loop μ-loop
 has-gain-requires c κs =
@@ -60,11 +48,11 @@ same-length c = search needs
 
 returns : tie.Need-returns Inv-loop μ-loop
 returns c =
-    let after-index3 : tie.After-index3 Inv-loop μ-loop = search needs in
+    let after-index : tie.After-index Inv-loop μ-loop = search needs in
     let turn : tie.In-loop Inv-loop μ-loop = search needs in
     let given : tie.Start Inv-loop μ-loop = search needs in
     no-room _ _ _ _ _ _ (given .pre .2) _ _ _ _ (turn .before .loop .inv) (turn .loop-test .taken) _ refl _
-    (rw (after-index3 .index3 .ensures) at (c .before .before .has-gain .ensures)) (c .before .if1 .taken)
+    (rw (after-index .index .ensures) at (c .before .before .has-gain .ensures)) (c .before .if1 .taken)
     (c .if2 .taken ∙ turn .before .loop .inv .long)
 
 mul-stack : tie.Need-mul-stack Inv-loop μ-loop
@@ -88,7 +76,7 @@ loop-again c =
     let given : tie.Start Inv-loop μ-loop = search needs in
     let i = turn .before .loop .inv in
     let t = turn .loop-test .taken in
-    let g = rw (c .before .before .index3 .ensures) at (c .before .has-gain .ensures) in
+    let g = rw (c .before .before .index .ensures) at (c .before .has-gain .ensures) in
     let n = given .pre .2 in
     ⊎-elim
     (λ w. rw (w .2, w .3) (pushes-one _ _ _ _ _ _ n _ _ _ _ i t _ refl _ g (w .0 .taken) (omega (arith, w .1 .left, i .within, i .long))))
@@ -109,17 +97,13 @@ push-neighbours-spec =
     (tie.spec
     Inv-loop
     μ-loop
-    add-index
-    mul-index
-    shared-slice-read-index
-    index-requires
-    mul-index-2
-    shared-slice-read-index-2
-    index-requires-2
+    add-index-at
+    index-at-requires
+    index-at-requires-2
     loop-holds
     mul-u
     shared-slice-read-u
-    index-requires-3
+    index-requires
     has-gain-requires
     same-length
     returns

@@ -8,17 +8,9 @@ use borrow.Author.Needs.{needs}
 use Rattle.arc_swap_attempt.proofs.trials.try_vertex.Statement.{statement}
 use Rattle.arc_swap_attempt.proofs.trials.try_vertex.Tie as tie
 
--- src/trials.rt:26:28
-mul-index : tie.Need-mul-index
-mul-index c = search needs
-
--- src/trials.rt:26:28
-shared-slice-read-index : tie.Need-shared-slice-read-index
-shared-slice-read-index c = search needs
-
 -- src/trials.rt:26:9
-index-requires : tie.Need-index-requires
-index-requires c κs = search needs
+index-at-requires : tie.Need-index-at-requires
+index-at-requires c κs = search needs
 
 -- src/trials.rt:27:16
 sums-of-requires : tie.Need-sums-of-requires
@@ -37,7 +29,7 @@ mul-here c =
     let given : tie.Start = search needs in
     omega (
       arith,
-      own-below _ _ _ _ (given .pre .ok) (given .pre .here) _ _ _ (c .before .before .index .ensures)
+      own-below _ _ _ _ (given .pre .ok) (given .pre .here) _ _ _ (c .before .before .index-at .ensures)
           (c .before .sums-of .ensures) (c .best-part .ensures),
     )
 
@@ -45,7 +37,7 @@ mul-here c =
 element-copy-out-here : tie.Need-element-copy-out-here
 element-copy-out-here c =
     let given : tie.Start = search needs in
-    own-below _ _ _ _ (given .pre .ok) (given .pre .here) _ _ _ (c .before .before .index .ensures) (c .before .sums-of .ensures)
+    own-below _ _ _ _ (given .pre .ok) (given .pre .here) _ _ _ (c .before .before .index-at .ensures) (c .before .sums-of .ensures)
     (c .best-part .ensures)
 
 -- src/trials.rt:31:9
@@ -53,9 +45,9 @@ returns : tie.Need-returns
 returns c =
     let after-best-part : tie.After-best-part = search needs in
     let after-sums-of : tie.After-sums-of = search needs in
-    let after-index : tie.After-index = search needs in
+    let after-index-at : tie.After-index-at = search needs in
     let given : tie.Start = search needs in
-    no-gain _ _ _ _ (given .pre .ok) (given .pre .here) _ _ _ (after-index .index .ensures) (after-sums-of .sums-of .ensures)
+    no-gain _ _ _ _ (given .pre .ok) (given .pre .here) _ _ _ (after-index-at .index-at .ensures) (after-sums-of .sums-of .ensures)
     (after-best-part .best-part .ensures) _ _ _ (given .pre) (c .if1 .taken)
 
 -- src/trials.rt:34:16
@@ -63,11 +55,11 @@ mul-load : tie.Need-mul-load
 mul-load c =
     let after-best-part : tie.After-best-part = search needs in
     let after-sums-of : tie.After-sums-of = search needs in
-    let after-index : tie.After-index = search needs in
+    let after-index-at : tie.After-index-at = search needs in
     let given : tie.Start = search needs in
     omega (
       arith,
-      target-below _ _ _ _ (given .pre .ok) (given .pre .here) _ _ _ (after-index .index .ensures)
+      target-below _ _ _ _ (given .pre .ok) (given .pre .here) _ _ _ (after-index-at .index-at .ensures)
           (after-sums-of .sums-of .ensures) (after-best-part .best-part .ensures) (c .if1 .left),
     )
 
@@ -76,9 +68,9 @@ element-copy-out-load : tie.Need-element-copy-out-load
 element-copy-out-load c =
     let after-best-part : tie.After-best-part = search needs in
     let after-sums-of : tie.After-sums-of = search needs in
-    let after-index : tie.After-index = search needs in
+    let after-index-at : tie.After-index-at = search needs in
     let given : tie.Start = search needs in
-    target-below _ _ _ _ (given .pre .ok) (given .pre .here) _ _ _ (after-index .index .ensures) (after-sums-of .sums-of .ensures)
+    target-below _ _ _ _ (given .pre .ok) (given .pre .here) _ _ _ (after-index-at .index-at .ensures) (after-sums-of .sums-of .ensures)
     (after-best-part .best-part .ensures) (c .if1 .left)
 
 -- src/trials.rt:34:42
@@ -99,14 +91,14 @@ add-load c =
     let else1 : tie.Else1 = search needs in
     let after-best-part : tie.After-best-part = search needs in
     let after-sums-of : tie.After-sums-of = search needs in
-    let after-index : tie.After-index = search needs in
+    let after-index-at : tie.After-index-at = search needs in
     let given : tie.Start = search needs in
     omega (
       arith,
-      load-small _ _ _ _ (given .pre .ok) (given .pre .here) _ _ _ (after-index .index .ensures)
+      load-small _ _ _ _ (given .pre .ok) (given .pre .here) _ _ _ (after-index-at .index-at .ensures)
           (after-sums-of .sums-of .ensures) (after-best-part .best-part .ensures) _ _ _ (given .pre) (else1 .if1 .left),
       c .wide .ensures,
-      c .before .shared-slice-known7 .given (given .args .v),
+      c .before .shared-slice-known6 .given (given .args .v),
     )
 
 -- src/trials.rt:35:8
@@ -115,11 +107,11 @@ mul-if2 c =
     let else1 : tie.Else1 = search needs in
     let after-best-part : tie.After-best-part = search needs in
     let after-sums-of : tie.After-sums-of = search needs in
-    let after-index : tie.After-index = search needs in
+    let after-index-at : tie.After-index-at = search needs in
     let given : tie.Start = search needs in
     omega (
       arith,
-      target-below _ _ _ _ (given .pre .ok) (given .pre .here) _ _ _ (after-index .index .ensures)
+      target-below _ _ _ _ (given .pre .ok) (given .pre .here) _ _ _ (after-index-at .index-at .ensures)
           (after-sums-of .sums-of .ensures) (after-best-part .best-part .ensures) (else1 .if1 .left),
     )
 
@@ -129,9 +121,9 @@ element-copy-out-if2 c =
     let else1 : tie.Else1 = search needs in
     let after-best-part : tie.After-best-part = search needs in
     let after-sums-of : tie.After-sums-of = search needs in
-    let after-index : tie.After-index = search needs in
+    let after-index-at : tie.After-index-at = search needs in
     let given : tie.Start = search needs in
-    target-below _ _ _ _ (given .pre .ok) (given .pre .here) _ _ _ (after-index .index .ensures) (after-sums-of .sums-of .ensures)
+    target-below _ _ _ _ (given .pre .ok) (given .pre .here) _ _ _ (after-index-at .index-at .ensures) (after-sums-of .sums-of .ensures)
     (after-best-part .best-part .ensures) (else1 .if1 .left)
 
 -- src/trials.rt:36:9
@@ -140,33 +132,33 @@ returns-2 c =
     let else1 : tie.Else1 = search needs in
     let after-best-part : tie.After-best-part = search needs in
     let after-sums-of : tie.After-sums-of = search needs in
-    let after-index : tie.After-index = search needs in
+    let after-index-at : tie.After-index-at = search needs in
     let given : tie.Start = search needs in
-    heavy _ _ _ _ (given .pre .ok) (given .pre .here) _ _ _ (after-index .index .ensures) (after-sums-of .sums-of .ensures)
+    heavy _ _ _ _ (given .pre .ok) (given .pre .here) _ _ _ (after-index-at .index-at .ensures) (after-sums-of .sums-of .ensures)
     (after-best-part .best-part .ensures) _ _ _ (given .pre) (else1 .if1 .left) _
     (ap (λ (x : ℕ). getD (given .args .t6 .at) (after-best-part .best-part .result .part) 0 + x) (c .before .before .wide .ensures))
     (c .if2 .taken)
 
 -- src/trials.rt:38:17
-cast-t20 : tie.Need-cast-t20
-cast-t20 c =
+cast-t29 : tie.Need-cast-t29
+cast-t29 c =
     let else1 : tie.Else1 = search needs in
     let after-best-part : tie.After-best-part = search needs in
     let after-sums-of : tie.After-sums-of = search needs in
-    let after-index : tie.After-index = search needs in
+    let after-index-at : tie.After-index-at = search needs in
     let given : tie.Start = search needs in
     omega (
       arith,
-      target-below _ _ _ _ (given .pre .ok) (given .pre .here) _ _ _ (after-index .index .ensures)
+      target-below _ _ _ _ (given .pre .ok) (given .pre .here) _ _ _ (after-index-at .index-at .ensures)
           (after-sums-of .sums-of .ensures) (after-best-part .best-part .ensures) (else1 .if1 .left),
     )
 
 -- src/trials.rt:38:27
-sub-t28 : tie.Need-sub-t28
-sub-t28 c = search needs
+sub-t26 : tie.Need-sub-t26
+sub-t26 c = search needs
 
 -- the stations that lie far back, each from a nearer one
-abbrev start-of : tie.After-index → tie.Start
+abbrev start-of : tie.After-index-at → tie.Start
 start-of c = search needs
 
 -- src/trials.rt:12:1
@@ -176,9 +168,9 @@ returns-3 c =
     let else1 : tie.Else1 = search needs in
     let after-best-part : tie.After-best-part = search needs in
     let after-sums-of : tie.After-sums-of = search needs in
-    let after-index : tie.After-index = search needs in
-    let given = start-of after-index in
-    goes _ _ _ _ (given .pre .ok) (given .pre .here) _ _ _ (after-index .index .ensures) (after-sums-of .sums-of .ensures)
+    let after-index-at : tie.After-index-at = search needs in
+    let given = start-of after-index-at in
+    goes _ _ _ _ (given .pre .ok) (given .pre .here) _ _ _ (after-index-at .index-at .ensures) (after-sums-of .sums-of .ensures)
     (after-best-part .best-part .ensures) _ _ _ (given .pre) (else1 .if1 .left) _
     (ap (λ (x : ℕ). getD (given .args .t6 .at) (after-best-part .best-part .result .part) 0 + x) (after-wide .wide .ensures))
     (c .before .if2 .left)
@@ -187,9 +179,7 @@ pub try-vertex-spec : {M : Type 1} → statement M
 try-vertex-spec =
     tie.close
     (tie.spec
-    mul-index
-    shared-slice-read-index
-    index-requires
+    index-at-requires
     sums-of-requires
     best-part-requires
     mul-here
@@ -204,6 +194,6 @@ try-vertex-spec =
     mul-if2
     element-copy-out-if2
     returns-2
-    cast-t20
-    sub-t28
+    cast-t29
+    sub-t26
     returns-3)

@@ -49,22 +49,16 @@ returns-2 c =
     (toZ-ofZ w64 _ (record { sfits = after-struct-told .struct-told .given .1 .0 .1 })) (after-wide .wide .ensures)
     (c .before .before .if2 .taken) (c .if3 .taken)
 
-mul-index : tie.Need-mul-index
-mul-index c = search needs
-
-shared-slice-read-index : tie.Need-shared-slice-read-index
-shared-slice-read-index c = search needs
-
-index-requires : tie.Need-index-requires
-index-requires c κs = search needs
+index-at-requires : tie.Need-index-at-requires
+index-at-requires c κs = search needs
 
 -- the label has a room and a lift
-label-low : (c : tie.After-index) → c .index .result < 2
+label-low : (c : tie.After-index-at) → c .index-at .result < 2
 label-low c =
     let given : tie.Start = search needs in
     let x = given .args in
     let two-labels = given .pre .0 .two-labels (x .from + x .step) in
-    omega (arith, c .index .ensures)
+    omega (arith, c .index-at .ensures)
 
 mul-if4 : tie.Need-mul-if4
 mul-if4 c = let l = label-low c in search needs
@@ -82,37 +76,37 @@ returns-3 c =
     let i = c .before .before in
     let x = given .args in
     look-heavy (x .rooms .now) (x .lifts .now) (x .gains .now) (x .labels .now) (x .weights .now) (x .held) (x .from + x .step) _ _
-    (after-wide .wide .ensures) (i .index .ensures) (c .if4 .taken)
+    (after-wide .wide .ensures) (i .index-at .ensures) (c .if4 .taken)
 
 mul-load : tie.Need-mul-load
 mul-load c = let l = label-low (c .before .before) in search needs
 
 shared-slice-read-load : tie.Need-shared-slice-read-load
 shared-slice-read-load c =
-    let after-index : tie.After-index = search needs in
+    let after-index-at : tie.After-index-at = search needs in
     let given : tie.Start = search needs in
-    let l = label-low after-index in
+    let l = label-low after-index-at in
     omega (arith, given .pre .0 .lifted)
 
 add-load : tie.Need-add-load
 add-load c =
-    let after-index : tie.After-index = search needs in
+    let after-index-at : tie.After-index-at = search needs in
     let after-wide : tie.After-wide = search needs in
     let given : tie.Start = search needs in
     let x = given .args in
-    let l = given .pre .0 .light (after-index .index .result) (label-low after-index) in
+    let l = given .pre .0 .light (after-index-at .index-at .result) (label-low after-index-at) in
     omega (arith, after-wide .wide .ensures, after-wide .before .shared-slice-known5 .given (x .from + x .step))
 
 outranks-requires : tie.Need-outranks-requires
 outranks-requires c κs = search needs
 
-add-t27 : tie.Need-add-t27
-add-t27 c = search needs
+add-t26 : tie.Need-add-t26
+add-t26 c = search needs
 
 returns-4 : tie.Need-returns-4
 returns-4 c =
     let else4 : tie.Else4 = search needs in
-    let after-index : tie.After-index = search needs in
+    let after-index-at : tie.After-index-at = search needs in
     let after-wide : tie.After-wide = search needs in
     let after-struct-told : tie.After-struct-told = search needs in
     let given : tie.Start = search needs in
@@ -120,12 +114,12 @@ returns-4 c =
     look-takes (x .rooms .now) (x .lifts .now) (x .gains .now) (x .labels .now) (x .weights .now) (x .held) (x .from + x .step) _ _ _ _ _ _
     (toZ-ofZ w64 _ (record { sfits = after-struct-told .before .g .given }))
     (toZ-ofZ w64 _ (record { sfits = after-struct-told .struct-told .given .1 .0 .1 })) (after-wide .wide .ensures)
-    (after-index .index .ensures) (ap₂ _+_ (ap (λ p. getD (x .lifts .now) p 0) (after-index .index .ensures))
+    (after-index-at .index-at .ensures) (ap₂ _+_ (ap (λ p. getD (x .lifts .now) p 0) (after-index-at .index-at .ensures))
     (after-wide .wide .ensures)) (else4 .if4 .left) (c .before .outranks .ensures) (c .if5 .taken)
 
 returns-5 : tie.Need-returns-5
 returns-5 c =
-    let after-index : tie.After-index = search needs in
+    let after-index-at : tie.After-index-at = search needs in
     let after-wide : tie.After-wide = search needs in
     let after-struct-told : tie.After-struct-told = search needs in
     let given : tie.Start = search needs in
@@ -133,7 +127,7 @@ returns-5 c =
     look-not (x .rooms .now) (x .lifts .now) (x .gains .now) (x .labels .now) (x .weights .now) (x .held) (x .from + x .step) _ _ _ _
     (toZ-ofZ w64 _ (record { sfits = after-struct-told .before .g .given }))
     (toZ-ofZ w64 _ (record { sfits = after-struct-told .struct-told .given .1 .0 .1 }))
-    (ap₂ _+_ (ap (λ p. getD (x .lifts .now) p 0) (after-index .index .ensures)) (after-wide .wide .ensures))
+    (ap₂ _+_ (ap (λ p. getD (x .lifts .now) p 0) (after-index-at .index-at .ensures)) (after-wide .wide .ensures))
     (c .before .outranks .ensures) (c .if5 .left)
 
 pub look-spec : {M : Type 1} → statement M
@@ -149,9 +143,7 @@ look-spec =
     shared-slice-read-wide
     wide-requires
     returns-2
-    mul-index
-    shared-slice-read-index
-    index-requires
+    index-at-requires
     mul-if4
     shared-slice-read-if4
     returns-3
@@ -159,6 +151,6 @@ look-spec =
     shared-slice-read-load
     add-load
     outranks-requires
-    add-t27
+    add-t26
     returns-4
     returns-5)

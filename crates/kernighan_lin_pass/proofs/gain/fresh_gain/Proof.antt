@@ -28,7 +28,7 @@ abbrev μ-loop : tie.MeasureT-loop
 weight-small : (c : tie.After-wide Inv-loop μ-loop) → c .wide .result < wordBound
 weight-small c =
     let entered : tie.At-loop Inv-loop μ-loop = search needs in
-    omega (arith, c .wide .ensures, c .before .shared-slice-known9 .given (entered .loop .e))
+    omega (arith, c .wide .ensures, c .before .shared-slice-known6 .given (entered .loop .e))
 
 mul-own : tie.Need-mul-own Inv-loop μ-loop
 mul-own c = search needs
@@ -36,40 +36,22 @@ mul-own c = search needs
 shared-slice-read-own : tie.Need-shared-slice-read-own Inv-loop μ-loop
 shared-slice-read-own c = search needs
 
-add-index : tie.Need-add-index Inv-loop μ-loop
-add-index c = search needs
+add-index-at : tie.Need-add-index-at Inv-loop μ-loop
+add-index-at c = search needs
 
-mul-index : tie.Need-mul-index Inv-loop μ-loop
-mul-index c = search needs
+index-at-requires : tie.Need-index-at-requires Inv-loop μ-loop
+index-at-requires c κs = search needs
 
-shared-slice-read-index : tie.Need-shared-slice-read-index Inv-loop μ-loop
-shared-slice-read-index c = search needs
-
-index-requires : tie.Need-index-requires Inv-loop μ-loop
-index-requires c κs = search needs
-
-mul-index-2 : tie.Need-mul-index-2 Inv-loop μ-loop
-mul-index-2 c = search needs
-
-shared-slice-read-index-2 : tie.Need-shared-slice-read-index-2 Inv-loop μ-loop
-shared-slice-read-index-2 c = search needs
-
-index-requires-2 : tie.Need-index-requires-2 Inv-loop μ-loop
-index-requires-2 c κs = search needs
+index-at-requires-2 : tie.Need-index-at-requires-2 Inv-loop μ-loop
+index-at-requires-2 c κs = search needs
 
 loop-holds : tie.Need-loop-holds Inv-loop μ-loop
 loop-holds c =
     let given : tie.Start Inv-loop μ-loop = search needs in
-    begins (given .pre .0 .rows) (given .args .u) _ _ (given .pre .1) (c .index2 .ensures) (c .before .before .index .ensures)
+    begins (given .pre .0 .rows) (given .args .u) _ _ (given .pre .1) (c .index-at2 .ensures) (c .before .index-at .ensures)
 
-mul-index-3 : tie.Need-mul-index-3 Inv-loop μ-loop
-mul-index-3 c = search needs
-
-shared-slice-read-index-3 : tie.Need-shared-slice-read-index-3 Inv-loop μ-loop
-shared-slice-read-index-3 c = search needs
-
-index-requires-3 : tie.Need-index-requires-3 Inv-loop μ-loop
-index-requires-3 c κs = search needs
+index-at-requires-3 : tie.Need-index-at-requires-3 Inv-loop μ-loop
+index-at-requires-3 c κs = search needs
 
 mul-wide : tie.Need-mul-wide Inv-loop μ-loop
 mul-wide c = search needs
@@ -105,12 +87,12 @@ loop-less c = search needs
 loop-again : tie.Need-loop-again Inv-loop μ-loop
 loop-again c =
     let weighs : tie.After-wide Inv-loop μ-loop = search needs in
-    let goes : tie.After-index3 Inv-loop μ-loop = search needs in
+    let goes : tie.After-index-at3 Inv-loop μ-loop = search needs in
     let turn : tie.In-loop Inv-loop μ-loop = search needs in
     let i = turn .before .loop .inv in
     let on = further (i .walk) (turn .loop-test .taken) in
     let f = i .walk .from in
-    let v = goes .index3 .ensures in
+    let v = goes .index-at3 .ensures in
     let w = weighs .wide .ensures in
     ⊎-elim
     (λ t.
@@ -142,17 +124,11 @@ fresh-gain-spec =
     μ-loop
     mul-own
     shared-slice-read-own
-    add-index
-    mul-index
-    shared-slice-read-index
-    index-requires
-    mul-index-2
-    shared-slice-read-index-2
-    index-requires-2
+    add-index-at
+    index-at-requires
+    index-at-requires-2
     loop-holds
-    mul-index-3
-    shared-slice-read-index-3
-    index-requires-3
+    index-at-requires-3
     mul-wide
     shared-slice-read-wide
     wide-requires

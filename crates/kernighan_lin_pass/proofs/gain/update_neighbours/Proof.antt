@@ -27,44 +27,44 @@ graph s = inRows (s .args .starts .now) (s .args .neighbours .now) (s .args .arc
 
 -- the arc goes to a vertex
 goes :
-    (c : tie.After-index3 Inv-loop μ-loop)
+    (c : tie.After-index-at3 Inv-loop μ-loop)
     → let given : tie.Start Inv-loop μ-loop = search needs in
-    c .index3 .result < length (given .args .labels .now)
+    c .index-at3 .result < length (given .args .labels .now)
 goes c = search needs
 
 -- the gain is far from the ends of the range, and so is what is added
 gain-far :
-    (c : tie.After-index3 Inv-loop μ-loop)
+    (c : tie.After-index-at3 Inv-loop μ-loop)
     → let entered : tie.At-loop Inv-loop μ-loop = search needs in
-    mag (getD (entered .loop .gains) (c .index3 .result) (pos 0)) ≤ 2 * mostGain + updateBound
+    mag (getD (entered .loop .gains) (c .index-at3 .result) (pos 0)) ≤ 2 * mostGain + updateBound
 gain-far c =
     let entered : tie.At-loop Inv-loop μ-loop = search needs in
     let given : tie.Start Inv-loop μ-loop = search needs in
     let l = entered .loop in
     gain-small (graph given) (given .args .labels .now) (given .args .v) (given .args .gains .now) (given .pre .0) _ _ (l .e)
-    (l .gains) (l .inv) (2 * mostGain) (given .pre .3) (c .index3 .result) (goes c)
+    (l .gains) (l .inv) (2 * mostGain) (given .pre .3) (c .index-at3 .result) (goes c)
 
 added-far : (c : tie.After-twice Inv-loop μ-loop) → mag (c .twice .result) ≤ 2 * wordBound
 added-far c =
-    let after-index3 : tie.After-index3 Inv-loop μ-loop = search needs in
+    let after-index3 : tie.After-index-at3 Inv-loop μ-loop = search needs in
     let entered : tie.At-loop Inv-loop μ-loop = search needs in
     let given : tie.Start Inv-loop μ-loop = search needs in
     let w = getD (given .args .arc-weights .now) (entered .loop .e) 0 in
-    let h : w < wordBound = omega (arith, c .before .before .shared-slice-known9 .given (entered .loop .e)) in
+    let h : w < wordBound = omega (arith, c .before .before .shared-slice-known6 .given (entered .loop .e)) in
     rw (c .twice .ensures) (omega (
       arith,
       twice-small w h
-          (eqb (getD (given .args .labels .now) (after-index3 .index3 .result) 0) (getD (given .args .labels .now) (given .args .v) 0)),
+          (eqb (getD (given .args .labels .now) (after-index3 .index-at3 .result) 0) (getD (given .args .labels .now) (given .args .v) 0)),
     ))
 
 -- the two added
 far :
     (c : tie.After-twice Inv-loop μ-loop)
-    → let after-index3 : tie.After-index3 Inv-loop μ-loop = search needs in
+    → let after-index3 : tie.After-index-at3 Inv-loop μ-loop = search needs in
     let entered : tie.At-loop Inv-loop μ-loop = search needs in
-    (mag (getD (entered .loop .gains) (after-index3 .index3 .result) (pos 0)) < 2 ^ 62) × (mag (c .twice .result) < 2 ^ 62 - 1)
+    (mag (getD (entered .loop .gains) (after-index3 .index-at3 .result) (pos 0)) < 2 ^ 62) × (mag (c .twice .result) < 2 ^ 62 - 1)
 far c =
-    let after-index3 : tie.After-index3 Inv-loop μ-loop = search needs in
+    let after-index3 : tie.After-index-at3 Inv-loop μ-loop = search needs in
     (omega (arith, gain-far after-index3), omega (arith, added-far c))
 
 mul-own : tie.Need-mul-own Inv-loop μ-loop
@@ -73,40 +73,22 @@ mul-own c = search needs
 shared-slice-read-own : tie.Need-shared-slice-read-own Inv-loop μ-loop
 shared-slice-read-own c = search needs
 
-add-index : tie.Need-add-index Inv-loop μ-loop
-add-index c = search needs
+add-index-at : tie.Need-add-index-at Inv-loop μ-loop
+add-index-at c = search needs
 
-mul-index : tie.Need-mul-index Inv-loop μ-loop
-mul-index c = search needs
+index-at-requires : tie.Need-index-at-requires Inv-loop μ-loop
+index-at-requires c κs = search needs
 
-shared-slice-read-index : tie.Need-shared-slice-read-index Inv-loop μ-loop
-shared-slice-read-index c = search needs
-
-index-requires : tie.Need-index-requires Inv-loop μ-loop
-index-requires c κs = search needs
-
-mul-index-2 : tie.Need-mul-index-2 Inv-loop μ-loop
-mul-index-2 c = search needs
-
-shared-slice-read-index-2 : tie.Need-shared-slice-read-index-2 Inv-loop μ-loop
-shared-slice-read-index-2 c = search needs
-
-index-requires-2 : tie.Need-index-requires-2 Inv-loop μ-loop
-index-requires-2 c κs = search needs
+index-at-requires-2 : tie.Need-index-at-requires-2 Inv-loop μ-loop
+index-at-requires-2 c κs = search needs
 
 loop-holds : tie.Need-loop-holds Inv-loop μ-loop
 loop-holds c =
     let given : tie.Start Inv-loop μ-loop = search needs in
-    begins (graph given) _ _ _ (given .pre .0) _ _ (given .pre .1) (given .pre .2) (c .index2 .ensures) (c .before .before .index .ensures)
+    begins (graph given) _ _ _ (given .pre .0) _ _ (given .pre .1) (given .pre .2) (c .index-at2 .ensures) (c .before .index-at .ensures)
 
-mul-index-3 : tie.Need-mul-index-3 Inv-loop μ-loop
-mul-index-3 c = search needs
-
-shared-slice-read-index-3 : tie.Need-shared-slice-read-index-3 Inv-loop μ-loop
-shared-slice-read-index-3 c = search needs
-
-index-requires-3 : tie.Need-index-requires-3 Inv-loop μ-loop
-index-requires-3 c κs = search needs
+index-at-requires-3 : tie.Need-index-at-requires-3 Inv-loop μ-loop
+index-at-requires-3 c κs = search needs
 
 mul-g : tie.Need-mul-g Inv-loop μ-loop
 mul-g c = search needs
@@ -131,12 +113,12 @@ twice-requires c κs = search needs
 
 add-gains : tie.Need-add-gains Inv-loop μ-loop
 add-gains c =
-    let after-index3 : tie.After-index3 Inv-loop μ-loop = search needs in
+    let after-index3 : tie.After-index-at3 Inv-loop μ-loop = search needs in
     let entered : tie.At-loop Inv-loop μ-loop = search needs in
-    sum-fits (getD (entered .loop .gains) (after-index3 .index3 .result) (pos 0)) (c .twice .result) (far c .0) (far c .1)
+    sum-fits (getD (entered .loop .gains) (after-index3 .index-at3 .result) (pos 0)) (c .twice .result) (far c .0) (far c .1)
 
-mul-t29 : tie.Need-mul-t29 Inv-loop μ-loop
-mul-t29 c = search needs
+mul-t25 : tie.Need-mul-t25 Inv-loop μ-loop
+mul-t25 c = search needs
 
 slice-set-from-gains : tie.Need-slice-set-from-gains Inv-loop μ-loop
 slice-set-from-gains c = search needs
@@ -149,14 +131,14 @@ loop-less c = search needs
 
 loop-again : tie.Need-loop-again Inv-loop μ-loop
 loop-again c =
-    let after-index3 : tie.After-index3 Inv-loop μ-loop = search needs in
+    let after-index3 : tie.After-index-at3 Inv-loop μ-loop = search needs in
     let in-turn : tie.In-loop Inv-loop μ-loop = search needs in
     let given : tie.Start Inv-loop μ-loop = search needs in
     let l = in-turn .before .loop in
-    let x = after-index3 .index3 .result in
+    let x = after-index3 .index-at3 .result in
     let kept = sum-kept (getD (l .gains) x (pos 0)) (c .twice .result) (far c .0) (far c .1) in
     turn (graph given) (given .args .labels .now) (given .args .v) (given .args .gains .now) (given .pre .0) _ _ (l .e)
-    (l .gains) (l .inv) (in-turn .loop-test .taken) x (getD (given .args .arc-weights .now) (l .e) 0) _ (after-index3 .index3 .ensures)
+    (l .gains) (l .inv) (in-turn .loop-test .taken) x (getD (given .args .arc-weights .now) (l .e) 0) _ (after-index3 .index-at3 .ensures)
     (goes after-index3) refl (rw (← c .twice .ensures) kept)
 
 same-length : tie.Need-same-length Inv-loop μ-loop
@@ -175,17 +157,11 @@ update-neighbours-spec =
     μ-loop
     mul-own
     shared-slice-read-own
-    add-index
-    mul-index
-    shared-slice-read-index
-    index-requires
-    mul-index-2
-    shared-slice-read-index-2
-    index-requires-2
+    add-index-at
+    index-at-requires
+    index-at-requires-2
     loop-holds
-    mul-index-3
-    shared-slice-read-index-3
-    index-requires-3
+    index-at-requires-3
     mul-g
     slice-copy-out-g
     mul-twice
@@ -194,7 +170,7 @@ update-neighbours-spec =
     shared-slice-read-twice-2
     twice-requires
     add-gains
-    mul-t29
+    mul-t25
     slice-set-from-gains
     add-e
     loop-less

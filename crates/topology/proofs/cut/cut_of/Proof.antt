@@ -23,33 +23,21 @@ abbrev μ-loop : tie.MeasureT-loop
 loop-holds : tie.Need-loop-holds Inv-loop μ-loop
 loop-holds c = (search needs, sym (sum-none _), search needs)
 
-mul-index : tie.Need-mul-index Inv-loop μ-loop
-mul-index c = search needs
+index-at-requires : tie.Need-index-at-requires Inv-loop μ-loop
+index-at-requires c κs = search needs
 
-shared-slice-read-index : tie.Need-shared-slice-read-index Inv-loop μ-loop
-shared-slice-read-index c = search needs
+add-index-at : tie.Need-add-index-at Inv-loop μ-loop
+add-index-at c = search needs
 
-index-requires : tie.Need-index-requires Inv-loop μ-loop
-index-requires c κs = search needs
-
-add-index : tie.Need-add-index Inv-loop μ-loop
-add-index c = search needs
-
-mul-index-2 : tie.Need-mul-index-2 Inv-loop μ-loop
-mul-index-2 c = search needs
-
-shared-slice-read-index-2 : tie.Need-shared-slice-read-index-2 Inv-loop μ-loop
-shared-slice-read-index-2 c = search needs
-
-index-requires-2 : tie.Need-index-requires-2 Inv-loop μ-loop
-index-requires-2 c κs = search needs
+index-at-requires-2 : tie.Need-index-at-requires-2 Inv-loop μ-loop
+index-at-requires-2 c κs = search needs
 
 row-cut-requires : tie.Need-row-cut-requires Inv-loop μ-loop
 row-cut-requires c κs =
     let turn : tie.In-loop Inv-loop μ-loop = search needs in
     let given : tie.Start Inv-loop μ-loop = search needs in
-    let low : tie.After-index Inv-loop μ-loop = search needs in
-    (row-of (given .pre) (turn .before .loop .u) _ _ (turn .loop-test .taken) (low .index .ensures) (c .index2 .ensures), search needs, search needs)
+    let low : tie.After-index-at Inv-loop μ-loop = search needs in
+    (row-of (given .pre) (turn .before .loop .u) _ _ (turn .loop-test .taken) (low .index-at .ensures) (c .index-at2 .ensures), search needs, search needs)
 
 add-sum : tie.Need-add-sum Inv-loop μ-loop
 add-sum c = search needs
@@ -62,11 +50,11 @@ loop-less c = search needs
 
 loop-again : tie.Need-loop-again Inv-loop μ-loop
 loop-again c =
-    let after-index : tie.After-index Inv-loop μ-loop = search needs in
+    let after-index-at : tie.After-index-at Inv-loop μ-loop = search needs in
     let entered : tie.At-loop Inv-loop μ-loop = search needs in
     let row = c .row-cut .ensures in (
       search needs,
-      sum-step (entered .loop .u) _ _ _ (entered .loop .inv .1) (rw (after-index .index .ensures, c .before .index2 .ensures) at (row .0)),
+      sum-step (entered .loop .u) _ _ _ (entered .loop .inv .1) (rw (after-index-at .index-at .ensures, c .before .index-at2 .ensures) at (row .0)),
       omega (arith, row .1),
     )
 
@@ -84,13 +72,9 @@ cut-of-spec =
     Inv-loop
     μ-loop
     loop-holds
-    mul-index
-    shared-slice-read-index
-    index-requires
-    add-index
-    mul-index-2
-    shared-slice-read-index-2
-    index-requires-2
+    index-at-requires
+    add-index-at
+    index-at-requires-2
     row-cut-requires
     add-sum
     add-u

@@ -28,14 +28,8 @@ loop-holds c =
     let given : tie.Start Inv-loop μ-loop = search needs in
     (enters (given .pre .0), none-summed (given .args .a))
 
-mul-index : tie.Need-mul-index Inv-loop μ-loop
-mul-index c = search needs
-
-shared-slice-read-index : tie.Need-shared-slice-read-index Inv-loop μ-loop
-shared-slice-read-index c = search needs
-
-index-requires : tie.Need-index-requires Inv-loop μ-loop
-index-requires c κs = search needs
+index-at-requires : tie.Need-index-at-requires Inv-loop μ-loop
+index-at-requires c κs = search needs
 
 mul-crossed : tie.Need-mul-crossed Inv-loop μ-loop
 mul-crossed c = search needs
@@ -71,12 +65,12 @@ loop-less c = search needs
 
 loop-again : tie.Need-loop-again Inv-loop μ-loop
 loop-again c =
-    let goes : tie.After-index Inv-loop μ-loop = search needs in
+    let goes : tie.After-index-at Inv-loop μ-loop = search needs in
     let turn : tie.In-loop Inv-loop μ-loop = search needs in
     let i = turn .before .loop .inv in
     let x = c .crossed .ensures in (
       further (i .0) (turn .loop-test .taken),
-      one-summed (i .1) (i .0 .from) _ _ (goes .index .ensures) (x .0) (x .1),
+      one-summed (i .1) (i .0 .from) _ _ (goes .index-at .ensures) (x .0) (x .1),
     )
 
 returns : tie.Need-returns Inv-loop μ-loop
@@ -91,9 +85,7 @@ row-cut-spec =
     Inv-loop
     μ-loop
     loop-holds
-    mul-index
-    shared-slice-read-index
-    index-requires
+    index-at-requires
     mul-crossed
     shared-slice-read-crossed
     mul-crossed-2

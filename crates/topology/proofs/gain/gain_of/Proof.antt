@@ -25,38 +25,20 @@ mul-own c = search needs
 shared-slice-read-own : tie.Need-shared-slice-read-own Inv-loop μ-loop
 shared-slice-read-own c = search needs
 
-add-index : tie.Need-add-index Inv-loop μ-loop
-add-index c = search needs
+add-index-at : tie.Need-add-index-at Inv-loop μ-loop
+add-index-at c = search needs
 
-mul-index : tie.Need-mul-index Inv-loop μ-loop
-mul-index c = search needs
+index-at-requires : tie.Need-index-at-requires Inv-loop μ-loop
+index-at-requires c κs = search needs
 
-shared-slice-read-index : tie.Need-shared-slice-read-index Inv-loop μ-loop
-shared-slice-read-index c = search needs
-
-index-requires : tie.Need-index-requires Inv-loop μ-loop
-index-requires c κs = search needs
-
-mul-index-2 : tie.Need-mul-index-2 Inv-loop μ-loop
-mul-index-2 c = search needs
-
-shared-slice-read-index-2 : tie.Need-shared-slice-read-index-2 Inv-loop μ-loop
-shared-slice-read-index-2 c = search needs
-
-index-requires-2 : tie.Need-index-requires-2 Inv-loop μ-loop
-index-requires-2 c κs = search needs
+index-at-requires-2 : tie.Need-index-at-requires-2 Inv-loop μ-loop
+index-at-requires-2 c κs = search needs
 
 loop-holds : tie.Need-loop-holds Inv-loop μ-loop
 loop-holds c = search (begins, needs)
 
-mul-index-3 : tie.Need-mul-index-3 Inv-loop μ-loop
-mul-index-3 c = search needs
-
-shared-slice-read-index-3 : tie.Need-shared-slice-read-index-3 Inv-loop μ-loop
-shared-slice-read-index-3 c = search needs
-
-index-requires-3 : tie.Need-index-requires-3 Inv-loop μ-loop
-index-requires-3 c κs = search needs
+index-at-requires-3 : tie.Need-index-at-requires-3 Inv-loop μ-loop
+index-at-requires-3 c κs = search needs
 
 mul-p : tie.Need-mul-p Inv-loop μ-loop
 mul-p c = search needs
@@ -94,15 +76,15 @@ loop-less c = search needs
 
 loop-again : tie.Need-loop-again Inv-loop μ-loop
 loop-again c =
-    let goes : tie.After-index3 Inv-loop μ-loop = search needs in
+    let goes : tie.After-index-at3 Inv-loop μ-loop = search needs in
     let turn : tie.In-loop Inv-loop μ-loop = search needs in
     let i = turn .before .loop .inv in
     let x = c .before .counted .ensures in
     let y = c .counted2 .ensures in
     record {
       walk = further (i .walk) (turn .loop-test .taken);
-      there-is = one-summed (i .there-is) (i .walk .from) _ _ (goes .index3 .ensures) (x .0) (x .1);
-      here-is = one-summed (i .here-is) (i .walk .from) _ _ (goes .index3 .ensures) (y .0) (y .1);
+      there-is = one-summed (i .there-is) (i .walk .from) _ _ (goes .index-at3 .ensures) (x .0) (x .1);
+      here-is = one-summed (i .here-is) (i .walk .from) _ _ (goes .index-at3 .ensures) (y .0) (y .1);
     }
 
 cast-result : tie.Need-cast-result Inv-loop μ-loop
@@ -126,17 +108,11 @@ gain-of-spec =
     μ-loop
     mul-own
     shared-slice-read-own
-    add-index
-    mul-index
-    shared-slice-read-index
-    index-requires
-    mul-index-2
-    shared-slice-read-index-2
-    index-requires-2
+    add-index-at
+    index-at-requires
+    index-at-requires-2
     loop-holds
-    mul-index-3
-    shared-slice-read-index-3
-    index-requires-3
+    index-at-requires-3
     mul-p
     shared-slice-read-p
     mul-w

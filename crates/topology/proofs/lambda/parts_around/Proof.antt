@@ -16,26 +16,14 @@ Inv-loop starts neighbours labels u end e₀ met₀ count₀ e met count = Met (
 abbrev μ-loop : tie.MeasureT-loop
 μ-loop starts neighbours labels u end e₀ met₀ count₀ e met count = end - e
 
-add-index : tie.Need-add-index Inv-loop μ-loop
-add-index c = search needs
+add-index-at : tie.Need-add-index-at Inv-loop μ-loop
+add-index-at c = search needs
 
-mul-index : tie.Need-mul-index Inv-loop μ-loop
-mul-index c = search needs
+index-at-requires : tie.Need-index-at-requires Inv-loop μ-loop
+index-at-requires c κs = search needs
 
-shared-slice-read-index : tie.Need-shared-slice-read-index Inv-loop μ-loop
-shared-slice-read-index c = search needs
-
-index-requires : tie.Need-index-requires Inv-loop μ-loop
-index-requires c κs = search needs
-
-mul-index-2 : tie.Need-mul-index-2 Inv-loop μ-loop
-mul-index-2 c = search needs
-
-shared-slice-read-index-2 : tie.Need-shared-slice-read-index-2 Inv-loop μ-loop
-shared-slice-read-index-2 c = search needs
-
-index-requires-2 : tie.Need-index-requires-2 Inv-loop μ-loop
-index-requires-2 c κs = search needs
+index-at-requires-2 : tie.Need-index-at-requires-2 Inv-loop μ-loop
+index-at-requires-2 c κs = search needs
 
 mul-met : tie.Need-mul-met Inv-loop μ-loop
 mul-met c = search needs
@@ -57,14 +45,8 @@ loop-holds c =
     let given : tie.Start Inv-loop μ-loop = search needs in
     search (begins, given .pre .0 .row (given .args .u) (given .pre .2), shl-met c, needs)
 
-mul-index-3 : tie.Need-mul-index-3 Inv-loop μ-loop
-mul-index-3 c = search needs
-
-shared-slice-read-index-3 : tie.Need-shared-slice-read-index-3 Inv-loop μ-loop
-shared-slice-read-index-3 c = search needs
-
-index-requires-3 : tie.Need-index-requires-3 Inv-loop μ-loop
-index-requires-3 c κs = search needs
+index-at-requires-3 : tie.Need-index-at-requires-3 Inv-loop μ-loop
+index-at-requires-3 c κs = search needs
 
 mul-t : tie.Need-mul-t Inv-loop μ-loop
 mul-t c = search needs
@@ -76,8 +58,8 @@ shared-slice-read-t c = search needs
 shl-bit : tie.Need-shl-bit Inv-loop μ-loop
 shl-bit c =
     let given : tie.Start Inv-loop μ-loop = search needs in
-    let goes : tie.After-index3 Inv-loop μ-loop = search needs in
-    given .pre .1 (goes .index3 .result) (search needs)
+    let goes : tie.After-index-at3 Inv-loop μ-loop = search needs in
+    given .pre .1 (goes .index-at3 .result) (search needs)
 
 cast-bit : tie.Need-cast-bit Inv-loop μ-loop
 cast-bit c = omega (arith, shl-bit c)
@@ -101,11 +83,11 @@ loop-less c = search needs
 
 loop-again : tie.Need-loop-again Inv-loop μ-loop
 loop-again c =
-    let goes : tie.After-index3 Inv-loop μ-loop = search needs in
+    let goes : tie.After-index-at3 Inv-loop μ-loop = search needs in
     let turn : tie.In-loop Inv-loop μ-loop = search needs in
     let i = turn .before .loop .inv in
     let l = turn .loop-test .taken in
-    let v = goes .index3 .ensures in
+    let v = goes .index-at3 .ensures in
     let t = shl-bit (c .before) in
     ⊎-elim
     (λ w. rw (w .1) (turn-new _ _ _ _ _ _ _ _ i l _ _ v refl t (w .0 .taken)))
@@ -121,21 +103,15 @@ parts-around-spec =
     (tie.spec
     Inv-loop
     μ-loop
-    add-index
-    mul-index
-    shared-slice-read-index
-    index-requires
-    mul-index-2
-    shared-slice-read-index-2
-    index-requires-2
+    add-index-at
+    index-at-requires
+    index-at-requires-2
     mul-met
     shared-slice-read-met
     cast-met
     shl-met
     loop-holds
-    mul-index-3
-    shared-slice-read-index-3
-    index-requires-3
+    index-at-requires-3
     mul-t
     shared-slice-read-t
     cast-bit

@@ -25,33 +25,21 @@ graph s = inRows (s .args .starts .now) (s .args .neighbours .now) (s .args .arc
 loop-holds : tie.Need-loop-holds Inv-loop μ-loop
 loop-holds c = (search needs, all-none _)
 
-mul-index : tie.Need-mul-index Inv-loop μ-loop
-mul-index c = search needs
+index-at-requires : tie.Need-index-at-requires Inv-loop μ-loop
+index-at-requires c κs = search needs
 
-shared-slice-read-index : tie.Need-shared-slice-read-index Inv-loop μ-loop
-shared-slice-read-index c = search needs
+add-index-at : tie.Need-add-index-at Inv-loop μ-loop
+add-index-at c = search needs
 
-index-requires : tie.Need-index-requires Inv-loop μ-loop
-index-requires c κs = search needs
-
-add-index : tie.Need-add-index Inv-loop μ-loop
-add-index c = search needs
-
-mul-index-2 : tie.Need-mul-index-2 Inv-loop μ-loop
-mul-index-2 c = search needs
-
-shared-slice-read-index-2 : tie.Need-shared-slice-read-index-2 Inv-loop μ-loop
-shared-slice-read-index-2 c = search needs
-
-index-requires-2 : tie.Need-index-requires-2 Inv-loop μ-loop
-index-requires-2 c κs = search needs
+index-at-requires-2 : tie.Need-index-at-requires-2 Inv-loop μ-loop
+index-at-requires-2 c κs = search needs
 
 row-answered-requires : tie.Need-row-answered-requires Inv-loop μ-loop
 row-answered-requires c κs =
     let turn : tie.In-loop Inv-loop μ-loop = search needs in
     let given : tie.Start Inv-loop μ-loop = search needs in
-    let low : tie.After-index Inv-loop μ-loop = search needs in
-    answerable (given .pre .0) (given .pre .1) (turn .before .loop .u) _ _ (turn .loop-test .taken) (low .index .ensures) (c .index2 .ensures)
+    let low : tie.After-index-at Inv-loop μ-loop = search needs in
+    answerable (given .pre .0) (given .pre .1) (turn .before .loop .u) _ _ (turn .loop-test .taken) (low .index-at .ensures) (c .index-at2 .ensures)
 
 -- the call answers for the row itself
 learnt :
@@ -60,8 +48,8 @@ learnt :
     let given : tie.Start Inv-loop μ-loop = search needs in
     rowAnswered (graph given) (entered .loop .u) ≡ c .row-answered .result
 learnt c =
-    let after-index : tie.After-index Inv-loop μ-loop = search needs in
-    sym (rw (after-index .index .ensures, c .before .index2 .ensures) at (c .row-answered .ensures))
+    let after-index-at : tie.After-index-at Inv-loop μ-loop = search needs in
+    sym (rw (after-index-at .index-at .ensures, c .before .index-at2 .ensures) at (c .row-answered .ensures))
 
 returns : tie.Need-returns Inv-loop μ-loop
 unfolding answered
@@ -99,13 +87,9 @@ answered-all-spec =
     Inv-loop
     μ-loop
     loop-holds
-    mul-index
-    shared-slice-read-index
-    index-requires
-    add-index
-    mul-index-2
-    shared-slice-read-index-2
-    index-requires-2
+    index-at-requires
+    add-index-at
+    index-at-requires-2
     row-answered-requires
     returns
     add-u

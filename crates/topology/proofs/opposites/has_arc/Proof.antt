@@ -4,43 +4,25 @@ use Rattle.topology.proofs.Lookups.{not-reached, passed-over, settled}
 use Rattle.topology.proofs.opposites.has_arc.Statement.{statement}
 use Rattle.topology.proofs.opposites.has_arc.Tie as tie
 
-mul-index : tie.Need-mul-index
-mul-index c = search needs
+index-at-requires : tie.Need-index-at-requires
+index-at-requires c κs = search needs
 
-shared-slice-read-index : tie.Need-shared-slice-read-index
-shared-slice-read-index c = search needs
+add-index-at : tie.Need-add-index-at
+add-index-at c = search needs
 
-index-requires : tie.Need-index-requires
-index-requires c κs = search needs
-
-add-index : tie.Need-add-index
-add-index c = search needs
-
-mul-index-2 : tie.Need-mul-index-2
-mul-index-2 c = search needs
-
-shared-slice-read-index-2 : tie.Need-shared-slice-read-index-2
-shared-slice-read-index-2 c = search needs
-
-index-requires-2 : tie.Need-index-requires-2
-index-requires-2 c κs = search needs
+index-at-requires-2 : tie.Need-index-at-requires-2
+index-at-requires-2 c κs = search needs
 
 lowest-from-requires : tie.Need-lowest-from-requires
 lowest-from-requires c κs =
     let given : tie.Start = search needs in
-    rw (c .before .before .index .ensures, c .index2 .ensures) (given .pre .1)
+    rw (c .before .index-at .ensures, c .index-at2 .ensures) (given .pre .1)
 
 returns : tie.Need-returns
 returns c = search (not-reached, needs)
 
-mul-index-3 : tie.Need-mul-index-3
-mul-index-3 c = search needs
-
-shared-slice-read-index-3 : tie.Need-shared-slice-read-index-3
-shared-slice-read-index-3 c = search needs
-
-index-requires-3 : tie.Need-index-requires-3
-index-requires-3 c κs = search needs
+index-at-requires-3 : tie.Need-index-at-requires-3
+index-at-requires-3 c κs = search needs
 
 returns-2 : tie.Need-returns-2
 returns-2 c = search (passed-over, needs)
@@ -58,18 +40,12 @@ pub has-arc-spec : {M : Type 1} → statement M
 has-arc-spec =
     tie.close
     (tie.spec
-    mul-index
-    shared-slice-read-index
-    index-requires
-    add-index
-    mul-index-2
-    shared-slice-read-index-2
-    index-requires-2
+    index-at-requires
+    add-index-at
+    index-at-requires-2
     lowest-from-requires
     returns
-    mul-index-3
-    shared-slice-read-index-3
-    index-requires-3
+    index-at-requires-3
     returns-2
     mul-weight
     shared-slice-read-weight

@@ -29,14 +29,8 @@ loop-holds c =
     let given : tie.Start Inv-loop μ-loop = search needs in
     (enters (given .pre .row), from-none (given .args .lo) 0 _)
 
-mul-index : tie.Need-mul-index Inv-loop μ-loop
-mul-index c = search needs
-
-shared-slice-read-index : tie.Need-shared-slice-read-index Inv-loop μ-loop
-shared-slice-read-index c = search needs
-
-index-requires : tie.Need-index-requires Inv-loop μ-loop
-index-requires c κs = search needs
+index-at-requires : tie.Need-index-at-requires Inv-loop μ-loop
+index-at-requires c κs = search needs
 
 mul-has-arc : tie.Need-mul-has-arc Inv-loop μ-loop
 mul-has-arc c = search needs
@@ -47,7 +41,7 @@ shared-slice-read-has-arc c = search needs
 has-arc-requires : tie.Need-has-arc-requires Inv-loop μ-loop
 has-arc-requires c κs =
     let given : tie.Start Inv-loop μ-loop = search needs in
-    let started : c .before .index .result + 1 < length (given .args .starts .now) = search needs in
+    let started : c .before .index-at .result + 1 < length (given .args .starts .now) = search needs in
     (started, given .pre .rises _ started, given .pre .paired)
 
 -- the call answers for the arc itself
@@ -57,7 +51,7 @@ learnt :
     let given : tie.Start Inv-loop μ-loop = search needs in
     test (given .args .starts .now) (given .args .neighbours .now) (given .args .arc-weights .now) (given .args .u) (entered .loop .e)
     ≡ c .has-arc .result
-learnt c = sym (rw (c .before .before .index .ensures) at (c .has-arc .ensures))
+learnt c = sym (rw (c .before .before .index-at .ensures) at (c .has-arc .ensures))
 
 returns : tie.Need-returns Inv-loop μ-loop
 returns c =
@@ -96,9 +90,7 @@ row-answered-spec =
     Inv-loop
     μ-loop
     loop-holds
-    mul-index
-    shared-slice-read-index
-    index-requires
+    index-at-requires
     mul-has-arc
     shared-slice-read-has-arc
     has-arc-requires

@@ -28,36 +28,24 @@ row-here :
     let given : tie.Start Inv-loop μ-loop = search needs in
     c .row-ok .result ≡ rowOk (given .args .n) (inRows (given .args .starts .now) (given .args .neighbours .now) []) (entered .loop .u)
 row-here c =
-    let after-index : tie.After-index Inv-loop μ-loop = search needs in
+    let after-index-at : tie.After-index-at Inv-loop μ-loop = search needs in
     let entered : tie.At-loop Inv-loop μ-loop = search needs in
     let given : tie.Start Inv-loop μ-loop = search needs in
     let x = given .args in
-    row-read (x .n) (x .starts .now) (x .neighbours .now) [] (entered .loop .u) _ _ _ (after-index .index .ensures)
-    (c .before .index2 .ensures) (c .row-ok .ensures)
+    row-read (x .n) (x .starts .now) (x .neighbours .now) [] (entered .loop .u) _ _ _ (after-index-at .index-at .ensures)
+    (c .before .index-at2 .ensures) (c .row-ok .ensures)
 
 loop-holds : tie.Need-loop-holds Inv-loop μ-loop
 loop-holds c = (search needs, all-none _)
 
-mul-index : tie.Need-mul-index Inv-loop μ-loop
-mul-index c = search needs
+index-at-requires : tie.Need-index-at-requires Inv-loop μ-loop
+index-at-requires c κs = search needs
 
-shared-slice-read-index : tie.Need-shared-slice-read-index Inv-loop μ-loop
-shared-slice-read-index c = search needs
+add-index-at : tie.Need-add-index-at Inv-loop μ-loop
+add-index-at c = search needs
 
-index-requires : tie.Need-index-requires Inv-loop μ-loop
-index-requires c κs = search needs
-
-add-index : tie.Need-add-index Inv-loop μ-loop
-add-index c = search needs
-
-mul-index-2 : tie.Need-mul-index-2 Inv-loop μ-loop
-mul-index-2 c = search needs
-
-shared-slice-read-index-2 : tie.Need-shared-slice-read-index-2 Inv-loop μ-loop
-shared-slice-read-index-2 c = search needs
-
-index-requires-2 : tie.Need-index-requires-2 Inv-loop μ-loop
-index-requires-2 c κs = search needs
+index-at-requires-2 : tie.Need-index-at-requires-2 Inv-loop μ-loop
+index-at-requires-2 c κs = search needs
 
 row-ok-requires : tie.Need-row-ok-requires Inv-loop μ-loop
 row-ok-requires c κs =
@@ -66,7 +54,7 @@ row-ok-requires c κs =
     let x = given .args in
     let up = start-rises (x .n) (inRows (x .starts .now) (x .neighbours .now) []) (given .pre .1) (turn .before .loop .u) (turn .loop-test .taken) in
     let in-arcs = start-inside (x .n) (inRows (x .starts .now) (x .neighbours .now) []) (given .pre .1) (turn .before .loop .u) (turn .loop-test .taken) in
-    (omega (arith, c .before .before .index .ensures, c .index2 .ensures), omega (arith, c .index2 .ensures))
+    (omega (arith, c .before .index-at .ensures, c .index-at2 .ensures), omega (arith, c .index-at2 .ensures))
 
 returns : tie.Need-returns Inv-loop μ-loop
 returns c =
@@ -106,13 +94,9 @@ all-rows-ok-spec =
     Inv-loop
     μ-loop
     loop-holds
-    mul-index
-    shared-slice-read-index
-    index-requires
-    add-index
-    mul-index-2
-    shared-slice-read-index-2
-    index-requires-2
+    index-at-requires
+    add-index-at
+    index-at-requires-2
     row-ok-requires
     returns
     add-u

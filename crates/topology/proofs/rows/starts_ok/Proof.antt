@@ -26,20 +26,14 @@ returns : tie.Need-returns Inv-loop μ-loop
 unfolding startsOk
 returns c = rw (ne-eqb _ 0 (c .if1 .taken))
 
-mul-index : tie.Need-mul-index Inv-loop μ-loop
-mul-index c = search needs
-
-shared-slice-read-index : tie.Need-shared-slice-read-index Inv-loop μ-loop
-shared-slice-read-index c = search needs
-
-index-requires : tie.Need-index-requires Inv-loop μ-loop
-index-requires c κs = search needs
+index-at-requires : tie.Need-index-at-requires Inv-loop μ-loop
+index-at-requires c κs = search needs
 
 returns-2 : tie.Need-returns-2 Inv-loop μ-loop
 unfolding startsOk
 returns-2 c =
     let else1 : tie.Else1 Inv-loop μ-loop = search needs in
-    rw (eq-eqb _ 0 (else1 .if1 .left), ← c .before .index .ensures, ne-eqb _ _ (c .if2 .taken))
+    rw (eq-eqb _ 0 (else1 .if1 .left), ← c .before .index-at .ensures, ne-eqb _ _ (c .if2 .taken))
 
 loop-holds : tie.Need-loop-holds Inv-loop μ-loop
 loop-holds c = (search needs, all-none _)
@@ -63,11 +57,11 @@ returns-3 : tie.Need-returns-3 Inv-loop μ-loop
 unfolding startsOk
 returns-3 c =
     let turn : tie.In-loop Inv-loop μ-loop = search needs in
-    let after-index : tie.After-index Inv-loop μ-loop = search needs in
+    let after-index-at : tie.After-index-at Inv-loop μ-loop = search needs in
     let else1 : tie.Else1 Inv-loop μ-loop = search needs in
     let given : tie.Start Inv-loop μ-loop = search needs in
     let x = given .args in
-    rw (eq-eqb _ 0 (else1 .if1 .left), ← after-index .index .ensures, eq-eqb _ _ (turn .before .before .if2 .left))
+    rw (eq-eqb _ 0 (else1 .if1 .left), ← after-index-at .index-at .ensures, eq-eqb _ _ (turn .before .before .if2 .left))
     (sym (all-fails (x .n) (turn .before .loop .u) (fallsNot (inRows (x .starts .now) (x .neighbours .now) [])) (turn .loop-test .taken)
     (lt-leb _ _ (c .if3 .taken))))
 
@@ -94,7 +88,7 @@ returns-4 c =
     let given : tie.Start Inv-loop μ-loop = search needs in
     let l = c .before in
     let e : l .loop .u ≡ given .args .n = omega arith in
-    rw (eq-eqb _ 0 (else1 .if1 .left), ← l .before .before .index .ensures, eq-eqb _ _ (l .before .if2 .left)) (sym (rw e at (l .loop .inv .1)))
+    rw (eq-eqb _ 0 (else1 .if1 .left), ← l .before .before .index-at .ensures, eq-eqb _ _ (l .before .if2 .left)) (sym (rw e at (l .loop .inv .1)))
 
 pub starts-ok-spec : {M : Type 1} → statement M
 starts-ok-spec =
@@ -104,9 +98,7 @@ starts-ok-spec =
     μ-loop
     shared-slice-read-if1
     returns
-    mul-index
-    shared-slice-read-index
-    index-requires
+    index-at-requires
     returns-2
     loop-holds
     mul-if3
