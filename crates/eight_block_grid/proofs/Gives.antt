@@ -29,6 +29,7 @@ use Rattle.topology.specs.EightBlockGrid.{grid, ones, A}
 use Rattle.fiduccia_mattheyses.specs.Run.{run}
 use Rattle.fiduccia_mattheyses.specs.Entry as FM
 use Rattle.fiduccia_mattheyses.specs.declared.Report as FMReport
+use Rattle.fiduccia_mattheyses.specs.declared.Settings as FMSettings
 use Rattle.fiduccia_mattheyses_records.specs.Own.{Lists, RefinedWith}
 use Rattle.kernighan_lin.specs.Entry as KL
 use Rattle.kernighan_lin.specs.declared.Report as KLReport
@@ -99,25 +100,18 @@ unfolding rounds
 rounded r x y z b e p q s t =
     t ∙ ap (λ (ns : List ℕ). same ns (4 ∷ 122 ∷ 5 ∷ [])) ((λ i. p i ∷ q i ∷ s i ∷ []) ∙ ap ceilingsSeen e)
 
--- FM's plan with the imbalance e
-abbrev fmPlanBy : ℕ → ℕ → Float → FM.Given
-fmPlanBy choice bad e =
-    record {
-      starts = grid .starts;
-      neighbours = grid .neighbours;
-      arcs = grid .weights;
-      weights = ones;
-      settings = record { passes = 64; moves = 8; bad = bad; choice = choice; whole = 0; imbalance = e };
-    }
+-- FM's plan with these settings
+abbrev fmPlanBy : FMSettings.Settings → FM.Given
+fmPlanBy z = record { starts = grid .starts; neighbours = grid .neighbours; arcs = grid .weights; weights = ones; settings = z }
 
-pub fm-gives : (choice bad : ℕ) (labels numbers : List ℕ) (e : Float) (r : FMReport.Report) (k : Lists) (m₀ r₀ m₁ r₁ : ℕ) (x y b : Bool) →
-    e ≡ quarter → RefinedWith 8 (fmPlanBy choice bad e) fmLists r k →
+pub fm-gives : (choice bad : ℕ) (labels numbers : List ℕ) (z : FMSettings.Settings) (r : FMReport.Report) (k : Lists) (m₀ r₀ m₁ r₁ : ℕ) (x y b : Bool) →
+    z ≡ fmPlan choice bad .settings → RefinedWith 8 (fmPlanBy z) fmLists r k →
     m₀ ≡ getD (k .made) 0 0 → r₀ ≡ getD (k .rewound) 0 0 → m₁ ≡ getD (k .made) 1 0 → r₁ ≡ getD (k .rewound) 1 0 →
     x ≡ same (k .labels) labels → y ≡ same (r .number ∷ r .end ∷ r .passes ∷ r .first ∷ r .last ∷ getD (r .loads .at) 0 0 ∷ getD (r .loads .at) 1 0 ∷ m₀ ∷ r₀ ∷ m₁ ∷ r₁ ∷ []) numbers →
     b ≡ (x && y) → b ≡ fmGives choice bad labels numbers
 unfolding fmGives
-fm-gives choice bad labels numbers e r k m₀ r₀ m₁ r₁ x y b q h a₀ b₀ a₁ b₁ s t j =
-    let g : RefinedWith 8 (fmPlan choice bad) fmLists r k = subst (λ (z : Float). RefinedWith 8 (fmPlanBy choice bad z) fmLists r k) q h in
+fm-gives choice bad labels numbers z r k m₀ r₀ m₁ r₁ x y b q h a₀ b₀ a₁ b₁ s t j =
+    let g : RefinedWith 8 (fmPlan choice bad) fmLists r k = subst (λ (w : FMSettings.Settings). RefinedWith 8 (fmPlanBy w) fmLists r k) q h in
     j
     ∙ ap₂ _&&_
     (s ∙ ap (λ (ls : List ℕ). same ls labels) (g .labels))

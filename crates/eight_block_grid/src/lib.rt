@@ -4,6 +4,7 @@ mod same; // same.rt: whether labels, numbers and gains are the same
 ghost use mathlib.Core.Path.{_≡_};
 ghost use Rattle.topology.specs.EightBlockGrid.{grid, ones};
 ghost use Rattle.topology.specs.Number.{edgeCutNumber, lambdaCutNumber};
+ghost use Rattle.eight_block_grid.specs.Inputs.{fmPlan};
 ghost use Rattle.eight_block_grid.specs.SelfTest.{cutsGive, loadsGive, fmGives, klGives, swapGives, row1, row2, row3, row4, row5, row6, row7, row8, row9, row10, rounds, Tested};
 use imbalance::Ceiling;
 use same::both;
@@ -100,6 +101,20 @@ fn loads_give(numbers: &[u64]) -> bool
     same_numbers(&seen, numbers)
 }
 
+// FM's settings, by the ceiling's choice and the bad limit.
+fn fm_settings(choice: u32, bad: u32) -> fiduccia_mattheyses::Settings
+    ensures { λ r. ⌜ r ≡ fmPlan choice bad .settings ⌝ }
+{
+    fiduccia_mattheyses::Settings {
+        passes: 64,
+        moves: 8,
+        bad,
+        choice,
+        whole: 0,
+        imbalance: 0.25,
+    }
+}
+
 // Whether FM on A, by the ceiling's choice and the bad limit, leaves these labels with these numbers.
 fn fm_gives(choice: u32, bad: u32, labels: &[u32], numbers: &[u64]) -> bool
     ensures { λ r. ⌜ r ≡ fmGives choice bad (now (labels .entry)) (now (numbers .entry)) ⌝ }
@@ -108,14 +123,7 @@ fn fm_gives(choice: u32, bad: u32, labels: &[u32], numbers: &[u64]) -> bool
     let mut gains: [i64; 8] = [0; 8];
     let mut made: [u32; 64] = [0; 64];
     let mut rewound: [u32; 64] = [0; 64];
-    let s = fiduccia_mattheyses::Settings {
-        passes: 64,
-        moves: 8,
-        bad,
-        choice,
-        whole: 0,
-        imbalance: 0.25,
-    };
+    let s = fm_settings(choice, bad);
     let r = fiduccia_mattheyses_records::with_8_moves(
         &STARTS,
         &NEIGHBOURS,

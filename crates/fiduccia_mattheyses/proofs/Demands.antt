@@ -57,7 +57,7 @@ module _ (p : Given) (l : Lent) (r : Report) (k : Lent) (f : Refined p l r k) (z
       go : Done p l r k → NoSingleBlock (termsOf p l) (runOf p l .labels)
       go (no-vertices n e q) = absurd (omega (arith, ap (λ (x : Report). x .end) e, one))
       go (ran n a d) =
-          no-single-block (termsOf p l) (p .settings .passes) (l .labels) (a .sound .symmetric) moves
+          no-single-block (termsOf p l) (p .settings .passes) (l .labels) (a .beginnable .sound .symmetric) moves
           (sym (ap (λ (x : Report). x .end) (d .answered)) ∙ one)
 
   -- Demand 3 holds of every result with number 0.

@@ -1,5 +1,5 @@
--- The call, from its number to its promise: what number 0 tells, what the run asks and leaves, and the three ways out. Assumes nothing.
-use mathlib.Core.Path.{_≡_, refl, sym, ap, _∙_}
+-- The call, from what it comes to to its promise: what number 0 tells, where the run begins, what it asks and leaves, and the ways out. Assumes nothing.
+use mathlib.Core.Path.{_≡_, refl, sym, ap, ap₂, _∙_}
 use mathlib.Core.Bool.{Bool, true, false, cond, _||_}
 use mathlib.Core.List.{List, [], _∷_, _++_, map}
 use Prim.Native.Nat.{ℕ, zero, suc, _+_, _-_, _≤_, _<_}
@@ -8,7 +8,7 @@ use lib.Dec.{ltb, eqb}
 use lib.ListN.{length, getD, take, drop, length-append, length-drop, List·getD-eq-default}
 use lib.Seq.{ext-getD, getD-drop, drop-at}
 use lib.IntN.{ℤ, pos}
-use borrow.Author.Tests.{eq-eqb, ne-eqb, ltb-true, ltb-false, le-ltb}
+use borrow.Author.Tests.{eq-eqb, ne-eqb, eqb-true, eqb-false, ltb-true, ltb-false, le-ltb}
 use Rattle.lists.specs.Sum.{total}
 use Rattle.lists.specs.Fill.{filled, table, over}
 use Rattle.lists.proofs.Bools.{or-false}
@@ -16,7 +16,7 @@ use Rattle.lists.proofs.Numbers.{or-else-zero, not-given}
 use Rattle.lists.proofs.Alls.{any-nowhere}
 use Rattle.lists.proofs.Fills.{length-written, written-below, written-past}
 use Rattle.lists.proofs.Tables.{length-table}
-use Rattle.imbalance.specs.Limit.{labelAbove}
+use Rattle.imbalance.specs.Limit.{mostPasses, labelAbove}
 use Rattle.imbalance.specs.Load.{part, load, loadsOf, Loadable}
 use Rattle.imbalance.specs.Ceiling.{unfitChoice, ceilings}
 use Rattle.imbalance.specs.declared.Ceiling.{Ceiling}
@@ -30,20 +30,26 @@ use Rattle.fiduccia_mattheyses_pass.specs.Pass.{Pass}
 use Rattle.fiduccia_mattheyses_pass.specs.inner.Standing.{Fixed}
 use Rattle.fiduccia_mattheyses_pass.specs.declared.Move.{Move}
 use Rattle.fiduccia_mattheyses.specs.declared.Report.{Report}
+use Rattle.fiduccia_mattheyses.specs.declared.Begun.{Begun}
+use Rattle.fiduccia_mattheyses.specs.declared.Call.the-variants.{Answered, Runs}
 use Rattle.fiduccia_mattheyses.specs.declared.Ended.{Ended}
 use Rattle.fiduccia_mattheyses.specs.Run.{Run, run}
 use Rattle.topology.specs.Given.{graphOf}
 use Rattle.fiduccia_mattheyses_pass.specs.Pass.{noMove}
-use Rattle.fiduccia_mattheyses.specs.Entry.{Given, Lent, askedCeiling, unfit, short, lengthsOf, numberOf, number, termsOf, runOf, refused, empty, reportOf, leftBy, answer, left, Refined}
+use Rattle.fiduccia_mattheyses.specs.Entry.{Given, Lent, askedCeiling, unfit, short, lengthsOf, numberOf, number, termsOf, runOf, bare, refused, empty, reportOf, leftBy, answer, left, Refined}
 use Rattle.fiduccia_mattheyses_pass.specs.inner.Steps.{termsBy}
-use Rattle.fiduccia_mattheyses.specs.inner.Steps.{PassesAsked, PassesDone, Ready, Ran}
+use Rattle.fiduccia_mattheyses.specs.inner.Steps.{callOf, Beginnable, Begins, PassesAsked, PassesDone, Ready, Ran}
 
--- ---- a call's number k is that of its checks m, unless there is no vertex
-pub checked : (n k m : ℕ) → k ≡ cond (eqb n 0) 0 m → (n ≡ 0 → ⊥) → k ≡ m
-checked n k m e s = e ∙ rw (ne-eqb n 0 s) refl
-
-refused-some : (n k m : ℕ) → k ≡ cond (eqb n 0) 0 m → (k ≡ 0 → ⊥) → n ≡ 0 → ⊥
-refused-some n k m e u z = u (e ∙ rw (eq-eqb n 0 z) refl)
+-- ---- what the call comes to: it runs with a vertex and no number, and else is answered
+module _ (n k : ℕ) where
+  pub runs : callOf n k ≡ Runs → (n ≡ 0 → ⊥) × (k ≡ 0)
+  unfolding callOf
+  runs e = go (eqb n 0) refl (eqb k 0) refl e
+    where
+      go : (s : Bool) → eqb n 0 ≡ s → (t : Bool) → eqb k 0 ≡ t → cond s (Answered 0 3) (cond t Runs (Answered k 0)) ≡ Runs → (n ≡ 0 → ⊥) × (k ≡ 0)
+      go true u t v q = let o : _≡_ {A = ℕ} 0 1 = cc in absurd (omega arith)
+      go false u true v q = (eqb-false n 0 u, eqb-true k 0 v)
+      go false u false v q = let o : _≡_ {A = ℕ} 0 1 = cc in absurd (omega arith)
 
 -- ---- what number 0 tells
 pub ready : (p : Given) (l : Lent) (k : ℕ) → (length (l .labels) ≡ 0 → ⊥) → k ≡ number p l → k ≡ 0 → Ready p l
@@ -56,16 +62,14 @@ ready p l k s e z =
     let six = not-given (labelAbove 1 (l .labels)) 5 (cond (unfit (p .settings)) 7 (cond (short n q r) 8 0)) (both .1) in
     let seven = not-given (unfit (p .settings)) 6 (cond (short n q r) 8 0) (six .1) in
     let eight = not-given (short n q r) 7 0 (seven .1) in
-    let u = or-false (ltb 1024 q) (unfitChoice (askedCeiling (p .settings))) (seven .0) in
+    let u = or-false (ltb mostPasses q) (unfitChoice (askedCeiling (p .settings))) (seven .0) in
     let s0 = or-false (ltb (r .gains) n) (ltb (r .moves) n || (ltb (r .made) q || ltb (r .rewound) q)) (eight .0) in
     let s1 = or-false (ltb (r .moves) n) (ltb (r .made) q || ltb (r .rewound) q) (s0 .1) in
     let s2 = or-false (ltb (r .made) q) (ltb (r .rewound) q) (s1 .1) in
     record {
       a-vertex = omega arith;
-      sound = sound n (p .weights) (graphOf p) (both .0);
-      labelled = six .0;
-      few-passes = ltb-false 1024 q (u .0);
-      fit = u .1;
+      beginnable = record { sound = sound n (p .weights) (graphOf p) (both .0); labelled = six .0; fit = u .1 };
+      few-passes = ltb-false mostPasses q (u .0);
       in-gains = ltb-false (r .gains) n (s0 .0);
       in-moves = ltb-false (r .moves) n (s1 .0);
       in-made = ltb-false (r .made) q (s2 .0);
@@ -85,61 +89,65 @@ module _ {A : Type 0} (n : ℕ) (xs ys : List A) (e : length ys ≡ length (take
   pub joined-past : drop n (ys ++ drop n xs) ≡ drop n xs
   joined-past = let t = take-long n xs h in drop-at ys (drop n xs) n (e ∙ t)
 
--- ---- the run
-module _ (p : Given) (l : Lent) (a : Ready p l) where
-  abbrev n : ℕ
-  n = length (l .labels)
-
+-- ---- where the run begins
+module _ (p : Given) (labels : List ℕ) (a : Beginnable p labels) where
   -- labels 0 or 1, also past the list's end
-  two-labels : (x : ℕ) → part (l .labels) x < 2
-  two-labels x = go (ltb x n) refl
+  two-labels : (x : ℕ) → part labels x < 2
+  two-labels x = go (ltb x (length labels)) refl
     where
-      go : (t : Bool) → ltb x n ≡ t → part (l .labels) x < 2
-      go true t = let h = label-most 1 (l .labels) (a .labelled) x (ltb-true x n t) in omega arith
-      go false t = rw (List·getD-eq-default (l .labels) 0 {n = x} (ltb-false x n t)) (omega arith)
+      go : (t : Bool) → ltb x (length labels) ≡ t → part labels x < 2
+      go true t = let h = label-most 1 labels (a .labelled) x (ltb-true x (length labels) t) in omega arith
+      go false t = rw (List·getD-eq-default labels 0 {n = x} (ltb-false x (length labels) t)) (omega arith)
 
-  pub loadable : Loadable (p .weights) (l .labels)
+  pub loadable : Loadable (p .weights) labels
   unfolding labelAbove
   loadable = record {
     paired = a .sound .weighed;
     few = a .sound .rows .few;
     light = a .sound .light;
-    named = any-nowhere n (λ v. ltb 15 (getD (l .labels) v 0)) (λ v k. (let h = two-labels v in le-ltb 15 (getD (l .labels) v 0) (omega arith)));
+    named = any-nowhere (length labels) (λ v. ltb 15 (getD labels v 0)) (λ v k. (let h = two-labels v in le-ltb 15 (getD labels v 0) (omega arith)));
   }
 
-  module _ (loads : Loads) (total′ cut′ bad limit : ℕ) (asked : Ceiling) (ceil : List ℕ) (el : loads ≡ loadsOf (p .weights) (l .labels)) (et : total′ ≡ total (p .weights)) (ea : asked ≡ askedCeiling (p .settings)) (ec : ceil ≡ ceilings (loads .at) total′ 2 asked) (eu : cut′ ≡ cut (graphOf p) (l .labels)) (eb : bad ≡ p .settings .bad) (em : limit ≡ p .settings .moves) where
-    abbrev s : Terms
-    s = termsBy (p .starts) (p .neighbours) (p .arcs) (p .weights) (record { ceilings = record { at = ceil }; bad = bad; moves = limit })
+  pub begins : (loads : Loads) (total′ : ℕ) (asked : Ceiling) → loads ≡ loadsOf (p .weights) labels → total′ ≡ total (p .weights) → asked ≡ askedCeiling (p .settings) → (b : Begun) → b .limits .ceilings .at ≡ ceilings (loads .at) total′ 2 asked → b .limits .bad ≡ p .settings .bad → b .limits .moves ≡ p .settings .moves → b .loads ≡ loads → b .cut ≡ cut (graphOf p) labels → Begins p labels b
+  begins loads total′ asked el et ea b ec eb em eo eu = record { capped = ec ∙ rw (el, et, ea); bad-is = eb; moves-are = em; loaded = eo ∙ el; cut-is = eu }
 
-    ceil-is : ceil ≡ ceilings (table 16 (load (p .weights) (l .labels))) (total (p .weights)) 2 (askedCeiling (p .settings))
-    ceil-is = ec ∙ rw (el, et, ea)
+-- ---- the run
+module _ (p : Given) (l : Lent) (a : Ready p l) where
+  abbrev n : ℕ
+  n = length (l .labels)
+
+  module _ (b : Begun) (g : Begins p (l .labels) b) where
+    abbrev s : Terms
+    s = termsBy (p .starts) (p .neighbours) (p .arcs) (p .weights) (b .limits)
 
     -- the terms that the code works with are the definition's
     same-terms : s ≡ termsOf p l
-    same-terms = λ i. record { graph = graphOf p; weights = p .weights; ceilings = ceil-is i; movable = λ v. true; badLimit = eb i; moveLimit = em i }
+    same-terms = λ i. record { graph = graphOf p; weights = p .weights; ceilings = g .capped i; movable = λ v. true; badLimit = g .bad-is i; moveLimit = g .moves-are i }
 
     fixed : Fixed s n
     unfolding ceilings
-    fixed = record {
-      rows = a .sound .rows;
-      symmetric = a .sound .symmetric;
-      weighed = a .sound .weighed;
-      light = a .sound .light;
-      lightArcs = a .sound .lightArcs;
-      capped = ap length ceil-is ∙ length-table 16 _;
-      all-movable = λ v. refl;
-    }
+    fixed =
+        let r = a .beginnable .sound in
+        record {
+          rows = r .rows;
+          symmetric = r .symmetric;
+          weighed = r .weighed;
+          light = r .light;
+          lightArcs = r .lightArcs;
+          capped = ap length (g .capped) ∙ length-table 16 _;
+          all-movable = λ v. refl;
+        }
 
     -- what the passes ask: the gains' first n places are lent on
-    pub passes-asked : (gains : List ℤ) → length gains ≡ n → PassesAsked s (p .settings .passes) (l .labels) gains (l .moves) (l .made) (l .rewound) (loads .at) cut′
+    pub passes-asked : (gains : List ℤ) → length gains ≡ n → PassesAsked s (p .settings .passes) (l .labels) gains (l .moves) (l .made) (l .rewound) (b .loads .at) (b .cut)
     passes-asked gains eg = record {
       begun = record {
         fixed = fixed;
-        two-labels = two-labels;
+        two-labels = two-labels p (l .labels) (a .beginnable);
         gained = eg;
         places = a .in-moves;
-        loaded = ap (λ (x : Loads). x .at) el;
-        cut-is = eu;
+        loaded = ap (λ (x : Loads). x .at) (g .loaded);
+        cut-is = g .cut-is;
       };
       in-made = a .in-made;
       in-rewound = a .in-rewound;
@@ -176,7 +184,7 @@ module _ (p : Given) (l : Lent) (a : Ready p l) where
         → (moves″ : List Move)
         → moves″ ≡ filled noMove n moves′
         → (q : Report)
-        → q ≡ record { number = 0; end = r .end; passes = r .passes; first = cut′; last = r .cut; loads = r .loads }
+        → q ≡ record { number = 0; end = r .end; passes = r .passes; first = b .cut; last = r .cut; loads = r .loads }
         → Ran p l q (record { labels = labels′; gains = gains″; moves = moves″; made = made′; rewound = rewound′ })
     unfolding leftBy reportOf
     ran labels′ moves′ made′ rewound′ r d gains′ gains″ gl gd eg moves″ em′ q eq =
@@ -190,7 +198,7 @@ module _ (p : Given) (l : Lent) (a : Ready p l) where
                 number = 0;
                 end = (d .end-is ∙ ap (λ (x : Run). x .end) rr) i;
                 passes = (d .passes-are ∙ ap (λ (x : Run). length (x .rows)) rr) i;
-                first = eu i;
+                first = g .cut-is i;
                 last = (d .cut-is ∙ ap (cut (graphOf p)) ll) i;
                 loads = record { at = (d .loaded ∙ ap (λ (x : List ℕ). table 16 (load (p .weights) x)) ll) i };
               });
@@ -201,7 +209,7 @@ module _ (p : Given) (l : Lent) (a : Ready p l) where
           rewound = d .rewound-are ∙ ap (λ (x : Run). over (map (λ (y : Pass). y .rewound) (x .rows)) (l .rewound)) rr;
         }
 
--- ---- the call's three ways out
+-- ---- the call's ways out: answered at once, or run
 refined : (p : Given) (l : Lent) (r : Report) (k : Lent) → r ≡ answer p l → k .labels ≡ left p l .labels → k .gains ≡ left p l .gains → k .moves ≡ left p l .moves → k .made ≡ left p l .made → k .rewound ≡ left p l .rewound → Refined p l r k
 refined p l r k a b c d e f = record { answered = a; labels = b; gains = c; moves = d; made = e; rewound = f }
 
@@ -209,19 +217,36 @@ pub at-empty : (p : Given) (l : Lent) (r : Report) → length (l .labels) ≡ 0 
 unfolding answer left
 at-empty p l r z e = let t = eq-eqb (length (l .labels)) 0 z in refined p l r l (rw t e) (rw t refl) (rw t refl) (rw t refl) (rw t refl) (rw t refl)
 
-pub at-refusal : (p : Given) (l : Lent) (r : Report) (k : ℕ) → k ≡ cond (eqb (length (l .labels)) 0) 0 (number p l) → (k ≡ 0 → ⊥) → r ≡ refused k → Refined p l r l
+at-refusal : (p : Given) (l : Lent) (r : Report) → (length (l .labels) ≡ 0 → ⊥) → (number p l ≡ 0 → ⊥) → r ≡ refused (number p l) → Refined p l r l
 unfolding answer left
-at-refusal p l r k c u e =
-    let z = refused-some (length (l .labels)) k (number p l) c u in
-    let n = checked (length (l .labels)) k (number p l) c z in
+at-refusal p l r z u e =
     let t = ne-eqb (length (l .labels)) 0 z in
-    let v = ne-eqb (number p l) 0 (λ q. u (n ∙ q)) in
-    refined p l r l (rw (t, v) (e ∙ ap refused n)) (rw (t, v) refl) (rw (t, v) refl) (rw (t, v) refl) (rw (t, v) refl) (rw (t, v) refl)
+    let v = ne-eqb (number p l) 0 u in
+    refined p l r l (rw (t, v) e) (rw (t, v) refl) (rw (t, v) refl) (rw (t, v) refl) (rw (t, v) refl) (rw (t, v) refl)
 
-pub at-run : (p : Given) (l : Lent) (r : Report) (k : Lent) (m : ℕ) → (length (l .labels) ≡ 0 → ⊥) → m ≡ cond (eqb (length (l .labels)) 0) 0 (number p l) → m ≡ 0 → Ran p l r k → Refined p l r k
+pub at-answer : (p : Given) (l : Lent) (r : Report) (k e : ℕ) → callOf (length (l .labels)) (number p l) ≡ Answered k e → r ≡ bare k e → Refined p l r l
+unfolding callOf
+at-answer p l r k e c q = go (eqb n 0) refl (eqb m 0) refl c
+  where
+    n : ℕ
+    n = length (l .labels)
+
+    m : ℕ
+    m = number p l
+
+    go : (s : Bool) → eqb n 0 ≡ s → (t : Bool) → eqb m 0 ≡ t → cond s (Answered 0 3) (cond t Runs (Answered m 0)) ≡ Answered k e → Refined p l r l
+    go true u t v d = let a : 0 ≡ k = cc in let b : 3 ≡ e = cc in at-empty p l r (eqb-true n 0 u) (q ∙ ap₂ bare (sym a) (sym b))
+    go false u true v d = let o : _≡_ {A = ℕ} 0 1 = cc in absurd (omega arith)
+    go false u false v d = let a : m ≡ k = cc in let b : 0 ≡ e = cc in at-refusal p l r (eqb-false n 0 u) (eqb-false m 0 v) (q ∙ ap₂ bare (sym a) (sym b))
+
+pub at-run : (p : Given) (l : Lent) (r : Report) (k : Lent) → callOf (length (l .labels)) (number p l) ≡ Runs → Ran p l r k → Refined p l r k
 unfolding answer left
-at-run p l r k m z c n g =
-    let e = checked (length (l .labels)) m (number p l) c z in
-    let t = ne-eqb (length (l .labels)) 0 z in
-    let v = eq-eqb (number p l) 0 (sym e ∙ n) in
+at-run p l r k c g =
+    let w = runs (length (l .labels)) (number p l) c in
+    let t = ne-eqb (length (l .labels)) 0 (w .0) in
+    let v = eq-eqb (number p l) 0 (w .1) in
     refined p l r k (rw (t, v) (g .answered)) (rw (t, v) (g .labels)) (rw (t, v) (g .gains)) (rw (t, v) (g .moves)) (rw (t, v) (g .made)) (rw (t, v) (g .rewound))
+
+-- what the run asks holds of a call that runs
+pub ready-to-run : (p : Given) (l : Lent) → callOf (length (l .labels)) (number p l) ≡ Runs → Ready p l
+ready-to-run p l c = let w = runs (length (l .labels)) (number p l) c in ready p l (number p l) (w .0) refl (w .1)

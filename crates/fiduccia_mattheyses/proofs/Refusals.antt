@@ -10,7 +10,7 @@ use lib.Dec.{ltb, eqb}
 use borrow.Author.Tests.{ne-eqb, eqb-true}
 use Rattle.lists.specs.Smallest.{Smallest}
 use Rattle.lists.proofs.Smallests.{at-most, either-fails, passed, tested, thence, with-more, smallest}
-use Rattle.imbalance.specs.Limit.{labelAbove}
+use Rattle.imbalance.specs.Limit.{mostPasses, labelAbove}
 use Rattle.imbalance.specs.Ceiling.{unfitChoice}
 use Rattle.imbalance.specs.Rules.{NoneAbove}
 use Rattle.imbalance.proofs.Refusals.{labelled, fit-choice}
@@ -28,7 +28,7 @@ use Rattle.fiduccia_mattheyses.proofs.Unique.{unique}
 fit-settings : (s : Settings) → (unfit s ≡ false) ↔ FitSettings s
 unfolding unfit
 fit-settings s =
-    let b = either-fails (ltb 1024 (s .passes)) (unfitChoice (askedCeiling s)) (at-most 1024 (s .passes)) (fit-choice (askedCeiling s)) in
+    let b = either-fails (ltb mostPasses (s .passes)) (unfitChoice (askedCeiling s)) (at-most mostPasses (s .passes)) (fit-choice (askedCeiling s)) in
     ((λ h. let k = b .0 h in record { fewPasses = k .0; fitChoice = k .1 }), λ k. b .1 (k .fewPasses, k .fitChoice))
 
 long-enough : (passes : ℕ) (l : Lent) → (short (length (l .labels)) passes (lengthsOf l) ≡ false) ↔ LongEnough passes l

@@ -18,9 +18,8 @@ use Rattle.fiduccia_mattheyses_pass.specs.declared.Move.{Move}
 use Rattle.fiduccia_mattheyses_pass.specs.declared.Passed.{Passed}
 use Rattle.fiduccia_mattheyses.specs.declared.Ended.{Ended}
 use Rattle.fiduccia_mattheyses.specs.Run.{Run, run}
-use Rattle.fiduccia_mattheyses.specs.declared.Course.the-variants.{Ends, GoesOn}
 use Rattle.fiduccia_mattheyses_pass.specs.inner.Steps.{PassAsked, PassDone}
-use Rattle.fiduccia_mattheyses.specs.inner.Steps.{RowAsked, RowDone, courseOf, PassesAsked, PassesDone}
+use Rattle.fiduccia_mattheyses.specs.inner.Steps.{RowAsked, RowDone, endBy, PassesAsked, PassesDone}
 
 -- the rows so far, before those of the rest of the run
 abbrev after-rows : List Pass → Run → Run
@@ -227,29 +226,22 @@ module _ (s : Terms) (limit : ℕ) (p : List ℕ) (gains₀ : List ℤ) (moves�
                 ∙ ap (λ (z : List ℕ). after-rows rows′ (run s (limit - (passes + 1)) z)) (sym (d .labelled));
           }
 
-  -- how the run stands after one pass more
-  module _ (labels : List ℕ) (gains : List ℤ) (moves : List Move) (made rewound : List ℕ) (loads : Loads) (cut₁ passes : ℕ) (g : Running s limit p moves₀ made₀ rewound₀ labels gains moves made rewound loads cut₁ passes) (lt : passes < limit) (labels′ : List ℕ) (gains′ : List ℤ) (moves′ : List Move) (r : Passed) (d : PassDone s labels moves labels′ moves′ r) (gl : length gains′ ≡ length gains) (made′ rewound′ : List ℕ) (next : ℕ) (w : RowDone made rewound passes (r .made) (r .kept) made′ rewound′ next) where
-    on : r .cut < cut₁ → Running s limit p moves₀ made₀ rewound₀ labels′ gains′ moves′ made′ rewound′ (r .loads) (r .cut) next
-    on h = rw (w .passes-are) (running-on labels gains moves made rewound loads cut₁ passes g lt labels′ gains′ moves′ r d gl made′ rewound′ next w h)
-
+  -- where the run stands after one pass more
+  module _ (labels : List ℕ) (gains : List ℤ) (moves : List Move) (made rewound : List ℕ) (loads : Loads) (cut₁ passes : ℕ) (g : Running s limit p moves₀ made₀ rewound₀ labels gains moves made rewound loads cut₁ passes) (lt : passes < limit) (labels′ : List ℕ) (gains′ : List ℤ) (moves′ : List Move) (r : Passed) (d : PassDone s labels moves labels′ moves′ r) (gl : length gains′ ≡ length gains) (made′ rewound′ : List ℕ) (next : ℕ) (w : RowDone made rewound passes (r .made) (r .kept) made′ rewound′ next) (q : Ended) (e : q ≡ record { end = endBy cut₁ (r .cut); passes = next; cut = r .cut; loads = r .loads }) where
     -- it ends
-    pub course-ends : (e : ℕ) → courseOf cut₁ (r .cut) next limit ≡ Ends e → PassesDone s limit p moves₀ made₀ rewound₀ labels′ moves′ made′ rewound′ (record { end = e; passes = next; cut = r .cut; loads = r .loads })
-    unfolding courseOf
-    course-ends e c = go (leb cut₁ (r .cut)) refl c
+    pub pass-ends : (q .end ≡ 0 → ⊥) → PassesDone s limit p moves₀ made₀ rewound₀ labels′ moves′ made′ rewound′ q
+    unfolding endBy
+    pass-ends u = go (leb cut₁ (r .cut)) refl (rw e at u)
       where
-        full : (t : Bool) → leb limit next ≡ t → r .cut < cut₁ → cond t (Ends 0) GoesOn ≡ Ends e → PassesDone s limit p moves₀ made₀ rewound₀ labels′ moves′ made′ rewound′ (record { end = e; passes = next; cut = r .cut; loads = r .loads })
-        full true u h c = let z : 0 ≡ e = cc in running-full labels′ gains′ moves′ made′ rewound′ (r .loads) (r .cut) next (on h) (leb-true limit next u) _ (ap (λ (x : ℕ). record { end = x; passes = next; cut = r .cut; loads = r .loads }) (sym z))
-        full false u h c = let o : _≡_ {A = ℕ} 0 1 = cc in absurd (omega arith)
-
-        go : (t : Bool) → leb cut₁ (r .cut) ≡ t → cond t (Ends 1) (cond (leb limit next) (Ends 0) GoesOn) ≡ Ends e → PassesDone s limit p moves₀ made₀ rewound₀ labels′ moves′ made′ rewound′ (record { end = e; passes = next; cut = r .cut; loads = r .loads })
-        go true u c = let z : 1 ≡ e = cc in running-gainless labels gains moves made rewound loads cut₁ passes g lt labels′ gains′ moves′ r d gl made′ rewound′ next w (leb-true cut₁ (r .cut) u) _ (ap₂ (λ (x y : ℕ). record { end = x; passes = y; cut = r .cut; loads = r .loads }) (sym z) (w .passes-are))
-        go false u c = full (leb limit next) refl (leb-false cut₁ (r .cut) u) c
+        go : (t : Bool) → leb cut₁ (r .cut) ≡ t → (_≡_ {A = ℕ} (cond t 1 0) 0 → ⊥) → PassesDone s limit p moves₀ made₀ rewound₀ labels′ moves′ made′ rewound′ q
+        go true v h = running-gainless labels gains moves made rewound loads cut₁ passes g lt labels′ gains′ moves′ r d gl made′ rewound′ next w (leb-true cut₁ (r .cut) v) q (e ∙ (λ i. record { end = cond (v i) 1 0; passes = w .passes-are i; cut = r .cut; loads = r .loads }))
+        go false v h = absurd (h refl)
 
     -- it goes on
-    pub course-goes-on : courseOf cut₁ (r .cut) next limit ≡ GoesOn → Running s limit p moves₀ made₀ rewound₀ labels′ gains′ moves′ made′ rewound′ (r .loads) (r .cut) next
-    unfolding courseOf
-    course-goes-on c = go (leb cut₁ (r .cut)) refl c
+    pub pass-goes-on : q .end ≡ 0 → Running s limit p moves₀ made₀ rewound₀ labels′ gains′ moves′ made′ rewound′ (q .loads) (q .cut) (q .passes)
+    unfolding endBy
+    pass-goes-on u = rw e (go (leb cut₁ (r .cut)) refl (rw e at u))
       where
-        go : (t : Bool) → leb cut₁ (r .cut) ≡ t → cond t (Ends 1) (cond (leb limit next) (Ends 0) GoesOn) ≡ GoesOn → Running s limit p moves₀ made₀ rewound₀ labels′ gains′ moves′ made′ rewound′ (r .loads) (r .cut) next
-        go true u c = let o : _≡_ {A = ℕ} 0 1 = cc in absurd (omega arith)
-        go false u c = on (leb-false cut₁ (r .cut) u)
+        go : (t : Bool) → leb cut₁ (r .cut) ≡ t → _≡_ {A = ℕ} (cond t 1 0) 0 → Running s limit p moves₀ made₀ rewound₀ labels′ gains′ moves′ made′ rewound′ (r .loads) (r .cut) next
+        go true v h = absurd (omega arith)
+        go false v h = rw (w .passes-are) (running-on labels gains moves made rewound loads cut₁ passes g lt labels′ gains′ moves′ r d gl made′ rewound′ next w (leb-false cut₁ (r .cut) v))

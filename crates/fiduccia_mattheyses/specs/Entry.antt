@@ -9,7 +9,7 @@ use lib.IntN.{ℤ, pos}
 use Rattle.lists.specs.Sum.{total}
 use Rattle.lists.specs.Fill.{filled, table, over}
 use Rattle.lists.specs.Number.{orElse}
-use Rattle.imbalance.specs.Limit.{labelAbove}
+use Rattle.imbalance.specs.Limit.{mostPasses, labelAbove}
 use Rattle.imbalance.specs.Load.{load, loadsOf}
 use Rattle.imbalance.specs.Ceiling.{unfitChoice, ceilings}
 use Rattle.imbalance.specs.Number.{noLoads}
@@ -55,7 +55,7 @@ askedCeiling s = record { choice = s .choice; whole = s .whole; imbalance = s .i
 
 -- 7: "pass limit above 1,024 (FM, KL); choice 2 with e NaN, below 0 or above 64, or choice above 2 (FM, arc-swap)"
 unfoldable pub unfit : Settings → Bool
-unfit s = ltb 1024 (s .passes) || unfitChoice (askedCeiling s)
+unfit s = ltb mostPasses (s .passes) || unfitChoice (askedCeiling s)
 
 -- the lengths of the lent lists
 abbrev pub lengthsOf : Lent → Lengths

@@ -2,6 +2,7 @@
 use mathlib.Core.List.{List, [], _∷_, _++_}
 use Prim.Native.Nat.{ℕ, _≤_}
 use lib.ListN.{length}
+use Rattle.imbalance.specs.Limit.{mostPasses}
 use Rattle.imbalance.specs.Rules.{NoneAbove, FitChoice}
 use Rattle.topology.specs.Rules.{graphRules}
 use Rattle.fiduccia_mattheyses.specs.declared.Settings.{Settings}
@@ -10,7 +11,7 @@ use Rattle.fiduccia_mattheyses.specs.Entry.{Given, Lent, askedCeiling}
 
 -- 7: not "pass limit above 1,024", and the ceiling's choice is fit
 pub record FitSettings (s : Settings) : Type 0 where
-  pub fewPasses : s .passes ≤ 1024
+  pub fewPasses : s .passes ≤ mostPasses
   pub fitChoice : FitChoice (askedCeiling s)
 
 -- 8: no "lent working list is too short". "Lists: gains n, moves n, two row lists of P."

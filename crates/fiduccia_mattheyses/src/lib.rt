@@ -33,18 +33,25 @@ pub struct Report {
     pub loads: Loads,
 }
 
-// What the passes leave: the run's end, how many there were, the cut and the loads.
+// What a call comes to before a run: it is answered, with a number and an end, or it runs.
+pub enum Call {
+    Answered(u32, u32),
+    Runs,
+}
+
+// What a run begins with: the limits of its passes, and the loads and the cut of the labels.
+pub struct Begun {
+    pub limits: Limits,
+    pub loads: Loads,
+    pub cut: u64,
+}
+
+// What the passes leave: the run's end, which is 0 until a pass is gainless, how many there were, the cut and the loads.
 pub struct Ended {
     pub end: u32,
     pub passes: u32,
     pub cut: u64,
     pub loads: Loads,
-}
-
-// How a run stands after a pass: it ends, or goes on.
-pub enum Course {
-    Ends(u32),
-    GoesOn,
 }
 
 // The passes of a run, at most as many as the pass limit. Each writes its row.
@@ -58,20 +65,16 @@ fn make_passes(
     moves: &mut [Move],
     rows_made: &mut [u32],
     rows_rewound: &mut [u32],
-    first: Loads,
-    first_cut: u64,
-    limits: Limits,
+    begun: Begun,
     pass_limit: u32,
 ) -> Ended
-    requires { ⌜ PassesAsked (termsBy (now starts) (now neighbours) (now «arc_weights») (now weights) limits) «pass_limit» (now labels) (now gains) (now moves) (now «rows_made») (now «rows_rewound») (first .at) «first_cut» ⌝ }
-    ensures { λ r. ⌜ PassesDone (termsBy (now (starts .entry)) (now (neighbours .entry)) (now («arc_weights» .entry)) (now (weights .entry)) limits) «pass_limit»
+    requires { ⌜ PassesAsked (termsBy (now starts) (now neighbours) (now «arc_weights») (now weights) (begun .limits)) «pass_limit» (now labels) (now gains) (now moves) (now «rows_made») (now «rows_rewound») (begun .loads .at) (begun .cut) ⌝ }
+    ensures { λ r. ⌜ PassesDone (termsBy (now (starts .entry)) (now (neighbours .entry)) (now («arc_weights» .entry)) (now (weights .entry)) (begun .limits)) «pass_limit»
         (now (labels .entry)) (now (moves .entry)) (now («rows_made» .entry)) (now («rows_rewound» .entry))
         (now (labels .exit)) (now (moves .exit)) (now («rows_made» .exit)) (now («rows_rewound» .exit)) r ⌝ }
 {
-    let mut loads = first;
-    let mut cut = first_cut;
-    let mut passes: u32 = 0;
-    while passes < pass_limit {
+    let mut run = steps::no_pass(begun);
+    while run.passes < pass_limit {
         let r = fiduccia_mattheyses_pass::make_pass(
             starts,
             neighbours,
@@ -80,32 +83,17 @@ fn make_passes(
             labels,
             gains,
             moves,
-            loads,
-            cut,
-            limits,
+            run.loads,
+            run.cut,
+            begun.limits,
         );
-        let made = r.made;
-        let kept = r.kept;
-        passes = steps::put_row(rows_made, rows_rewound, passes, made, kept);
-        let before = cut;
-        cut = r.cut;
-        loads = r.loads;
-        let Course::Ends(end) = steps::course_of(before, cut, passes, pass_limit) else {
-            continue;
-        };
-        return Ended {
-            end,
-            passes,
-            cut,
-            loads,
-        };
+        let passes = steps::put_row(rows_made, rows_rewound, run.passes, r.made, r.kept);
+        run = steps::after_pass(run.cut, r, passes);
+        if run.end != 0 {
+            return run;
+        }
     }
-    Ended {
-        end: 0,
-        passes,
-        cut,
-        loads,
-    }
+    run
 }
 
 // The run, where no number applies; afterwards the gains and the moves hold zeros.
@@ -131,18 +119,8 @@ fn refine(
         (record { labels = now (labels .exit); gains = now (gains .exit); moves = now (moves .exit); made = now («rows_made» .exit); rewound = now («rows_rewound» .exit) }) ⌝ }
 {
     let n = labels.len();
-    let first = imbalance::parts_load(weights, labels);
-    let total = imbalance::total_weight(weights);
-    let asked = number::asked_ceiling(s);
-    let ceilings = imbalance::ceilings_of(first, total, 2, asked);
-    let cut = topology::cut_of(starts, neighbours, arc_weights, labels);
-    let limits = Limits {
-        ceilings,
-        bad: lists::wide(s.bad),
-        moves: lists::index(s.moves),
-    };
-    let passes = s.passes;
-    let r = make_passes(
+    let begun = steps::begin_run(starts, neighbours, arc_weights, weights, labels, s);
+    let ended = make_passes(
         starts,
         neighbours,
         arc_weights,
@@ -152,13 +130,11 @@ fn refine(
         moves,
         rows_made,
         rows_rewound,
-        first,
-        cut,
-        limits,
-        passes,
+        begun,
+        s.passes,
     );
     fiduccia_mattheyses_pass::clear(moves, n);
-    answers::finish(gains, n, r, cut)
+    answers::finish(gains, n, ended, begun.cut)
 }
 
 // The lengths of the lent lists.
@@ -185,8 +161,7 @@ pub fn fiduccia_mattheyses(
     ensures { λ r. ⌜ Refined
         (record { starts = now (starts .entry); neighbours = now (neighbours .entry); arcs = now («arc_weights» .entry); weights = now (weights .entry); settings = s })
         (record { labels = now (labels .entry); gains = now (gains .entry); moves = now (moves .entry); made = now («rows_made» .entry); rewound = now («rows_rewound» .entry) })
-        r
-        (record { labels = now (labels .exit); gains = now (gains .exit); moves = now (moves .exit); made = now («rows_made» .exit); rewound = now («rows_rewound» .exit) }) ⌝ }
+        r (record { labels = now (labels .exit); gains = now (gains .exit); moves = now (moves .exit); made = now («rows_made» .exit); rewound = now («rows_rewound» .exit) }) ⌝ }
 {
     let lengths = Lengths {
         gains: gains.len(),
@@ -194,23 +169,20 @@ pub fn fiduccia_mattheyses(
         made: rows_made.len(),
         rewound: rows_rewound.len(),
     };
-    let number = number::call_number(starts, neighbours, arc_weights, weights, labels, lengths, s);
-    if number != 0 {
-        return answers::bare_report(number, 0);
-    }
-    if labels.len() == 0 {
-        return answers::bare_report(0, 3);
-    }
-    refine(
-        starts,
-        neighbours,
-        arc_weights,
-        weights,
-        labels,
-        gains,
-        moves,
-        rows_made,
-        rows_rewound,
-        s,
-    )
+    let call = number::call_of(starts, neighbours, arc_weights, weights, labels, lengths, s);
+    let Call::Answered(number, end) = call else {
+        return refine(
+            starts,
+            neighbours,
+            arc_weights,
+            weights,
+            labels,
+            gains,
+            moves,
+            rows_made,
+            rows_rewound,
+            s,
+        );
+    };
+    answers::bare_report(number, end)
 }

@@ -1,10 +1,10 @@
 // The number of a call. Document 01, "Numbers a call gives back".
 ghost use mathlib.Core.Path.{_≡_};
-ghost use mathlib.Core.Bool.{cond};
 ghost use lib.ListN.{length};
-ghost use lib.Dec.{eqb};
 ghost use Rattle.topology.specs.Graph.{inRows};
 ghost use Rattle.fiduccia_mattheyses.specs.Entry.{askedCeiling, unfit, short, numberOf};
+ghost use Rattle.fiduccia_mattheyses.specs.inner.Steps.{callOf};
+use crate::Call;
 use crate::Lengths;
 use crate::Settings;
 use imbalance::Ceiling;
@@ -25,7 +25,7 @@ fn unfit_settings(s: Settings) -> bool
     ensures { λ r. ⌜ r ≡ unfit s ⌝ }
 {
     let passes = s.passes;
-    if 1024 < passes {
+    if imbalance::MOST_PASSES < passes {
         return true;
     }
     let asked = asked_ceiling(s);
@@ -81,8 +81,8 @@ fn number_of(
     0
 }
 
-// The number of a call: without vertices it is done, whatever else is wrong.
-pub fn call_number(
+// What a call comes to: without vertices it is done, whatever else is wrong; else it is refused, or it runs.
+pub fn call_of(
     starts: &[u32],
     neighbours: &[u32],
     arc_weights: &[u32],
@@ -90,12 +90,16 @@ pub fn call_number(
     labels: &[u32],
     lengths: Lengths,
     s: Settings,
-) -> u32
-    ensures { λ r. ⌜ r ≡ cond (eqb (length (now (labels .entry))) 0) 0 (numberOf (inRows (now (starts .entry)) (now (neighbours .entry)) (now («arc_weights» .entry))) (now (weights .entry)) (now (labels .entry)) lengths s) ⌝ }
+) -> Call
+    ensures { λ r. ⌜ r ≡ callOf (length (now (labels .entry))) (numberOf (inRows (now (starts .entry)) (now (neighbours .entry)) (now («arc_weights» .entry))) (now (weights .entry)) (now (labels .entry)) lengths s) ⌝ }
 {
     let n = labels.len();
     if n == 0 {
-        return 0;
+        return Call::Answered(0, 3);
     }
-    number_of(starts, neighbours, arc_weights, weights, labels, lengths, s)
+    let number = number_of(starts, neighbours, arc_weights, weights, labels, lengths, s);
+    if number != 0 {
+        return Call::Answered(number, 0);
+    }
+    Call::Runs
 }

@@ -1,7 +1,11 @@
-// What a run does beside its passes: a pass's row, and how the run stands after it. Document 01, "FM".
+// What a run does beside its passes: where it begins, a pass's row, and where it stands after a pass. Document 01, "FM".
 ghost use mathlib.Core.Path.{_≡_};
-ghost use Rattle.fiduccia_mattheyses.specs.inner.Steps.{RowAsked, RowDone, courseOf};
-use crate::Course;
+ghost use Rattle.fiduccia_mattheyses.specs.inner.Steps.{RowAsked, RowDone, Beginnable, Begins, endBy};
+use crate::Begun;
+use crate::Ended;
+use crate::Settings;
+use fiduccia_mattheyses_pass::Limits;
+use fiduccia_mattheyses_pass::Passed;
 
 // The row of the pass after those made: its moves, and those of them that were rewound. It answers how many passes are made then.
 pub fn put_row(
@@ -22,17 +26,65 @@ pub fn put_row(
     done
 }
 
-// How a run stands after a pass: a gainless one ends it with 1, also where it was the last allowed; the last allowed ends it with 0.
-pub fn course_of(before: u64, after: u64, passes: u32, limit: u32) -> Course
-    ensures { λ r. ⌜ r ≡ courseOf before after passes limit ⌝ }
+// What a run begins with.
+pub fn begin_run(
+    starts: &[u32],
+    neighbours: &[u32],
+    arc_weights: &[u32],
+    weights: &[u32],
+    labels: &[u32],
+    s: Settings,
+) -> Begun
+    requires { ⌜ Beginnable (record { starts = now starts; neighbours = now neighbours; arcs = now «arc_weights»; weights = now weights; settings = s }) (now labels) ⌝ }
+    ensures { λ r. ⌜ Begins
+        (record { starts = now (starts .entry); neighbours = now (neighbours .entry); arcs = now («arc_weights» .entry); weights = now (weights .entry); settings = s })
+        (now (labels .entry)) r ⌝ }
 {
-    let gainless = before <= after;
-    let full = limit <= passes;
-    if gainless {
-        return Course::Ends(1);
+    let loads = imbalance::parts_load(weights, labels);
+    let total = imbalance::total_weight(weights);
+    let asked = crate::number::asked_ceiling(s);
+    let limits = Limits {
+        ceilings: imbalance::ceilings_of(loads, total, 2, asked),
+        bad: lists::wide(s.bad),
+        moves: lists::index(s.moves),
+    };
+    let cut = topology::cut_of(starts, neighbours, arc_weights, labels);
+    Begun { limits, loads, cut }
+}
+
+// Where a run stands before its first pass.
+pub fn no_pass(begun: Begun) -> Ended
+    ensures { λ r. ⌜ r ≡ record { end = 0; passes = 0; cut = begun .cut; loads = begun .loads } ⌝ }
+{
+    let loads = begun.loads;
+    Ended {
+        end: 0,
+        passes: 0,
+        cut: begun.cut,
+        loads,
     }
-    if full {
-        return Course::Ends(0);
+}
+
+// How a pass leaves the run: a gainless one ends it with 1, also where it was the last allowed; after another it may go on.
+fn end_of(before: u64, after: u64) -> u32
+    ensures { λ r. ⌜ r ≡ endBy before after ⌝ }
+{
+    if before <= after {
+        return 1;
     }
-    Course::GoesOn
+    0
+}
+
+// Where a run stands after a pass from the cut given.
+pub fn after_pass(before: u64, r: Passed, passes: u32) -> Ended
+    ensures { λ q. ⌜ q ≡ record { end = endBy before (r .cut); passes = passes; cut = r .cut; loads = r .loads } ⌝ }
+{
+    let cut = r.cut;
+    let loads = r.loads;
+    Ended {
+        end: end_of(before, cut),
+        passes,
+        cut,
+        loads,
+    }
 }

@@ -122,8 +122,7 @@ fn walk_moves(
 ) -> Walked
     requires { ⌜ WalkAsked (termsBy (now starts) (now neighbours) (now «arc_weights») (now weights) limits) (now labels) (now gains) (now moves) first ⌝ }
     ensures { λ r. ⌜ (let s = termsBy (now (starts .entry)) (now (neighbours .entry)) (now («arc_weights» .entry)) (now (weights .entry)) limits in
-        WalkDone s (now (labels .entry)) (now (moves .entry)) (walk s (limits .moves) (start s (now (labels .entry))))
-        (now (labels .exit)) (now (gains .exit)) (now (moves .exit)) (r .made) (r .last)) ⌝ }
+        WalkDone s (now (labels .entry)) (now (moves .entry)) (walk s (limits .moves) (start s (now (labels .entry)))) (now (labels .exit)) (now (gains .exit)) (now (moves .exit)) (r .made) (r .last)) ⌝ }
 {
     let mut st = first;
     let mut made: usize = 0;

@@ -22,21 +22,21 @@ use Rattle.plan.proofs.ReadLaws.{room}
 use Rattle.refine_words.specs.inner.Steps.{Put}
 use Rattle.refine_words.specs.Line.{refusal}
 use Rattle.refine_words.proofs.Texts.{pasted-first}
-use Rattle.refine_text.specs.Refine.{inputNumber, runText, planText, textOf, Printed}
+use Rattle.refine_text.specs.Refine.{planVertices, planArcs, textBytes, inputNumber, runText, planText, textOf, Printed}
 
 -- targets of the program's lengths
 pub record Sized (t : Targets) : Type 0 where
-  pub labels : length (t .labels) ≡ 512
-  pub weights : length (t .weights) ≡ 512
-  pub starts : length (t .starts) ≡ 513
-  pub neighbours : length (t .neighbours) ≡ 2048
-  pub arcWeights : length (t .arcWeights) ≡ 2048
+  pub labels : length (t .labels) ≡ planVertices
+  pub weights : length (t .weights) ≡ planVertices
+  pub starts : length (t .starts) ≡ planVertices + 1
+  pub neighbours : length (t .neighbours) ≡ planArcs
+  pub arcWeights : length (t .arcWeights) ≡ planArcs
 
 -- what the program has after the reader: its number, and where that is 0 the header and the plan's lists
 pub record Had (s : List ℕ) (r : ReadAnswer) (u : Targets) : Type 0 where
   pub accepted : fileNumber s ≡ 0
-  pub few : r .n ≤ 512
-  pub fewArcs : r .a ≤ 2048
+  pub few : r .n ≤ planVertices
+  pub fewArcs : r .a ≤ planArcs
   pub header : r ≡ headerOf (planOf s)
   pub labels : take (r .n) (u .labels) ≡ planOf s .labels
   pub weights : take (r .n) (u .weights) ≡ planOf s .weights
@@ -45,7 +45,7 @@ pub record Had (s : List ℕ) (r : ReadAnswer) (u : Targets) : Type 0 where
   pub arcWeights : take (r .a) (u .arcWeights) ≡ planOf s .arcWeights
 
 -- the reader's number, for targets of the program's lengths
-sized-number : (s : List ℕ) (t : Targets) → Sized t → readNumber s t ≡ numberFor s 512 512 513 2048 2048
+sized-number : (s : List ℕ) (t : Targets) → Sized t → readNumber s t ≡ numberFor s planVertices planVertices (planVertices + 1) planArcs planArcs
 sized-number s t z = rw (z .labels, z .weights, z .starts, z .neighbours, z .arcWeights)
 
 number-by : (b : Bool) (p : Plan) (m : ℕ) → eqb m 0 ≡ b → cond b (headerOf p) (refusalOf m) .number ≡ m
@@ -58,18 +58,18 @@ unfolding readAnswer
 answer-number s t = number-by (eqb (readNumber s t) 0) (planOf s) (readNumber s t) refl
 
 -- the targets as the program makes them
-pub zeros : Sized (record { labels = replicate 512 0; weights = replicate 512 0; starts = replicate 513 0; neighbours = replicate 2048 0; arcWeights = replicate 2048 0 })
+pub zeros : Sized (record { labels = replicate planVertices 0; weights = replicate planVertices 0; starts = replicate (planVertices + 1) 0; neighbours = replicate planArcs 0; arcWeights = replicate planArcs 0 })
 zeros =
     record {
-      labels = length-replicate {A = ℕ} 512 0;
-      weights = length-replicate {A = ℕ} 512 0;
-      starts = length-replicate {A = ℕ} 513 0;
-      neighbours = length-replicate {A = ℕ} 2048 0;
-      arcWeights = length-replicate {A = ℕ} 2048 0;
+      labels = length-replicate {A = ℕ} planVertices 0;
+      weights = length-replicate {A = ℕ} planVertices 0;
+      starts = length-replicate {A = ℕ} (planVertices + 1) 0;
+      neighbours = length-replicate {A = ℕ} planArcs 0;
+      arcWeights = length-replicate {A = ℕ} planArcs 0;
     }
 
 module _ {s : List ℕ} {t u : Targets} {r : ReadAnswer} (z : Sized t) (p : Read s t r u) where
-  pub number-read : r .number ≡ numberFor s 512 512 513 2048 2048
+  pub number-read : r .number ≡ numberFor s planVertices planVertices (planVertices + 1) planArcs planArcs
   number-read = ap (λ (x : ReadAnswer). x .number) (p .answered) ∙ answer-number s t ∙ sized-number s t z
 
   module _ (done : r .number ≡ 0) where
@@ -87,7 +87,7 @@ module _ {s : List ℕ} {t u : Targets} {r : ReadAnswer} (z : Sized t) (p : Read
     pub had : Had s r u
     unfolding headerOf handed planOf startsOf
     had =
-        let g = room s 512 512 513 2048 2048 (sym number-read ∙ done) in
+        let g = room s planVertices planVertices (planVertices + 1) planArcs planArcs (sym number-read ∙ done) in
         let h = header-read in
         let n : r .n ≡ word s 1 = ap (λ (x : ReadAnswer). x .n) h in
         let a : r .a ≡ word s 2 = ap (λ (x : ReadAnswer). x .a) h in
@@ -117,7 +117,7 @@ labels-low s h =
     le-ltb 15 (getD (table (word s 1) (labelAt s)) v 0) (omega arith))
 
 -- the labels as the refiners ask for them
-pub labels-ready : {s : List ℕ} {r : ReadAnswer} {u : Targets} (n : ℕ) → n ≡ r .n → Had s r u → (length (take n (u .labels)) ≤ 512) × (labelAbove 15 (take n (u .labels)) ≡ false)
+pub labels-ready : {s : List ℕ} {r : ReadAnswer} {u : Targets} (n : ℕ) → n ≡ r .n → Had s r u → (length (take n (u .labels)) ≤ planVertices) × (labelAbove 15 (take n (u .labels)) ≡ false)
 labels-ready {s} {r} {u} n e h =
     let l : length (take n (u .labels)) ≤ n = rw (length-take n (u .labels)) (omega arith) in
     let q : take n (u .labels) ≡ planOf s .labels = rw e (h .labels) in
@@ -138,11 +138,11 @@ module _ (s before after : List ℕ) (end : ℕ) where
   printed-refusal number e ne p = printed (refusal number) 29 (rw (← e, ne-eqb number 0 ne)) p
 
   pub printed-plan : (r : ReadAnswer) (u : Targets) (n a : ℕ) → n ≡ r .n → a ≡ r .a → inputNumber s ≡ 0 → Had s r u
-      → Put (runText r (take (n + 1) (u .starts)) (take a (u .neighbours)) (take a (u .arcWeights)) (take n (u .weights)) (take n (u .labels))) 16384 0 before after end
+      → Put (runText r (take (n + 1) (u .starts)) (take a (u .neighbours)) (take a (u .arcWeights)) (take n (u .weights)) (take n (u .labels))) textBytes 0 before after end
       → Printed s before end after
   unfolding textOf planText
   printed-plan r u n a en ea e h p =
-      printed _ 16384 (rw (e, en, ea, h .starts, h .neighbours, h .arcWeights, h .weights, h .labels, ← h .header)) p
+      printed _ textBytes (rw (e, en, ea, h .starts, h .neighbours, h .arcWeights, h .weights, h .labels, ← h .header)) p
 
 -- the text is within the output
 pub printed-within : {s t u : List ℕ} {r : ℕ} → Printed s t r u → r ≤ length u

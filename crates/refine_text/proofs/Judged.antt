@@ -14,36 +14,36 @@ use Rattle.plan_blocks.specs.Word.{word}
 use Rattle.plan_blocks.specs.Decode.{badLength, planOf, fileNumber}
 use Rattle.plan.specs.Read.{short, numberFor}
 use Rattle.plan.proofs.ReadLaws.{long-enough, room}
-use Rattle.refine_text.specs.Refine.{beyond, ranked, inputNumber}
+use Rattle.refine_text.specs.Refine.{planVertices, planArcs, inputBytes, beyond, ranked, inputNumber}
 
 -- "12 unread for an input above 22,016 bytes"
-pub unread : (s : List ℕ) → 22016 < length s → 12 ≡ inputNumber s
+pub unread : (s : List ℕ) → inputBytes < length s → 12 ≡ inputNumber s
 unfolding inputNumber
-unread s h = rw (lt-ltb 22016 (length s) h)
+unread s h = rw (lt-ltb inputBytes (length s) h)
 
 -- the header's two numbers, and the program's limits
 module _ (s : List ℕ) where
-  pub many-vertices : (x : ℕ) → x ≡ word s 1 → 512 < x → beyond (planOf s) ≡ true
+  pub many-vertices : (x : ℕ) → x ≡ word s 1 → planVertices < x → beyond (planOf s) ≡ true
   unfolding beyond planOf
-  many-vertices x e h = rw (← e, lt-ltb 512 x h)
+  many-vertices x e h = rw (← e, lt-ltb planVertices x h)
 
-  pub many-arcs : (x : ℕ) → x ≡ word s 2 → 2048 < x → beyond (planOf s) ≡ true
+  pub many-arcs : (x : ℕ) → x ≡ word s 2 → planArcs < x → beyond (planOf s) ≡ true
   unfolding beyond planOf
-  many-arcs x e h = rw (← e, lt-ltb 2048 x h) (or-true (ltb 512 (word s 1)))
+  many-arcs x e h = rw (← e, lt-ltb planArcs x h) (or-true (ltb planVertices (word s 1)))
 
-  pub few-enough : word s 1 ≤ 512 → word s 2 ≤ 2048 → beyond (planOf s) ≡ false
+  pub few-enough : word s 1 ≤ planVertices → word s 2 ≤ planArcs → beyond (planOf s) ≡ false
   unfolding beyond planOf
-  few-enough h l = rw (le-ltb 512 (word s 1) h, le-ltb 2048 (word s 2) l)
+  few-enough h l = rw (le-ltb planVertices (word s 1) h, le-ltb planArcs (word s 2) l)
 
-  within : beyond (planOf s) ≡ false → (word s 1 ≤ 512) × (word s 2 ≤ 2048)
+  within : beyond (planOf s) ≡ false → (word s 1 ≤ planVertices) × (word s 2 ≤ planArcs)
   unfolding beyond planOf
   within h =
-      let p = or-false (ltb 512 (word s 1)) (ltb 2048 (word s 2)) h in
-      (ltb-false 512 (word s 1) (p .0), ltb-false 2048 (word s 2) (p .1))
+      let p = or-false (ltb planVertices (word s 1)) (ltb planArcs (word s 2)) h in
+      (ltb-false planVertices (word s 1) (p .0), ltb-false planArcs (word s 2) (p .1))
 
-  not-short : word s 1 ≤ 512 → word s 2 ≤ 2048 → short (planOf s .n) (planOf s .a) 512 512 513 2048 2048 ≡ false
+  not-short : word s 1 ≤ planVertices → word s 2 ≤ planArcs → short (planOf s .n) (planOf s .a) planVertices planVertices (planVertices + 1) planArcs planArcs ≡ false
   unfolding short planOf
-  not-short h l = rw (le-ltb 512 (word s 1) h, le-ltb 513 (word s 1 + 1) (omega arith), le-ltb 2048 (word s 2) l)
+  not-short h l = rw (le-ltb planVertices (word s 1) h, le-ltb (planVertices + 1) (word s 1 + 1) (omega arith), le-ltb planArcs (word s 2) l)
 
 -- the number by its rank
 ranked-low : (g : ℕ) (b : Bool) → suc g ≤ 12 → ranked (suc g) b ≡ suc g
@@ -77,12 +77,12 @@ unfolding fileNumber
 nine s h = rw h
 
 -- m is the reader's number for targets of the program's lengths
-module _ (s : List ℕ) (m : ℕ) (few : length s ≤ 22016) (e : m ≡ numberFor s 512 512 513 2048 2048) where
+module _ (s : List ℕ) (m : ℕ) (few : length s ≤ inputBytes) (e : m ≡ numberFor s planVertices planVertices (planVertices + 1) planArcs planArcs) where
   is-ranked : inputNumber s ≡ ranked (fileNumber s) (beyond (planOf s))
   unfolding inputNumber
-  is-ranked = rw (le-ltb 22016 (length s) few)
+  is-ranked = rw (le-ltb inputBytes (length s) few)
 
-  by-file : m ≡ orElse (fileNumber s) (cond (short (planOf s .n) (planOf s .a) 512 512 513 2048 2048) 15 0)
+  by-file : m ≡ orElse (fileNumber s) (cond (short (planOf s .n) (planOf s .a) planVertices planVertices (planVertices + 1) planArcs planArcs) 15 0)
   unfolding numberFor
   by-file = e
 
@@ -90,8 +90,8 @@ module _ (s : List ℕ) (m : ℕ) (few : length s ≤ 22016) (e : m ≡ numberFo
   pub judged-low : m ≤ 12 → (m ≡ 0 → ⊥) → m ≡ inputNumber s
   judged-low l ne = go (fileNumber s) by-file is-ranked
     where
-      go : (f : ℕ) → m ≡ orElse f (cond (short (planOf s .n) (planOf s .a) 512 512 513 2048 2048) 15 0) → inputNumber s ≡ ranked f (beyond (planOf s)) → m ≡ inputNumber s
-      go zero o r = ⊎-elim (λ z. absurd (omega arith)) (λ z. absurd (ne z)) (fifteen (short (planOf s .n) (planOf s .a) 512 512 513 2048 2048) m o)
+      go : (f : ℕ) → m ≡ orElse f (cond (short (planOf s .n) (planOf s .a) planVertices planVertices (planVertices + 1) planArcs planArcs) 15 0) → inputNumber s ≡ ranked f (beyond (planOf s)) → m ≡ inputNumber s
+      go zero o r = ⊎-elim (λ z. absurd (omega arith)) (λ z. absurd (ne z)) (fifteen (short (planOf s .n) (planOf s .a) planVertices planVertices (planVertices + 1) planArcs planArcs) m o)
       go (suc g) o r = o ∙ sym (r ∙ ranked-low g (beyond (planOf s)) (omega arith))
 
   module _ (high : 12 < m) where
@@ -100,16 +100,16 @@ module _ (s : List ℕ) (m : ℕ) (few : length s ≤ 22016) (e : m ≡ numberFo
     whole-header = go (badLength s) refl
       where
         go : (b : Bool) → badLength s ≡ b → 512 ≤ length s
-        go true q = let n = nine s q in ⊎-elim (λ z. absurd (omega arith)) (λ z. absurd (omega arith)) (file-or-room (fileNumber s) m (short (planOf s .n) (planOf s .a) 512 512 513 2048 2048) by-file)
+        go true q = let n = nine s q in ⊎-elim (λ z. absurd (omega arith)) (λ z. absurd (omega arith)) (file-or-room (fileNumber s) m (short (planOf s .n) (planOf s .a) planVertices planVertices (planVertices + 1) planArcs planArcs) by-file)
         go false q = long-enough s q
 
     -- 12 ahead of 13 and 14, and in place of 15
     pub judged-beyond : beyond (planOf s) ≡ true → 12 ≡ inputNumber s
     judged-beyond b =
-        sym (is-ranked ∙ ap (λ (t : Bool). ranked (fileNumber s) t) b ∙ ranked-high (fileNumber s) (⊎-elim (λ z. inl z) (λ (z : m ≡ fileNumber s). inr (omega arith)) (file-or-room (fileNumber s) m (short (planOf s .n) (planOf s .a) 512 512 513 2048 2048) by-file)))
+        sym (is-ranked ∙ ap (λ (t : Bool). ranked (fileNumber s) t) b ∙ ranked-high (fileNumber s) (⊎-elim (λ z. inl z) (λ (z : m ≡ fileNumber s). inr (omega arith)) (file-or-room (fileNumber s) m (short (planOf s .n) (planOf s .a) planVertices planVertices (planVertices + 1) planArcs planArcs) by-file)))
 
     -- 13 and 14 of a header within the limits
-    pub judged-within : (x y : ℕ) → x ≡ word s 1 → x ≤ 512 → y ≡ word s 2 → y ≤ 2048 → m ≡ inputNumber s
+    pub judged-within : (x y : ℕ) → x ≡ word s 1 → x ≤ planVertices → y ≡ word s 2 → y ≤ planArcs → m ≡ inputNumber s
     judged-within x y ex lx ey ly =
         let fits = not-short s (omega arith) (omega arith) in
         let o : m ≡ orElse (fileNumber s) 0 = by-file ∙ ap (λ (t : Bool). orElse (fileNumber s) (cond t 15 0)) fits in
@@ -117,7 +117,7 @@ module _ (s : List ℕ) (m : ℕ) (few : length s ≤ 22016) (e : m ≡ numberFo
 
   pub judged-zero : m ≡ 0 → inputNumber s ≡ 0
   judged-zero z =
-      let r = room s 512 512 513 2048 2048 (sym e ∙ z) in
+      let r = room s planVertices planVertices (planVertices + 1) planArcs planArcs (sym e ∙ z) in
       is-ranked ∙ ap (λ (f : ℕ). ranked f (beyond (planOf s))) (r .accepted) ∙ ap (λ (t : Bool). ranked 0 t) (few-enough s (r .labels) (r .neighbours)) ∙ ranked-within 0
 
   -- a refusal's number is not 0

@@ -24,7 +24,7 @@ use Rattle.plan.specs.declared.ReadAnswer.{ReadAnswer}
 use Rattle.refine_words.specs.inner.Steps.{Put}
 use Rattle.refine_words.specs.Line.{refusal, opening, passLines, countsLine, labelsLine}
 use Rattle.refine_words.proofs.Texts.{put-as, put-then}
-use Rattle.refine_text.specs.Refine.{twoLists, twoLines, twoShown, twoText, manyLent, manyLines, manyShown, manyText, twoPlan, manyPlan, runText}
+use Rattle.refine_text.specs.Refine.{planVertices, textBytes, twoLists, twoLines, twoShown, twoText, manyLent, manyLines, manyShown, manyText, twoPlan, manyPlan, runText}
 
 -- the loads of the first k of sixteen parts
 pub parts-long : (k : ℕ) (loads : List ℕ) → k ≤ 16 → length loads ≡ 16 → length (take k loads) ≡ k
@@ -32,10 +32,10 @@ parts-long k loads h e = length-take-le k loads (omega arith)
 
 -- the three parts of a run's text, put one after the other
 module _ (r : TwoReport) (made rewound labels : List ℕ) (i : ℕ) {before one two after : List ℕ} {s t end : ℕ} where
-  pub put-two-lines : 16384 ≤ length before → length labels ≤ 512 → r .passes ≤ 64 → length (r .loads .at) ≡ 16 → i ≡ r .passes
+  pub put-two-lines : textBytes ≤ length before → length labels ≤ planVertices → r .passes ≤ 64 → length (r .loads .at) ≡ 16 → i ≡ r .passes
       → Put (opening (r .end) (r .first) (r .last) (take 2 (r .loads .at)) (r .passes)) (105 + 21 * length (take 2 (r .loads .at))) 0 before one s
       → Put (passLines i made rewound) (47 * i) s one two t → Put (labelsLine labels) (7 + 21 * length labels) t two after end
-      → Put (twoLines r made rewound labels) 16384 0 before after end
+      → Put (twoLines r made rewound labels) textBytes 0 before after end
   unfolding twoLines
   put-two-lines room few passes long e a b d =
       let l = parts-long 2 (r .loads .at) (omega arith) long in
@@ -43,10 +43,10 @@ module _ (r : TwoReport) (made rewound labels : List ℕ) (i : ℕ) {before one 
       put-as (ap (λ (k : ℕ). o ++ passLines k made rewound ++ labelsLine labels) e) (omega arith) (put-then (omega arith) (put-then (omega arith) a b) d)
 
 module _ (k : ℕ) (r : ManyReport) (run : RunRecord) (labels : List ℕ) {before one two after : List ℕ} {s t end : ℕ} where
-  pub put-many-lines : 16384 ≤ length before → length labels ≤ 512 → k ≤ 16 → length (r .loads .at) ≡ 16
+  pub put-many-lines : textBytes ≤ length before → length labels ≤ planVertices → k ≤ 16 → length (r .loads .at) ≡ 16
       → Put (opening (r .end) (r .first) (r .last) (take k (r .loads .at)) (r .passes)) (105 + 21 * length (take k (r .loads .at))) 0 before one s
       → Put (countsLine (run .attempts) (run .moves) (run .«no_gain») (run .«bad_balance»)) 91 s one two t → Put (labelsLine labels) (7 + 21 * length labels) t two after end
-      → Put (manyLines k r run labels) 16384 0 before after end
+      → Put (manyLines k r run labels) textBytes 0 before after end
   unfolding manyLines
   put-many-lines room few parts long a b d =
       let l = parts-long k (r .loads .at) parts long in
@@ -86,9 +86,9 @@ module _ (p : ManyPlan) (l : ManyLent) where
   many-report = many-by (eqb (length (l .labels)) 0) (eqb (manyNumber p (l .labels)) 0)
 
 -- what a call of FM leaves, as the text
-module _ {p : TwoPlan} {labels : List ℕ} {r : TwoReport} {k : Lists} (h : RefinedWith 512 p (twoLists labels) r k) where
+module _ {p : TwoPlan} {labels : List ℕ} {r : TwoReport} {k : Lists} (h : RefinedWith planVertices p (twoLists labels) r k) where
   pub two-few : p .settings .passes ≡ 64 → r .passes ≤ 64
-  two-few e = let q = two-report p (lentWith 512 (twoLists labels)) .0 in let a = ap (λ (x : TwoReport). x .passes) (h .answered) in omega arith
+  two-few e = let q = two-report p (lentWith planVertices (twoLists labels)) .0 in let a = ap (λ (x : TwoReport). x .passes) (h .answered) in omega arith
 
   pub two-loads : length (r .loads .at) ≡ 16
   two-loads = ap (λ (x : TwoReport). length (x .loads .at)) (h .answered) ∙ two-report p _ .1

@@ -7,6 +7,7 @@ use lib.ListN.{length, take, replicate}
 use lib.Dec.{ltb, eqb}
 use lib.IntN.{pos}
 use Rattle.lists.specs.Fill.{over}
+use Rattle.imbalance.specs.Limit.{mostVertices}
 use Rattle.plan_blocks.specs.Plan.{Plan}
 use Rattle.plan_blocks.specs.Decode.{planOf, fileNumber}
 use Rattle.plan.specs.declared.ReadAnswer.{ReadAnswer}
@@ -19,9 +20,24 @@ use Rattle.arc_swap.specs.declared.Report.{Report as ManyReport}
 use Rattle.arc_swap.specs.Entry.{Given as ManyPlan, Lent as ManyLent, answer as manyAnswer, left as manyLeft, partsOf, noCounts}
 use Rattle.refine_words.specs.Line.{refusal, opening, passLines, countsLine, labelsLine}
 
--- "The refine program reads a plan of at most 512 vertices and 2,048 arcs": this one has more
+-- "The refine program reads a plan of at most 512 vertices and 2,048 arcs"
+abbrev pub planVertices : ℕ
+planVertices = 512
+
+abbrev pub planArcs : ℕ
+planArcs = 2048
+
+-- no input "above 22,016 bytes" is read
+abbrev pub inputBytes : ℕ
+inputBytes = 22016
+
+-- the bytes lent for the text, which always fits
+abbrev pub textBytes : ℕ
+textBytes = 16384
+
+-- this plan has more
 unfoldable pub beyond : Plan → Bool
-beyond p = ltb 512 (p .n) || ltb 2048 (p .a)
+beyond p = ltb planVertices (p .n) || ltb planArcs (p .a)
 
 -- "12 beyond that, ranked by number": the reader's number, and 12 where that is 0 or above 12
 unfoldable pub ranked : ℕ → Bool → ℕ
@@ -29,15 +45,15 @@ ranked number b = cond (b && (eqb number 0 || ltb 12 number)) 12 number
 
 -- the number of an input: "12 unread for an input above 22,016 bytes"
 unfoldable pub inputNumber : List ℕ → ℕ
-inputNumber s = cond (ltb 22016 (length s)) 12 (ranked (fileNumber s) (beyond (planOf s)))
+inputNumber s = cond (ltb inputBytes (length s)) 12 (ranked (fileNumber s) (beyond (planOf s)))
 
 -- the lists that FM is lent: the labels, gains for 512 vertices, and two row lists of P = 64
 abbrev pub twoLists : List ℕ → Lists
-twoLists labels = record { labels = labels; gains = replicate 512 (pos 0); made = replicate 64 0; rewound = replicate 64 0 }
+twoLists labels = record { labels = labels; gains = replicate planVertices (pos 0); made = replicate 64 0; rewound = replicate 64 0 }
 
 -- the same with 512 move records
 abbrev pub twoLent : List ℕ → TwoLent
-twoLent labels = lentWith 512 (twoLists labels)
+twoLent labels = lentWith planVertices (twoLists labels)
 
 -- a run of FM: the loads of its 2 parts, and a line a pass
 unfoldable pub twoLines : TwoReport → List ℕ → List ℕ → List ℕ → List ℕ
@@ -54,7 +70,7 @@ twoText p labels = twoShown (twoAnswer p (twoLent labels)) (twoLeft p (twoLent l
 
 -- what arc-swap is lent: the labels, a "stack 4,096", and the run record
 abbrev pub manyLent : List ℕ → ManyLent
-manyLent labels = record { labels = labels; stack = replicate 4096 0; run = noCounts }
+manyLent labels = record { labels = labels; stack = replicate mostVertices 0; run = noCounts }
 
 -- a run of arc-swap, "with its own k": the loads of its k parts, and its counts
 unfoldable pub manyLines : ℕ → ManyReport → RunRecord → List ℕ → List ℕ

@@ -7,25 +7,36 @@ use plan_blocks::words;
 use refine_words::lines;
 ghost use mathlib.Core.Path.{_≡_};
 ghost use mathlib.Core.Bool.{false};
-ghost use Prim.Native.Nat.{_≤_};
+ghost use Prim.Native.Nat.{_+_, _≤_};
 ghost use lib.ListN.{length};
 ghost use Rattle.imbalance.specs.Limit.{labelAbove};
 ghost use Rattle.plan.specs.Read.{numberFor};
 ghost use Rattle.refine_words.specs.inner.Steps.{Put};
-ghost use Rattle.refine_text.specs.Refine.{inputNumber, runText, Printed};
+ghost use Rattle.refine_text.specs.Refine.{planVertices, planArcs, inputBytes, textBytes, inputNumber, runText, Printed};
+
+// The limits of a plan that the program reads.
+const PLAN_VERTICES: usize = 512;
+
+const PLAN_ARCS: usize = 2048;
+
+// The bytes of the longest input that is read: a header, and vertices and arcs up to their limits.
+pub const INPUT_BYTES: usize = 22016;
+
+// The bytes lent for the text.
+pub const TEXT_BYTES: usize = 16384;
 
 // The number of an input that the reader refuses by `number`: a header beyond the program's limits is 12, ahead of 13 and 14 and in place of 15.
 fn input_number(input: &[u8], number: u32) -> u32
-    requires { ⌜ (length (now input) ≤ 22016) × (number ≡ numberFor (now input) 512 512 513 2048 2048) × (number ≡ 0 → ⊥) ⌝ }
+    requires { ⌜ (length (now input) ≤ inputBytes) × (number ≡ numberFor (now input) planVertices planVertices (planVertices + 1) planArcs planArcs) × (number ≡ 0 → ⊥) ⌝ }
     ensures { λ r. ⌜ r ≡ inputNumber (now (input .entry)) ⌝ }
 {
     if number <= 12 {
         return number;
     }
-    if words::word_at(input, 1) > 512 {
+    if lists::index(words::word_at(input, 1)) > PLAN_VERTICES {
         return 12;
     }
-    if words::word_at(input, 2) > 2048 {
+    if lists::index(words::word_at(input, 2)) > PLAN_ARCS {
         return 12;
     }
     number
@@ -41,8 +52,8 @@ fn refine_lists(
     labels: &mut [u32],
     out: &mut [u8],
 ) -> usize
-    requires { ⌜ (length (now labels) ≤ 512) × (labelAbove 15 (now labels) ≡ false) × (16384 ≤ length (now out)) ⌝ }
-    ensures { λ r. ⌜ Put (runText read (now (starts .entry)) (now (neighbours .entry)) (now («arc_weights» .entry)) (now (weights .entry)) (now (labels .entry))) 16384 0 (now (out .entry)) (now (out .exit)) r ⌝ }
+    requires { ⌜ (length (now labels) ≤ planVertices) × (labelAbove 15 (now labels) ≡ false) × (textBytes ≤ length (now out)) ⌝ }
+    ensures { λ r. ⌜ Put (runText read (now (starts .entry)) (now (neighbours .entry)) (now («arc_weights» .entry)) (now (weights .entry)) (now (labels .entry))) textBytes 0 (now (out .entry)) (now (out .exit)) r ⌝ }
 {
     let choice = read.choice;
     let whole = read.whole;
@@ -68,17 +79,17 @@ fn refine_lists(
 }
 
 // The text of an input, at the start of the output; its length.
-pub fn refine_text(input: &[u8], output: &mut [u8; 16384]) -> usize
+pub fn refine_text(input: &[u8], output: &mut [u8; TEXT_BYTES]) -> usize
     ensures { λ r. ⌜ Printed (now (input .entry)) (now (output .entry)) r (now (output .exit)) ⌝ }
 {
-    if input.len() > 22016 {
+    if input.len() > INPUT_BYTES {
         return lines::put_refusal(output, 12);
     }
-    let mut labels = [0u32; 512];
-    let mut weights = [0u32; 512];
-    let mut starts = [0u32; 513];
-    let mut neighbours = [0u32; 2048];
-    let mut arc_weights = [0u32; 2048];
+    let mut labels = [0u32; PLAN_VERTICES];
+    let mut weights = [0u32; PLAN_VERTICES];
+    let mut starts = [0u32; PLAN_VERTICES + 1];
+    let mut neighbours = [0u32; PLAN_ARCS];
+    let mut arc_weights = [0u32; PLAN_ARCS];
     let read = plan::read_plan(
         input,
         &mut labels,

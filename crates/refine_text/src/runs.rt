@@ -6,7 +6,7 @@ ghost use Prim.Native.Nat.{_≤_};
 ghost use lib.ListN.{length};
 ghost use Rattle.imbalance.specs.Limit.{labelAbove};
 ghost use Rattle.refine_words.specs.inner.Steps.{Put};
-ghost use Rattle.refine_text.specs.Refine.{twoLines, twoText, manyLines, manyText};
+ghost use Rattle.refine_text.specs.Refine.{planVertices, textBytes, twoLines, twoText, manyLines, manyText};
 
 // The lines of a run of FM.
 fn put_two(
@@ -16,13 +16,13 @@ fn put_two(
     labels: &[u32],
     out: &mut [u8],
 ) -> usize
-    requires { ⌜ (length (now labels) ≤ 512)
+    requires { ⌜ (length (now labels) ≤ planVertices)
         × (report .passes ≤ 64)
         × (report .passes ≤ length (now made))
         × (report .passes ≤ length (now rewound))
         × (length (report .loads .at) ≡ 16)
-        × (16384 ≤ length (now out)) ⌝ }
-    ensures { λ r. ⌜ Put (twoLines report (now (made .entry)) (now (rewound .entry)) (now (labels .entry))) 16384 0 (now (out .entry)) (now (out .exit)) r ⌝ }
+        × (textBytes ≤ length (now out)) ⌝ }
+    ensures { λ r. ⌜ Put (twoLines report (now (made .entry)) (now (rewound .entry)) (now (labels .entry))) textBytes 0 (now (out .entry)) (now (out .exit)) r ⌝ }
 {
     let loads = report.loads;
     let at = loads.at;
@@ -49,12 +49,12 @@ pub(crate) fn refine_two(
     s: fiduccia_mattheyses::Settings,
     out: &mut [u8],
 ) -> usize
-    requires { ⌜ (length (now labels) ≤ 512) × (s .passes ≡ 64) × (16384 ≤ length (now out)) ⌝ }
+    requires { ⌜ (length (now labels) ≤ planVertices) × (s .passes ≡ 64) × (textBytes ≤ length (now out)) ⌝ }
     ensures { λ r. ⌜ Put
         (twoText (record { starts = now (starts .entry); neighbours = now (neighbours .entry); arcs = now («arc_weights» .entry); weights = now (weights .entry); settings = s }) (now (labels .entry)))
-        16384 0 (now (out .entry)) (now (out .exit)) r ⌝ }
+        textBytes 0 (now (out .entry)) (now (out .exit)) r ⌝ }
 {
-    let mut gains = [0i64; 512];
+    let mut gains = [0i64; crate::PLAN_VERTICES];
     let mut made = [0u32; 64];
     let mut rewound = [0u32; 64];
     let report = fiduccia_mattheyses_records::with_512_moves(
@@ -82,11 +82,11 @@ fn put_many(
     labels: &[u32],
     out: &mut [u8],
 ) -> usize
-    requires { ⌜ (length (now labels) ≤ 512)
+    requires { ⌜ (length (now labels) ≤ planVertices)
         × (parts ≤ 16)
         × (length (report .loads .at) ≡ 16)
-        × (16384 ≤ length (now out)) ⌝ }
-    ensures { λ r. ⌜ Put (manyLines parts report run (now (labels .entry))) 16384 0 (now (out .entry)) (now (out .exit)) r ⌝ }
+        × (textBytes ≤ length (now out)) ⌝ }
+    ensures { λ r. ⌜ Put (manyLines parts report run (now (labels .entry))) textBytes 0 (now (out .entry)) (now (out .exit)) r ⌝ }
 {
     let loads = report.loads;
     let at = loads.at;
@@ -119,10 +119,10 @@ pub(crate) fn refine_many(
     s: arc_swap::Settings,
     out: &mut [u8],
 ) -> usize
-    requires { ⌜ (length (now labels) ≤ 512) × (labelAbove 15 (now labels) ≡ false) × (16384 ≤ length (now out)) ⌝ }
+    requires { ⌜ (length (now labels) ≤ planVertices) × (labelAbove 15 (now labels) ≡ false) × (textBytes ≤ length (now out)) ⌝ }
     ensures { λ r. ⌜ Put
         (manyText (record { starts = now (starts .entry); neighbours = now (neighbours .entry); arcs = now («arc_weights» .entry); weights = now (weights .entry); settings = s }) (now (labels .entry)))
-        16384 0 (now (out .entry)) (now (out .exit)) r ⌝ }
+        textBytes 0 (now (out .entry)) (now (out .exit)) r ⌝ }
 {
     let parts = lists::index(arc_swap::parts_of(labels));
     let mut stack = [0u32; imbalance::MOST_VERTICES];

@@ -3,13 +3,13 @@ use crate::text;
 use crate::text::Place;
 
 // A cut: done, and the line's one number.
-fn expect_cut(buffer: &mut [u8; 65536], place: Place, number: u32, cut: u64) -> Place {
+fn expect_cut(buffer: &mut [u8; text::BUFFER], place: Place, number: u32, cut: u64) -> Place {
     let done = text::only_if(number == 0, place);
     text::expect(buffer, done, cut)
 }
 
 pub fn edge_cut(
-    buffer: &mut [u8; 65536],
+    buffer: &mut [u8; text::BUFFER],
     place: Place,
     starts: &[u32],
     neighbours: &[u32],
@@ -21,7 +21,7 @@ pub fn edge_cut(
 }
 
 pub fn lambda_cut(
-    buffer: &mut [u8; 65536],
+    buffer: &mut [u8; text::BUFFER],
     place: Place,
     starts: &[u32],
     neighbours: &[u32],
@@ -35,7 +35,7 @@ pub fn lambda_cut(
 
 // The loads: done, and the line's sixteen numbers.
 pub fn compute_parts_load(
-    buffer: &mut [u8; 65536],
+    buffer: &mut [u8; text::BUFFER],
     place: Place,
     weights: &[u32],
     labels: &[u32],

@@ -14,6 +14,7 @@ mod text;
 
 use text::Place;
 ghost use Prim.Native.Nat.{_≤_};
+ghost use Rattle.imbalance.specs.Limit.{mostVertices};
 
 // The sign '#'.
 const COMMENT: u32 = 35;
@@ -26,12 +27,12 @@ struct Head {
     place: Place,
 }
 
-fn read_head(buffer: &mut [u8; 65536], place: Place) -> Head
-    ensures { λ r. ⌜ r .n ≤ 4096 ⌝ }
+fn read_head(buffer: &mut [u8; text::BUFFER], place: Place) -> Head
+    ensures { λ r. ⌜ r .n ≤ mostVertices ⌝ }
 {
     let code = text::read_count(buffer, place, tally::CODES - 1);
-    let n = text::read_count(buffer, code.place, 4096);
-    let a = text::read_count(buffer, n.place, 65535);
+    let n = text::read_count(buffer, code.place, imbalance::MOST_VERTICES);
+    let a = text::read_count(buffer, n.place, imbalance::MOST_ARCS);
     let place = a.place;
     Head {
         code: code.value,
@@ -43,15 +44,15 @@ fn read_head(buffer: &mut [u8; 65536], place: Place) -> Head
 
 // Reads the graph of a line and its labels into the lists.
 fn read_graph(
-    buffer: &mut [u8; 65536],
+    buffer: &mut [u8; text::BUFFER],
     head: Head,
-    weights: &mut [u32; 4096],
-    starts: &mut [u32; 4097],
-    neighbours: &mut [u32; 65535],
-    arc_weights: &mut [u32; 65535],
-    labels: &mut [u32; 4096],
+    weights: &mut [u32; imbalance::MOST_VERTICES],
+    starts: &mut [u32; imbalance::MOST_VERTICES + 1],
+    neighbours: &mut [u32; imbalance::MOST_ARCS],
+    arc_weights: &mut [u32; imbalance::MOST_ARCS],
+    labels: &mut [u32; imbalance::MOST_VERTICES],
 ) -> Place
-    requires { ⌜ head .n ≤ 4096 ⌝ }
+    requires { ⌜ head .n ≤ mostVertices ⌝ }
 {
     let n = head.n;
     let a = head.a;
@@ -73,7 +74,7 @@ fn first(list: &[u32], count: usize) -> &[u32] {
 
 // Calls the algorithm on lists of their exact lengths, and holds its answer to the rest of the line.
 fn replay_case(
-    buffer: &mut [u8; 65536],
+    buffer: &mut [u8; text::BUFFER],
     place: Place,
     code: usize,
     weights: &[u32],
@@ -112,7 +113,7 @@ fn replay_case(
 
 // The same, of the labels that are the first n of a list.
 fn replay_front(
-    buffer: &mut [u8; 65536],
+    buffer: &mut [u8; text::BUFFER],
     place: Place,
     code: usize,
     weights: &[u32],
@@ -139,14 +140,14 @@ fn replay_front(
 
 // Replays the case of one line and counts it.
 fn replay_line(
-    buffer: &mut [u8; 65536],
+    buffer: &mut [u8; text::BUFFER],
     place: Place,
     line: u64,
-    weights: &mut [u32; 4096],
-    starts: &mut [u32; 4097],
-    neighbours: &mut [u32; 65535],
-    arc_weights: &mut [u32; 65535],
-    labels: &mut [u32; 4096],
+    weights: &mut [u32; imbalance::MOST_VERTICES],
+    starts: &mut [u32; imbalance::MOST_VERTICES + 1],
+    neighbours: &mut [u32; imbalance::MOST_ARCS],
+    arc_weights: &mut [u32; imbalance::MOST_ARCS],
+    labels: &mut [u32; imbalance::MOST_VERTICES],
     agreed: &mut [u64; tally::CODES],
     differed: &mut [u64; tally::CODES],
 ) -> Place {
@@ -175,24 +176,20 @@ fn replay_line(
         n,
     );
     let ended = text::expect_end(buffer, answered);
-    if ended.ok {
-        tally::raise(agreed, code);
-    } else {
-        tally::note_difference(differed, code, line);
-    }
+    tally::count(agreed, differed, code, line, ended.ok);
     ended
 }
 
-fn by_vertex() -> [u32; 4096] {
-    [0; 4096]
+fn by_vertex() -> [u32; imbalance::MOST_VERTICES] {
+    [0; imbalance::MOST_VERTICES]
 }
 
-fn by_row() -> [u32; 4097] {
-    [0; 4097]
+fn by_row() -> [u32; imbalance::MOST_VERTICES + 1] {
+    [0; imbalance::MOST_VERTICES + 1]
 }
 
-fn by_arc() -> [u32; 65535] {
-    [0; 65535]
+fn by_arc() -> [u32; imbalance::MOST_ARCS] {
+    [0; imbalance::MOST_ARCS]
 }
 
 fn main() {

@@ -11,7 +11,7 @@ struct Word {
     place: Place,
 }
 
-fn read_setting(buffer: &mut [u8; 65536], place: Place) -> Word {
+fn read_setting(buffer: &mut [u8; text::BUFFER], place: Place) -> Word {
     let read = text::read_number(buffer, place);
     let value = read.value;
     if 4294967295 < value {
@@ -43,7 +43,7 @@ fn imbalance_of(bits: u64) -> f64 {
     f64::from_bits(bits)
 }
 
-fn read_ceiling(buffer: &mut [u8; 65536], place: Place) -> Asked {
+fn read_ceiling(buffer: &mut [u8; text::BUFFER], place: Place) -> Asked {
     let choice = read_setting(buffer, place);
     let whole = read_setting(buffer, choice.place);
     let bits = text::read_number(buffer, whole.place);
@@ -61,7 +61,7 @@ fn read_ceiling(buffer: &mut [u8; 65536], place: Place) -> Asked {
 
 // What every report has: the number, the end, the passes and the two cuts.
 fn expect_report(
-    buffer: &mut [u8; 65536],
+    buffer: &mut [u8; text::BUFFER],
     place: Place,
     number: u32,
     end: u32,
@@ -77,7 +77,7 @@ fn expect_report(
 }
 
 // All the elements of a list.
-fn expect_list(buffer: &mut [u8; 65536], place: Place, list: &[u32]) -> Place {
+fn expect_list(buffer: &mut [u8; text::BUFFER], place: Place, list: &[u32]) -> Place {
     let mut here = place;
     let mut i: usize = 0;
     while i < list.len() {
@@ -88,7 +88,7 @@ fn expect_list(buffer: &mut [u8; 65536], place: Place, list: &[u32]) -> Place {
 }
 
 // The loads of all parts.
-pub fn expect_loads(buffer: &mut [u8; 65536], place: Place, loads: Loads) -> Place {
+pub fn expect_loads(buffer: &mut [u8; text::BUFFER], place: Place, loads: Loads) -> Place {
     let at = loads.at;
     let mut here = place;
     let mut t: usize = 0;
@@ -101,7 +101,7 @@ pub fn expect_loads(buffer: &mut [u8; 65536], place: Place, loads: Loads) -> Pla
 
 // The moves made and rewound in each of the first `passes` passes.
 fn expect_rows(
-    buffer: &mut [u8; 65536],
+    buffer: &mut [u8; text::BUFFER],
     place: Place,
     made: &[u32],
     rewound: &[u32],
@@ -124,20 +124,19 @@ fn expect_rows(
     here
 }
 
-// Settings: passes, moves, bad, the ceiling. No graph of more than 512 vertices is replayed.
-fn fiduccia_mattheyses(
-    buffer: &mut [u8; 65536],
+// FM's settings, and the place past them.
+struct FmAsked {
+    settings: fiduccia_mattheyses::Settings,
     place: Place,
-    starts: &[u32],
-    neighbours: &[u32],
-    arc_weights: &[u32],
-    weights: &[u32],
-    labels: &mut [u32],
-) -> Place {
+}
+
+// Passes, moves, bad, the ceiling.
+fn read_fm_settings(buffer: &mut [u8; text::BUFFER], place: Place) -> FmAsked {
     let passes = read_setting(buffer, place);
     let moves = read_setting(buffer, passes.place);
     let bad = read_setting(buffer, moves.place);
     let asked = read_ceiling(buffer, bad.place);
+    let after = asked.place;
     let ceiling = asked.ceiling;
     let settings = fiduccia_mattheyses::Settings {
         passes: passes.value,
@@ -147,6 +146,24 @@ fn fiduccia_mattheyses(
         whole: ceiling.whole,
         imbalance: ceiling.imbalance,
     };
+    FmAsked {
+        settings,
+        place: after,
+    }
+}
+
+// FM. No graph of more than 512 vertices is replayed.
+fn fiduccia_mattheyses(
+    buffer: &mut [u8; text::BUFFER],
+    place: Place,
+    starts: &[u32],
+    neighbours: &[u32],
+    arc_weights: &[u32],
+    weights: &[u32],
+    labels: &mut [u32],
+) -> Place {
+    let asked = read_fm_settings(buffer, place);
+    let settings = asked.settings;
     let mut gains = [7i64; 512];
     let mut made = [7u32; 1024];
     let mut rewound = [7u32; 1024];
@@ -175,9 +192,32 @@ fn fiduccia_mattheyses(
     expect_list(buffer, after_rows, labels)
 }
 
-// Settings: passes, swaps, bad.
+// KL's settings, and the place past them.
+struct KlAsked {
+    settings: kernighan_lin::Settings,
+    place: Place,
+}
+
+// Passes, swaps, bad.
+fn read_kl_settings(buffer: &mut [u8; text::BUFFER], place: Place) -> KlAsked {
+    let passes = read_setting(buffer, place);
+    let swaps = read_setting(buffer, passes.place);
+    let bad = read_setting(buffer, swaps.place);
+    let after = bad.place;
+    let settings = kernighan_lin::Settings {
+        passes: passes.value,
+        swaps: swaps.value,
+        bad: bad.value,
+    };
+    KlAsked {
+        settings,
+        place: after,
+    }
+}
+
+// KL.
 fn kernighan_lin(
-    buffer: &mut [u8; 65536],
+    buffer: &mut [u8; text::BUFFER],
     place: Place,
     starts: &[u32],
     neighbours: &[u32],
@@ -185,17 +225,11 @@ fn kernighan_lin(
     weights: &[u32],
     labels: &mut [u32],
 ) -> Place {
-    let passes = read_setting(buffer, place);
-    let most = read_setting(buffer, passes.place);
-    let bad = read_setting(buffer, most.place);
-    let settings = kernighan_lin::Settings {
-        passes: passes.value,
-        swaps: most.value,
-        bad: bad.value,
-    };
-    let mut gains = [7i64; 4096];
-    let mut locks = [7u8; 4096];
-    let mut swaps = [7u32; 2048];
+    let asked = read_kl_settings(buffer, place);
+    let settings = asked.settings;
+    let mut gains = [7i64; imbalance::MOST_VERTICES];
+    let mut locks = [7u8; imbalance::MOST_VERTICES];
+    let mut swaps = [7u32; imbalance::MOST_VERTICES / 2];
     let r = kernighan_lin::kernighan_lin(
         starts,
         neighbours,
@@ -209,7 +243,7 @@ fn kernighan_lin(
     );
     let told = expect_report(
         buffer,
-        bad.place,
+        asked.place,
         r.number,
         r.end,
         r.passes,
@@ -219,7 +253,7 @@ fn kernighan_lin(
     expect_list(buffer, told, labels)
 }
 
-fn expect_counts(buffer: &mut [u8; 65536], place: Place, run: RunRecord) -> Place {
+fn expect_counts(buffer: &mut [u8; text::BUFFER], place: Place, run: RunRecord) -> Place {
     let after_attempts = text::expect(buffer, place, run.attempts);
     let after_moves = text::expect(buffer, after_attempts, run.moves);
     let after_no_gain = text::expect(buffer, after_moves, run.no_gain);
@@ -228,7 +262,7 @@ fn expect_counts(buffer: &mut [u8; 65536], place: Place, run: RunRecord) -> Plac
 
 // Settings: the ceiling, and the length of the stack, at most 65,535.
 fn arc_swap(
-    buffer: &mut [u8; 65536],
+    buffer: &mut [u8; text::BUFFER],
     place: Place,
     starts: &[u32],
     neighbours: &[u32],
@@ -237,11 +271,11 @@ fn arc_swap(
     labels: &mut [u32],
 ) -> Place {
     let asked = read_ceiling(buffer, place);
-    let room = text::read_count(buffer, asked.place, 65535);
+    let room = text::read_count(buffer, asked.place, imbalance::MOST_ARCS);
     let length = room.value;
     let ceiling = asked.ceiling;
     let settings = arc_swap::Settings { ceiling };
-    let mut stack = [7u32; 65535];
+    let mut stack = [7u32; imbalance::MOST_ARCS];
     let answer = arc_swap::arc_swap_counted(
         starts,
         neighbours,
@@ -266,9 +300,9 @@ fn arc_swap(
     expect_list(buffer, counted, labels)
 }
 
-// The refiner of this code. A code that names none is no case.
-pub fn refine(
-    buffer: &mut [u8; 65536],
+// The refiner of this code between two parts. A code that names no refiner is no case.
+fn refine_two(
+    buffer: &mut [u8; text::BUFFER],
     place: Place,
     code: usize,
     starts: &[u32],
@@ -297,7 +331,23 @@ pub fn refine(
             weights,
             labels,
         )
-    } else if code == 6 {
+    } else {
+        text::only_if(false, place)
+    }
+}
+
+// The refiner of this code.
+pub fn refine(
+    buffer: &mut [u8; text::BUFFER],
+    place: Place,
+    code: usize,
+    starts: &[u32],
+    neighbours: &[u32],
+    arc_weights: &[u32],
+    weights: &[u32],
+    labels: &mut [u32],
+) -> Place {
+    if code == 6 {
         arc_swap(
             buffer,
             place,
@@ -308,6 +358,15 @@ pub fn refine(
             labels,
         )
     } else {
-        text::only_if(false, place)
+        refine_two(
+            buffer,
+            place,
+            code,
+            starts,
+            neighbours,
+            arc_weights,
+            weights,
+            labels,
+        )
     }
 }

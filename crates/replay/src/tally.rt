@@ -4,7 +4,7 @@
 pub const CODES: usize = 7;
 
 // One more at a code's place.
-pub fn raise(counts: &mut [u64; CODES], code: usize) {
+fn raise(counts: &mut [u64; CODES], code: usize) {
     if code < CODES {
         counts[code] = std::num::wrapping_add_u64(counts[code], 1);
     }
@@ -34,13 +34,28 @@ fn print_name(code: usize) {
 }
 
 // Counts a case that differs. The first ten of an algorithm are named by their line of the input.
-pub fn note_difference(differed: &mut [u64; CODES], code: usize, line: u64) {
+fn note_difference(differed: &mut [u64; CODES], code: usize, line: u64) {
     raise(differed, code);
     if count_at(differed, code) <= 10 {
         print_name(code);
         io::write_all(1, b": line ");
         io::print_decimal(1, line);
         io::write_all(1, b" differs\n");
+    }
+}
+
+// Counts the case of a line, by whether it agrees.
+pub fn count(
+    agreed: &mut [u64; CODES],
+    differed: &mut [u64; CODES],
+    code: usize,
+    line: u64,
+    agrees: bool,
+) {
+    if agrees {
+        raise(agreed, code);
+    } else {
+        note_difference(differed, code, line);
     }
 }
 

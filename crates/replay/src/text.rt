@@ -2,6 +2,9 @@
 // What is not as it should be is noted in the place that is handed on, so that the functions that read stay free of branches.
 ghost use Prim.Native.Nat.{_≤_};
 
+// The bytes of the buffer.
+pub const BUFFER: usize = 65536;
+
 const NEWLINE: u32 = 10;
 
 const BLANK: u32 = 32;
@@ -60,12 +63,12 @@ fn widened(byte: u8) -> u32 {
 }
 
 // Looks at the next byte.
-pub fn look(buffer: &mut [u8; 65536], place: Place) -> Peek {
+pub fn look(buffer: &mut [u8; BUFFER], place: Place) -> Peek {
     let ok = place.ok;
     let at = place.at;
     let end = place.end;
     if at < end {
-        if at < 65536 {
+        if at < BUFFER {
             let byte = widened(buffer[at]);
             return Peek { byte, place };
         }
@@ -107,7 +110,7 @@ fn digit(byte: u32) -> u64 {
 }
 
 // One to twenty digits whose value fits.
-fn read_digits(buffer: &mut [u8; 65536], place: Place) -> Number {
+fn read_digits(buffer: &mut [u8; BUFFER], place: Place) -> Number {
     let mut here = place;
     let mut value: u64 = 0;
     let mut count: u32 = 0;
@@ -134,7 +137,7 @@ fn read_digits(buffer: &mut [u8; 65536], place: Place) -> Number {
 }
 
 // Past the one blank after a number; the end of a line stays unread.
-fn past_blank(buffer: &mut [u8; 65536], place: Place) -> Place {
+fn past_blank(buffer: &mut [u8; BUFFER], place: Place) -> Place {
     let next = look(buffer, place);
     if next.byte == BLANK {
         return past(next.place);
@@ -143,7 +146,7 @@ fn past_blank(buffer: &mut [u8; 65536], place: Place) -> Place {
 }
 
 // The next number of the line.
-pub fn read_number(buffer: &mut [u8; 65536], place: Place) -> Number {
+pub fn read_number(buffer: &mut [u8; BUFFER], place: Place) -> Number {
     let read = read_digits(buffer, place);
     let after = past_blank(buffer, read.place);
     Number {
@@ -153,7 +156,7 @@ pub fn read_number(buffer: &mut [u8; 65536], place: Place) -> Number {
 }
 
 // The next number of the line, which is to be at most `most`.
-pub fn read_count(buffer: &mut [u8; 65536], place: Place, most: usize) -> Count
+pub fn read_count(buffer: &mut [u8; BUFFER], place: Place, most: usize) -> Count
     ensures { λ r. ⌜ r .value ≤ most ⌝ }
 {
     let read = read_number(buffer, place);
@@ -174,7 +177,7 @@ pub fn read_count(buffer: &mut [u8; 65536], place: Place, most: usize) -> Count
 }
 
 // The next `count` numbers of the line, put at the start of the list.
-pub fn read_list(buffer: &mut [u8; 65536], place: Place, list: &mut [u32], count: usize) -> Place {
+pub fn read_list(buffer: &mut [u8; BUFFER], place: Place, list: &mut [u32], count: usize) -> Place {
     let mut here = place;
     let mut i: usize = 0;
     while i < count {
@@ -194,20 +197,20 @@ pub fn read_list(buffer: &mut [u8; 65536], place: Place, list: &mut [u32], count
 }
 
 // The next number of the line, which is to be `value`.
-pub fn expect(buffer: &mut [u8; 65536], place: Place, value: u64) -> Place {
+pub fn expect(buffer: &mut [u8; BUFFER], place: Place, value: u64) -> Place {
     let read = read_number(buffer, place);
     only_if(read.value == value, read.place)
 }
 
 // The line is to end here.
-pub fn expect_end(buffer: &mut [u8; 65536], place: Place) -> Place {
+pub fn expect_end(buffer: &mut [u8; BUFFER], place: Place) -> Place {
     let next = look(buffer, place);
     let byte = next.byte;
     only_if(byte == NEWLINE || byte == THE_END, next.place)
 }
 
 // The beginning of the next line. No line is longer than 2^40 bytes.
-pub fn next_line(buffer: &mut [u8; 65536], place: Place) -> Place {
+pub fn next_line(buffer: &mut [u8; BUFFER], place: Place) -> Place {
     let mut here = place;
     let mut passed: u64 = 0;
     while passed < 1099511627776 {

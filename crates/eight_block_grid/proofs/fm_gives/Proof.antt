@@ -1,8 +1,11 @@
 -- `eight_block_grid::fm_gives` meets its contract. Assumes nothing.
 use borrow.Author.Needs.{needs}
-use Rattle.eight_block_grid.proofs.Gives.{quarter-is, fm-gives}
+use Rattle.eight_block_grid.proofs.Gives.{fm-gives}
 use Rattle.eight_block_grid.proofs.fm_gives.Statement.{statement}
 use Rattle.eight_block_grid.proofs.fm_gives.Tie as tie
+
+fm-settings-requires : tie.Need-fm-settings-requires
+fm-settings-requires c κs = search needs
 
 slice-aggregate-with-8-moves : tie.Need-slice-aggregate-with-8-moves
 slice-aggregate-with-8-moves c = search needs
@@ -89,13 +92,16 @@ both-requires c κs = search needs
 abbrev called-of : tie.After-wide → tie.After-with-8-moves
 called-of c = search needs
 
+abbrev settled-of : tie.After-with-8-moves → tie.After-fm-settings
+settled-of c = search needs
+
 returns : tie.Need-returns
 returns c =
     let compared : tie.After-same-labels = search needs in
     let counted : tie.After-wide4 = search needs in
     let after-wide : tie.After-wide = search needs in
     let called = called-of after-wide in
-    fm-gives _ _ _ _ _ _ _ _ _ _ _ _ _ _ quarter-is (called .with-8-moves .ensures) (after-wide .wide .ensures)
+    fm-gives _ _ _ _ _ _ _ _ _ _ _ _ _ _ (settled-of called .fm-settings .ensures) (called .with-8-moves .ensures) (after-wide .wide .ensures)
     (counted .before .before .wide2 .ensures) (counted .before .wide3 .ensures) (counted .wide4 .ensures)
     (compared .same-labels .ensures) (c .before .same-numbers .ensures) (c .both .ensures)
 
@@ -103,6 +109,7 @@ pub fm-gives-spec : {M : Type 1} → statement M
 fm-gives-spec =
     tie.close
     (tie.spec
+    fm-settings-requires
     slice-aggregate-with-8-moves
     slice-aggregate-with-8-moves-2
     slice-aggregate-with-8-moves-3

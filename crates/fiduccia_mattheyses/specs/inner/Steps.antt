@@ -1,34 +1,54 @@
--- What the functions inside the entry ask and answer: a pass's row, the passes, the run.
+-- What the functions inside the entry ask and answer: what a call comes to, where a run begins, a pass's row, the passes, the run.
 use mathlib.Core.Path.{_≡_}
 use mathlib.Core.Bool.{false, cond}
 use mathlib.Core.List.{List, map}
 use Prim.Native.Nat.{ℕ, _+_, _-_, _≤_, _<_}
 use lib.ListN.{length, set, drop}
-use lib.Dec.{leb}
+use lib.Dec.{leb, eqb}
 use lib.IntN.{ℤ}
 use Rattle.lists.specs.Fill.{table, over}
-use Rattle.imbalance.specs.Limit.{mostVertices, labelAbove}
-use Rattle.imbalance.specs.Ceiling.{unfitChoice}
+use Rattle.lists.specs.Sum.{total}
+use Rattle.imbalance.specs.Limit.{mostVertices, mostPasses, labelAbove}
+use Rattle.imbalance.specs.Ceiling.{unfitChoice, ceilings}
 use Rattle.topology.specs.Rule.{Sound}
-use Rattle.imbalance.specs.Load.{load}
+use Rattle.imbalance.specs.Load.{load, loadsOf}
 use Rattle.topology.specs.Cut.{cut}
 use Rattle.fiduccia_mattheyses_pass.specs.Choice.{Terms}
 use Rattle.fiduccia_mattheyses_pass.specs.Pass.{Pass}
 use Rattle.fiduccia_mattheyses_pass.specs.declared.Move.{Move}
 use Rattle.fiduccia_mattheyses.specs.declared.Ended.{Ended}
-use Rattle.fiduccia_mattheyses.specs.declared.Course.{Course}
-use Rattle.fiduccia_mattheyses.specs.declared.Course.the-variants.{Ends, GoesOn}
+use Rattle.fiduccia_mattheyses.specs.declared.Begun.{Begun}
+use Rattle.fiduccia_mattheyses.specs.declared.Call.{Call}
+use Rattle.fiduccia_mattheyses.specs.declared.Call.the-variants.{Answered, Runs}
 use Rattle.fiduccia_mattheyses.specs.Run.{run}
 use Rattle.topology.specs.Given.{graphOf}
 use Rattle.fiduccia_mattheyses.specs.Entry.{Given, Lent, askedCeiling, reportOf, leftBy}
 use Rattle.fiduccia_mattheyses.specs.declared.Report.{Report}
 use Rattle.fiduccia_mattheyses_pass.specs.inner.Steps.{PassAsked}
 
+-- what a call of so many vertices and this number comes to
+unfoldable pub callOf : ℕ → ℕ → Call
+callOf n number = cond (eqb n 0) (Answered 0 3) (cond (eqb number 0) Runs (Answered number 0))
+
+-- What beginning a run asks: none of the numbers 1 to 7.
+pub record Beginnable (p : Given) (labels : List ℕ) : Type 0 where
+  pub sound : Sound (length labels) (p .weights) (graphOf p)
+  pub labelled : labelAbove 1 labels ≡ false
+  pub fit : unfitChoice (askedCeiling (p .settings)) ≡ false
+
+-- What a run begins with: the ceilings, the limits of the settings, and the loads and the cut of the labels.
+pub record Begins (p : Given) (labels : List ℕ) (b : Begun) : Type 0 where
+  pub capped : b .limits .ceilings .at ≡ ceilings (table 16 (load (p .weights) labels)) (total (p .weights)) 2 (askedCeiling (p .settings))
+  pub bad-is : b .limits .bad ≡ p .settings .bad
+  pub moves-are : b .limits .moves ≡ p .settings .moves
+  pub loaded : b .loads ≡ loadsOf (p .weights) labels
+  pub cut-is : b .cut ≡ cut (graphOf p) labels
+
 -- What a pass's row asks: a place in both lists, and counts that fit.
 pub record RowAsked (rows-made rows-rewound : List ℕ) (passes made kept : ℕ) : Type 0 where
   pub in-made : passes < length rows-made
   pub in-rewound : passes < length rows-rewound
-  pub few-passes : passes < 1024
+  pub few-passes : passes < mostPasses
   pub few : made ≤ mostVertices
   pub kept-within : kept ≤ made
 
@@ -38,16 +58,16 @@ pub record RowDone (rows-made rows-rewound : List ℕ) (passes made kept : ℕ) 
   pub rewound-are : rows-rewound′ ≡ set rows-rewound passes (made - kept)
   pub passes-are : r ≡ passes + 1
 
--- how a run stands after a pass: "1 gainless pass (also when it was the last allowed)", "0 pass limit"
-unfoldable pub courseOf : ℕ → ℕ → ℕ → ℕ → Course
-courseOf before after passes limit = cond (leb before after) (Ends 1) (cond (leb limit passes) (Ends 0) GoesOn)
+-- how a pass leaves the run: "1 gainless pass (also when it was the last allowed)"; else 0, and the run may go on up to its "pass limit"
+unfoldable pub endBy : ℕ → ℕ → ℕ
+endBy before after = cond (leb before after) 1 0
 
 -- What the passes ask besides: room for a row a pass.
 pub record PassesAsked (s : Terms) (limit : ℕ) (labels : List ℕ) (gains : List ℤ) (moves : List Move) (made rewound loads : List ℕ) (cut₀ : ℕ) : Type 0 where
   pub begun : PassAsked s labels gains moves loads cut₀
   pub in-made : limit ≤ length made
   pub in-rewound : limit ≤ length rewound
-  pub few-passes : limit ≤ 1024
+  pub few-passes : limit ≤ mostPasses
 
 -- What the passes answer: the defined run from p, its rows written, the cut and the loads of the labels left.
 pub record PassesDone (s : Terms) (limit : ℕ) (p : List ℕ) (moves₀ : List Move) (made₀ rewound₀ labels : List ℕ) (moves : List Move) (made rewound : List ℕ) (r : Ended) : Type 0 where
@@ -64,10 +84,8 @@ pub record PassesDone (s : Terms) (limit : ℕ) (p : List ℕ) (moves₀ : List 
 -- What the run asks: a vertex, and no number that applies.
 pub record Ready (p : Given) (l : Lent) : Type 0 where
   pub a-vertex : 0 < length (l .labels)
-  pub sound : Sound (length (l .labels)) (p .weights) (graphOf p)
-  pub labelled : labelAbove 1 (l .labels) ≡ false
-  pub few-passes : p .settings .passes ≤ 1024
-  pub fit : unfitChoice (askedCeiling (p .settings)) ≡ false
+  pub beginnable : Beginnable p (l .labels)
+  pub few-passes : p .settings .passes ≤ mostPasses
   pub in-gains : length (l .labels) ≤ length (l .gains)
   pub in-moves : length (l .labels) ≤ length (l .moves)
   pub in-made : p .settings .passes ≤ length (l .made)
