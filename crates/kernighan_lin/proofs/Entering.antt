@@ -7,7 +7,6 @@ use native.Mathlib.Omega.{arith}
 use lib.ListN.{length, getD, drop, length-append, length-drop}
 use lib.Seq.{ext-getD, getD-append-add, getD-drop}
 use lib.Dec.{ltb, eqb}
-use lib.IntN.{pos}
 use borrow.Author.Tests.{eq-eqb, ne-eqb, eqb-true, ltb-true, ltb-false, not-false}
 use Rattle.lists.specs.Sum.{weigh}
 use Rattle.lists.specs.All.{any}
@@ -21,10 +20,9 @@ use Rattle.imbalance.specs.Limit.{mostPasses, labelAbove}
 use Rattle.imbalance.specs.Load.{part}
 use Rattle.topology.specs.Rule.{graphNumber}
 use Rattle.topology.proofs.Numbers.{sound}
-use Rattle.kernighan_lin_pass.specs.inner.Steps.{Fit}
 use Rattle.topology.specs.Given.{graphOf}
-use Rattle.kernighan_lin.specs.Entry.{Given, Lent, uses, different, mislabelled, lengthsOf, short, numberOf, number, termsOf, runOf, reportOf, refused, leftBy, answer, left, Refined}
-use Rattle.kernighan_lin.specs.inner.Steps.{PassesDone}
+use Rattle.kernighan_lin.specs.Entry.{Given, Lent, uses, different, mislabelled, lengthsOf, short, numberOf, number, runOf, reportOf, refused, leftBy, answer, left, Refined}
+use Rattle.kernighan_lin.specs.inner.Steps.{Ready, Ran}
 use Rattle.kernighan_lin.specs.declared.Report.{Report}
 
 -- without a vertex there is no label
@@ -34,16 +32,8 @@ none-used labels e =
     sum-ext 16 (λ t. weigh (any (length labels) (λ v. eqb (part labels v) t)) 1) (λ t. 0) (λ t l. rw (e, any-none (λ v. eqb (part labels v) t)))
     ∙ sum-zero 16
 
--- what number 0 tells
-pub record Ready (p : Given) (l : Lent) : Type 0 where
-  pub fit : Fit (length (l .labels)) (graphOf p)
-  pub a-vertex : 0 < length (l .labels)
-  pub few-passes : p .settings .passes ≤ mostPasses
-  pub in-gains : length (l .labels) ≤ length (l .gains)
-  pub in-locks : length (l .labels) ≤ length (l .locks)
-  pub in-swaps : length (l .labels) / 2 ≤ length (l .swaps)
-
-pub ready : (p : Given) (l : Lent) (k : ℕ) → k ≡ number p l → k ≡ 0 → Ready p l
+-- what number 0 gives to the run; that it is given exactly where every rule is kept is in Refusals.antt
+pub ready : (p : Given) (l : Lent) (k : ℕ) → k ≡ number p l → k ≡ 0 → Ready (graphOf p) (p .settings) l
 unfolding numberOf mislabelled short
 ready p l k e z =
     let n = length (l .labels) in
@@ -106,19 +96,15 @@ at-refusal p l r k e u f =
     let v = ne-eqb (number p l) 0 (λ q. u (e ∙ q)) in
     record { answered = rw v (f ∙ ap refused e); labels = rw v refl; gains = rw v refl; locks = rw v refl; swaps = rw v refl }
 
-pub at-run : (p : Given) (l : Lent) (r : Report) (m : Lent) (k : ℕ) → k ≡ number p l → k ≡ 0
-    → PassesDone (termsOf p l) (p .settings .swaps) (p .settings .passes) (l .labels) r (m .labels)
-    → m .gains ≡ filled (pos 0) (length (l .labels)) (l .gains)
-    → m .locks ≡ filled 0 (length (l .labels)) (l .locks)
-    → m .swaps ≡ filled 0 (length (l .labels) / 2) (l .swaps)
-    → Refined p l r m
+pub at-run : (p : Given) (l : Lent) (r : Report) (m : Lent) (k : ℕ) → k ≡ number p l → k ≡ 0 → Ran (graphOf p) (p .settings) l r m → Refined p l r m
 unfolding answer left reportOf leftBy runOf
-at-run p l r m k e z d a b c =
+at-run p l r m k e z h =
     let v = eq-eqb (number p l) 0 (sym e ∙ z) in
+    let d = h .passed in
     record {
       answered = rw v (same-report (d .number-is) (d .end-is) (d .passes-are) (d .first-is) (d .last-is));
       labels = rw v (d .labels-are);
-      gains = rw v a;
-      locks = rw v b;
-      swaps = rw v c;
+      gains = rw v (h .gains);
+      locks = rw v (h .locks);
+      swaps = rw v (h .swaps);
     }

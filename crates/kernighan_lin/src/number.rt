@@ -1,5 +1,6 @@
 // The number of a call. Document 01, "Numbers a call gives back".
 ghost use mathlib.Core.Path.{_≡_};
+ghost use lib.ListN.{length};
 ghost use Rattle.topology.specs.Graph.{inRows};
 ghost use Rattle.kernighan_lin.specs.Entry.{uses, different, mislabelled, short, numberOf};
 use crate::Lengths;
@@ -41,6 +42,17 @@ fn mislabels(labels: &[u32]) -> bool
         return true;
     }
     different_labels(labels) != 2
+}
+
+// The lengths of the lent lists.
+pub fn lengths_of(gains: &[i64], locks: &[u8], swaps: &[u32]) -> Lengths
+    ensures { λ r. ⌜ r ≡ record { gains = length (now (gains .entry)); locks = length (now (locks .entry)); swaps = length (now (swaps .entry)) } ⌝ }
+{
+    Lengths {
+        gains: gains.len(),
+        locks: locks.len(),
+        swaps: swaps.len(),
+    }
 }
 
 // Number 8's test, of the lengths of the lent lists.

@@ -16,8 +16,9 @@ use Rattle.topology.specs.Graph.{Graph}
 use Rattle.topology.specs.Cut.{cut}
 use Rattle.kernighan_lin_pass.specs.Gain.{added, updated}
 use Rattle.kernighan_lin_pass.specs.Pass.{Terms, Swap, State, swapped, start, pair, after, next, walk}
-use Rattle.kernighan_lin_pass.specs.inner.Steps.{Fit, Within, freshBound, swapBound, mostSwaps, mostGain, pairAt, codeOf, swapOf, Coded, back, WalkAsked, WalkDone}
+use Rattle.kernighan_lin_pass.specs.inner.Steps.{Fit, Within, freshBound, swapBound, mostSwaps, mostGain, pairAt, codeOf, swapOf, Coded, back, WalkAsked, counted, WalkDone}
 use Rattle.kernighan_lin_pass.specs.declared.choose.Pair.{Pair}
+use Rattle.kernighan_lin_pass.specs.declared.pass.Walked.{Walked}
 use Rattle.kernighan_lin_pass.proofs.Within.{table-within, added-within, updated-within}
 use Rattle.kernighan_lin_pass.proofs.Pairs.{largest-in, pair-in}
 use Rattle.kernighan_lin_pass.proofs.Swaps.{length-swapped}
@@ -65,24 +66,24 @@ answer-some s p before locks r e q = go (pair s p before locks) e
     go none g = absurd (q (ap (λ (x : Pair). x .one) g))
     go (some t) g = rw g refl
 
--- Where the code stands after k swaps.
-pub record On (s : Terms) (limit : ℕ) (p₀ : List ℕ) (k : ℕ) (labels : List ℕ) (gains : List ℤ) (locks codes : List ℕ) (cur least kept : ℕ) : Type 0 where
-  pub upto : k ≤ limit
+-- Where the code stands after the swaps that it has made.
+pub record On (s : Terms) (limit : ℕ) (p₀ labels : List ℕ) (gains : List ℤ) (locks codes : List ℕ) (cur : ℕ) (w : Walked) : Type 0 where
+  pub upto : w .made ≤ limit
   pub long : length labels ≡ length p₀
   pub gains-long : length gains ≡ length p₀
   pub locks-long : length locks ≡ length p₀
-  pub within : Within (swapBound * k) gains
+  pub within : Within (swapBound * w .made) gains
   pub cur-is : cur ≡ cut (s .graph) labels
   pub best : List ℕ
-  pub least-is : least ≡ cut (s .graph) best
-  pub kept-upto : kept ≤ k
-  pub coded : Coded (length p₀) k codes
-  pub back-is : back codes k (k - kept) labels ≡ best
-  pub rest : walk s (limit - k) (record { labels = labels; gains = gains; locks = locks; made = k; kept = best }) ≡ walk s limit (start s p₀)
+  pub least-is : w .least ≡ cut (s .graph) best
+  pub kept-upto : w .kept ≤ w .made
+  pub coded : Coded (length p₀) (w .made) codes
+  pub back-is : back codes (w .made) (w .made - w .kept) labels ≡ best
+  pub rest : walk s (limit - w .made) (record { labels = labels; gains = gains; locks = locks; made = w .made; kept = best }) ≡ walk s limit (start s p₀)
 
 module _ (s : Terms) (limit : ℕ) (p₀ : List ℕ) (fit : Fit (length p₀) (s .graph)) where
   -- before the first swap
-  pub on-start : (gains : List ℤ) (locks codes : List ℕ) (places before : ℕ) → WalkAsked s p₀ gains locks places limit before → On s limit p₀ 0 p₀ gains locks codes before before 0
+  pub on-start : (gains : List ℤ) (locks codes : List ℕ) (places before : ℕ) → WalkAsked s p₀ gains locks places limit before → On s limit p₀ p₀ gains locks codes before (record { made = 0; kept = 0; least = before })
   unfolding start
   on-start gains locks codes places before h =
       record {
@@ -100,7 +101,10 @@ module _ (s : Terms) (limit : ℕ) (p₀ : List ℕ) (fit : Fit (length p₀) (s
         rest = let r : limit - 0 ≡ limit = omega arith in rw (r, h .gains-are, h .locks-are);
       }
 
-  module _ (k : ℕ) (labels : List ℕ) (gains : List ℤ) (locks codes : List ℕ) (cur least kept : ℕ) (on : On s limit p₀ k labels gains locks codes cur least kept) where
+  module _ (labels : List ℕ) (gains : List ℤ) (locks codes : List ℕ) (cur : ℕ) (w : Walked) (on : On s limit p₀ labels gains locks codes cur w) where
+    abbrev k : ℕ
+    k = w .made
+
     abbrev here : State
     here = record { labels = labels; gains = gains; locks = locks; made = k; kept = on .best }
 
@@ -110,7 +114,7 @@ module _ (s : Terms) (limit : ℕ) (p₀ : List ℕ) (fit : Fit (length p₀) (s
     pub gains-small : limit ≤ mostSwaps → Within mostGain gains
     gains-small few u = let k′ = on .upto in omega (arith, on .within u)
 
-    ended : (labels′ : List ℕ) → labels′ ≡ labels → here ≡ walk s limit (start s p₀) → WalkDone s limit p₀ labels′ codes (record { made = k; kept = kept; least = least })
+    ended : (labels′ : List ℕ) → labels′ ≡ labels → here ≡ walk s limit (start s p₀) → WalkDone s limit p₀ labels′ codes w
     ended labels′ f e =
         let b : on .best ≡ walk s limit (start s p₀) .kept = ap (λ (x : State). x .kept) e in
         record {
@@ -118,16 +122,16 @@ module _ (s : Terms) (limit : ℕ) (p₀ : List ℕ) (fit : Fit (length p₀) (s
           kept-upto = on .kept-upto;
           coded = on .coded;
           long = ap length f ∙ on .long;
-          back-is = ap (back codes k (k - kept)) f ∙ on .back-is ∙ b;
+          back-is = ap (back codes k (k - w .kept)) f ∙ on .back-is ∙ b;
           least-is = on .least-is ∙ ap (cut (s .graph)) b;
         }
 
     -- the swaps are all made
-    pub on-full : limit ≤ k → WalkDone s limit p₀ labels codes (record { made = k; kept = kept; least = least })
+    pub on-full : limit ≤ k → WalkDone s limit p₀ labels codes w
     on-full l = let r : limit - k ≡ 0 = omega arith in ended labels refl (sym (walk-none s (limit - k) here r) ∙ on .rest)
 
     -- or there is no pair
-    pub on-none : pair s labels gains locks ≡ none → WalkDone s limit p₀ labels codes (record { made = k; kept = kept; least = least })
+    pub on-none : pair s labels gains locks ≡ none → WalkDone s limit p₀ labels codes w
     on-none e = ended labels refl (sym (walk-stop s (limit - k) here e) ∙ on .rest)
 
     module _ (lk : k < limit) (t : Swap) (e : pair s labels gains locks ≡ some t) (few : length p₀ ≤ mostVertices) (places : k < length codes) where
@@ -166,34 +170,38 @@ module _ (s : Terms) (limit : ℕ) (p₀ : List ℕ) (fit : Fit (length p₀) (s
           two i l false q = let ne = eqb-false i k q in rw (getD-set-other codes k i (codeOf t) 0 ne) (on .coded .two i (omega (arith, ne)))
 
       -- undoing this swap too
-      back-old : back codes′ (k + 1) (k + 1 - kept) labels′ ≡ on .best
+      back-old : back codes′ (k + 1) (k + 1 - w .kept) labels′ ≡ on .best
       back-old =
           let u = on .kept-upto in
-          back-more codes′ k (k - kept) (k + 1 - kept) labels′ (omega arith)
-          ∙ ap (back codes′ k (k - kept)) (ap (swapped labels′) here-is ∙ swap-twice labels t (below .0) (below .1))
-          ∙ back-same codes′ codes k (k - kept) labels (omega arith) (λ i l. getD-set-other codes k i (codeOf t) 0 (λ q. omega arith))
+          back-more codes′ k (k - w .kept) (k + 1 - w .kept) labels′ (omega arith)
+          ∙ ap (back codes′ k (k - w .kept)) (ap (swapped labels′) here-is ∙ swap-twice labels t (below .0) (below .1))
+          ∙ back-same codes′ codes k (k - w .kept) labels (omega arith) (λ i l. getD-set-other codes k i (codeOf t) 0 (λ q. omega arith))
           ∙ on .back-is
 
-      module _ (cur′ : ℕ) (now : cur′ ≡ cut (s .graph) labels′) (b : Bool) (test : eqb k 0 || ltb cur′ least ≡ b) where
-        least′ : (b : Bool) → cond b cur′ least ≡ cut (s .graph) (cond b labels′ (on .best))
+      module _ (cur′ : ℕ) (now : cur′ ≡ cut (s .graph) labels′) where
+        abbrev lower : Bool
+        lower = eqb k 0 || ltb cur′ (w .least)
+
+        least′ : (b : Bool) → cond b cur′ (w .least) ≡ cut (s .graph) (cond b labels′ (on .best))
         least′ true = now
         least′ false = on .least-is
 
-        upto′ : (b : Bool) → cond b (k + 1) kept ≤ k + 1
+        upto′ : (b : Bool) → cond b (k + 1) (w .kept) ≤ k + 1
         upto′ true = omega arith
         upto′ false = omega (arith, on .kept-upto)
 
-        back′ : (b : Bool) → back codes′ (k + 1) (k + 1 - cond b (k + 1) kept) labels′ ≡ cond b labels′ (on .best)
+        back′ : (b : Bool) → back codes′ (k + 1) (k + 1 - cond b (k + 1) (w .kept)) labels′ ≡ cond b labels′ (on .best)
         back′ true = back-none codes′ (k + 1) (k + 1 - (k + 1)) labels′ (omega arith)
         back′ false = back-old
 
-        after-is : after s here t ≡ record { labels = labels′; gains = gains′; locks = locks′; made = k + 1; kept = cond b labels′ (on .best) }
+        after-is : after s here t ≡ record { labels = labels′; gains = gains′; locks = locks′; made = k + 1; kept = cond lower labels′ (on .best) }
         unfolding after
         after-is =
-            let q : eqb k 0 || ltb (cut (s .graph) labels′) (cut (s .graph) (on .best)) ≡ b = rw (now, on .least-is) at test in
+            let q : eqb k 0 || ltb (cut (s .graph) labels′) (cut (s .graph) (on .best)) ≡ lower = rw (now, on .least-is) in
             ap (λ (x : Bool). record { labels = labels′; gains = gains′; locks = locks′; made = k + 1; kept = cond x labels′ (on .best) }) q
 
-        on-swap : On s limit p₀ (k + 1) labels′ gains′ locks′ codes′ cur′ (cond b cur′ least) (cond b (k + 1) kept)
+        on-swap : On s limit p₀ labels′ gains′ locks′ codes′ cur′ (counted w cur′)
+        unfolding counted
         on-swap =
             record {
               upto = omega arith;
@@ -202,11 +210,11 @@ module _ (s : Terms) (limit : ℕ) (p₀ : List ℕ) (fit : Fit (length p₀) (s
               locks-long = length-set (set locks (t .one) 1) (t .two) 1 ∙ length-set locks (t .one) 1 ∙ on .locks-long;
               within = λ u. omega (arith, updated-within (s .graph) labels fit-now (swapBound * k + freshBound) (added (s .graph) labels gains) (added-within (s .graph) labels fit-now (swapBound * k) gains (on .within)) (t .one) (below .0) u);
               cur-is = now;
-              best = cond b labels′ (on .best);
-              least-is = least′ b;
-              kept-upto = upto′ b;
+              best = cond lower labels′ (on .best);
+              least-is = least′ lower;
+              kept-upto = upto′ lower;
               coded = coded′;
-              back-is = back′ b;
+              back-is = back′ lower;
               rest =
                   let n : limit - k ≡ suc (limit - (k + 1)) = omega arith in
                   ap (walk s (limit - (k + 1))) (sym after-is)
@@ -216,5 +224,5 @@ module _ (s : Terms) (limit : ℕ) (p₀ : List ℕ) (fit : Fit (length p₀) (s
             }
 
         -- the same of lists and numbers that are these
-        pub on-next : (labels″ : List ℕ) (gains″ : List ℤ) (locks″ codes″ : List ℕ) (least″ kept″ : ℕ) → labels″ ≡ labels′ → gains″ ≡ gains′ → locks″ ≡ locks′ → codes″ ≡ codes′ → least″ ≡ cond b cur′ least → kept″ ≡ cond b (k + 1) kept → On s limit p₀ (k + 1) labels″ gains″ locks″ codes″ cur′ least″ kept″
-        on-next labels″ gains″ locks″ codes″ least″ kept″ a c d e f g = rw (a, c, d, e, f, g) on-swap
+        pub on-next : (labels″ : List ℕ) (gains″ : List ℤ) (locks″ codes″ : List ℕ) (w″ : Walked) → labels″ ≡ labels′ → gains″ ≡ gains′ → locks″ ≡ locks′ → codes″ ≡ codes′ → w″ ≡ counted w cur′ → On s limit p₀ labels″ gains″ locks″ codes″ cur′ w″
+        on-next labels″ gains″ locks″ codes″ w″ a c d e f = rw (a, c, d, e, f) on-swap

@@ -5,3 +5,9 @@ mod pass;
 mod swap;
 
 pub use pass::make_pass;
+
+// What bounds the swaps of a pass: the bad limit, and the most swaps.
+pub struct Limits {
+    pub bad: u32,
+    pub swaps: usize,
+}

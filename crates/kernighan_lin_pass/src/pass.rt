@@ -1,15 +1,16 @@
 // A pass: its swaps, and the rewind. Document 01, "KL".
+use crate::Limits;
 use crate::choose;
 use crate::swap;
 ghost use mathlib.Core.Path.{_≡_};
 ghost use mathlib.Core.Bool.{_||_};
-ghost use Prim.Native.Nat.{_-_, _≤_};
+ghost use Prim.Native.Nat.{_-_, _<_, _≤_};
 ghost use lib.ListN.{length};
 ghost use lib.Dec.{ltb, eqb};
 ghost use Rattle.topology.specs.Graph.{inRows};
 ghost use Rattle.topology.specs.Cut.{cut};
 ghost use Rattle.kernighan_lin_pass.specs.Pass.{start, walk};
-ghost use Rattle.kernighan_lin_pass.specs.inner.Steps.{Fit, Coded, WalkAsked, WalkDone, LentLong, termsBy, back};
+ghost use Rattle.kernighan_lin_pass.specs.inner.Steps.{Fit, Coded, WalkAsked, WalkDone, LentLong, mostSwaps, counted, termsBy, back};
 
 // The swaps made, how many of them are kept, and the cut after those.
 pub struct Walked {
@@ -18,17 +19,42 @@ pub struct Walked {
     pub least: u64,
 }
 
-// Whether the cut after swap k, counted from 0, is the one to rewind to: the first, or a lower one.
-fn lower(k: usize, after: u64, least: u64) -> bool
-    ensures { λ r. ⌜ r ≡ eqb k 0 || ltb after least ⌝ }
+// What a walk begins with: no swap is made, and the cut is the one before the pass.
+fn begin_walk(before: u64) -> Walked
+    ensures { λ r. ⌜ r ≡ record { made = 0; kept = 0; least = before } ⌝ }
 {
-    if k == 0 {
-        return true;
+    Walked {
+        made: 0,
+        kept: 0,
+        least: before,
     }
-    after < least
 }
 
-// The swaps of a pass, at most `limit` of them.
+// Whether the cut after one more swap is the one to rewind to: the first, or a lower one.
+fn lower(walked: Walked, after: u64) -> bool
+    ensures { λ r. ⌜ r ≡ eqb (walked .made) 0 || ltb after (walked .least) ⌝ }
+{
+    if walked.made == 0 {
+        return true;
+    }
+    after < walked.least
+}
+
+// One more swap, and the cut after it.
+fn count_swap(walked: Walked, after: u64) -> Walked
+    requires { ⌜ walked .made < mostSwaps ⌝ }
+    ensures { λ r. ⌜ r ≡ counted walked after ⌝ }
+{
+    let mut next = walked;
+    next.made = walked.made + 1;
+    if lower(walked, after) {
+        next.kept = next.made;
+        next.least = after;
+    }
+    next
+}
+
+// The swaps of a pass, within its limits.
 fn walk_swaps(
     starts: &[u32],
     neighbours: &[u32],
@@ -38,19 +64,15 @@ fn walk_swaps(
     locks: &mut [u8],
     swaps: &mut [u32],
     first: u32,
-    bad: u32,
-    limit: usize,
+    limits: Limits,
     before: u64,
 ) -> Walked
-    requires { ⌜ WalkAsked (termsBy (inRows (now starts) (now neighbours) (now «arc_weights»)) first bad) (now labels) (now gains) (now locks) (length (now swaps)) limit before ⌝ }
-    ensures { λ r. ⌜ WalkDone (termsBy (inRows (now (starts .entry)) (now (neighbours .entry)) (now («arc_weights» .entry))) first bad) limit (now (labels .entry)) (now (labels .exit)) (now (swaps .exit)) r ⌝ }
+    requires { ⌜ WalkAsked (termsBy (inRows (now starts) (now neighbours) (now «arc_weights»)) first (limits .bad)) (now labels) (now gains) (now locks) (length (now swaps)) (limits .swaps) before ⌝ }
+    ensures { λ r. ⌜ WalkDone (termsBy (inRows (now (starts .entry)) (now (neighbours .entry)) (now («arc_weights» .entry))) first (limits .bad)) (limits .swaps) (now (labels .entry)) (now (labels .exit)) (now (swaps .exit)) r ⌝ }
 {
-    let n = labels.len();
     let mut after = before;
-    let mut least = before;
-    let mut kept: usize = 0;
-    let mut k: usize = 0;
-    while k < limit {
+    let mut walked = begin_walk(before);
+    while walked.made < limits.swaps {
         let pair = choose::choose_pair(
             starts,
             neighbours,
@@ -59,30 +81,18 @@ fn walk_swaps(
             gains,
             locks,
             first,
-            bad,
+            limits.bad,
         );
         let v = pair.one;
         let w = pair.two;
-        if v == n {
-            return Walked {
-                made: k,
-                kept,
-                least,
-            };
+        if v == labels.len() {
+            return walked;
         }
         after = swap::swap_pair(starts, neighbours, arc_weights, labels, v, w, after);
-        swap::note(locks, swaps, k, v, w);
-        if lower(k, after, least) {
-            least = after;
-            kept = k + 1;
-        }
-        k += 1;
+        swap::note(locks, swaps, walked.made, v, w);
+        walked = count_swap(walked, after);
     }
-    Walked {
-        made: k,
-        kept,
-        least,
-    }
+    walked
 }
 
 // The swaps past those kept are undone, the last first.
@@ -107,13 +117,12 @@ pub fn make_pass(
     locks: &mut [u8],
     swaps: &mut [u32],
     first: u32,
-    bad: u32,
-    limit: usize,
+    limits: Limits,
     before: u64,
 ) -> u64
-    requires { ⌜ Fit (length (now labels)) (inRows (now starts) (now neighbours) (now «arc_weights»)) × LentLong (now labels) (now gains) (now locks) (length (now swaps)) limit × (before ≡ cut (inRows (now starts) (now neighbours) (now «arc_weights»)) (now labels)) ⌝ }
-    ensures { λ r. ⌜ (let g = inRows (now (starts .entry)) (now (neighbours .entry)) (now («arc_weights» .entry)) in let s = termsBy g first bad in
-        (now (labels .exit) ≡ walk s limit (start s (now (labels .entry))) .kept) × (r ≡ cut g (now (labels .exit)))) ⌝ }
+    requires { ⌜ Fit (length (now labels)) (inRows (now starts) (now neighbours) (now «arc_weights»)) × LentLong (now labels) (now gains) (now locks) (length (now swaps)) (limits .swaps) × (before ≡ cut (inRows (now starts) (now neighbours) (now «arc_weights»)) (now labels)) ⌝ }
+    ensures { λ r. ⌜ (let g = inRows (now (starts .entry)) (now (neighbours .entry)) (now («arc_weights» .entry)) in let s = termsBy g first (limits .bad) in
+        (now (labels .exit) ≡ walk s (limits .swaps) (start s (now (labels .entry))) .kept) × (r ≡ cut g (now (labels .exit)))) ⌝ }
 {
     let n = labels.len();
     lists::clear_gains(gains, n);
@@ -127,8 +136,7 @@ pub fn make_pass(
         locks,
         swaps,
         first,
-        bad,
-        limit,
+        limits,
         before,
     );
     let kept = walked.kept;

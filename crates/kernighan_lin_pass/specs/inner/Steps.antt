@@ -1,10 +1,11 @@
 -- What the inner functions ask and promise.
 use mathlib.Core.Path.{_≡_}
-use mathlib.Core.Bool.{true}
+use mathlib.Core.Bool.{true, cond, _||_}
 use mathlib.Core.List.{List}
 use mathlib.Core.Option.{Option, none, some}
 use Prim.Native.Nat.{ℕ, zero, suc, _+_, _-_, _*_, _/_, _%_, _^_, _≤_, _<_}
 use lib.ListN.{length, getD}
+use lib.Dec.{ltb, eqb}
 use lib.IntN.{ℤ, pos}
 use lib.Signed.{mag}
 use Rattle.lists.specs.Sum.{total}
@@ -86,6 +87,12 @@ pub record Coded (n m : ℕ) (codes : List ℕ) : Type 0 where
 unfoldable pub back : List ℕ → ℕ → ℕ → List ℕ → List ℕ
 back codes m zero p = p
 back codes m (suc j) p = back codes (m - 1) j (swapped p (swapOf (getD codes (m - 1) 0)))
+
+-- the walk after one more swap, which leaves this cut: it is the one to rewind to where it is the first, or a lower one
+unfoldable pub counted : Walked → ℕ → Walked
+counted w after =
+    let lower = eqb (w .made) 0 || ltb after (w .least) in
+    record { made = w .made + 1; kept = cond lower (w .made + 1) (w .kept); least = cond lower after (w .least) }
 
 -- What the swaps of a pass start from: gains and locks at 0, room for the swaps, and the cut.
 pub record WalkAsked (s : Terms) (p : List ℕ) (gains : List ℤ) (locks : List ℕ) (places limit before : ℕ) : Type 0 where
