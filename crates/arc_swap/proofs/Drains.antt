@@ -13,7 +13,7 @@ use Rattle.topology.specs.Graph.{first, past, gain}
 use Rattle.topology.specs.Cut.{cut}
 use Rattle.topology.proofs.Moves.{cut-move}
 use Rattle.arc_swap_attempt.specs.Trial.{trial}
-use Rattle.arc_swap_attempt.specs.inner.Steps.{stacked, pushedBy, Tryable, MoveAsked, MoveDone}
+use Rattle.arc_swap_attempt.specs.inner.Steps.{stacked, pushedBy, Tryable, Aimed, MoveAsked, Moved, MoveDone}
 use Rattle.arc_swap_attempt.specs.declared.Standing.{Standing}
 use Rattle.arc_swap_attempt.specs.declared.Trial.{Trial}
 use Rattle.arc_swap_attempt.specs.declared.Trial.the-variants.{NoGain, BadBalance, Goes}
@@ -23,7 +23,7 @@ use Rattle.arc_swap_attempt.proofs.Moving.{named-move}
 use Rattle.arc_swap.specs.declared.RunRecord.{RunRecord}
 use Rattle.arc_swap.specs.declared.Attempted.{Attempted}
 use Rattle.arc_swap.specs.Run.{Terms, noted, after, attempt, drain, Summed}
-use Rattle.arc_swap.specs.inner.Steps.{Fixed, Inside, Ordered, at, standing, spent, most, Asked, Done, AttemptAsked, AttemptDone}
+use Rattle.arc_swap.specs.inner.Steps.{Fixed, Inside, Ordered, at, standing, spent, most, Asked, Done, AttemptAsked, popped, AttemptDone}
 use Rattle.arc_swap.proofs.Spreads.{inside-both, inside-top, inside-rest, pushed-few, pushed-inside, row-few}
 
 -- ---- the definition, step by step
@@ -65,11 +65,11 @@ module _ (s : Terms) (p stack : List ℕ) (c : Standing) (ask : AttemptAsked s p
   top-is : c .top ≡ c .top - 1 + 1
   top-is = omega (arith, ask .some)
 
-  pub popped : stacked stack (c .top) ≡ v ∷ stacked stack (c .top - 1)
-  popped = stacked-pop stack (c .top - 1) (c .top) top-is ∙ ap (λ (x : ℕ). x ∷ stacked stack (c .top - 1)) (sym v-is)
+  pub topped : stacked stack (c .top) ≡ v ∷ stacked stack (c .top - 1)
+  topped = stacked-pop stack (c .top - 1) (c .top) top-is ∙ ap (λ (x : ℕ). x ∷ stacked stack (c .top - 1)) (sym v-is)
 
   pub here : v < length p
-  here = inside-top (rw popped at (ask .inside))
+  here = inside-top (rw topped at (ask .inside))
 
   pub tryable : Tryable (s .graph) (s .parts) (s .weights) (s .ceilings) (c .loads .at) p v
   tryable = record {
@@ -81,48 +81,29 @@ module _ (s : Terms) (p stack : List ℕ) (c : Standing) (ask : AttemptAsked s p
     loaded = ask .stood .loaded;
   }
 
-  -- it goes to t with the gain x
-  pub move-asked : (tr : Trial) (t x : ℕ) → tr ≡ trial (s .graph) (s .parts) (s .weights) (s .ceilings) p v → tr ≡ Goes t x → MoveAsked (s .graph) (s .parts) (s .weights) p stack (c .top - 1) (c .cut) (c .loads .at) v t x
-  move-asked tr t x tr-is goes =
-      let g = goal (s .graph) (s .parts) (s .weights) (s .ceilings) p v t x (sym tr-is ∙ goes) in
-      let i = aim-in (s .graph) (s .parts) p v t (g .aim-is) in
-      record {
-        ok = ask .ok;
-        symmetric = ask .fixed .symmetric;
-        weighed = ask .fixed .weighed;
-        light = ask .fixed .light;
-        stood = ask .stood;
-        places = (let a = ask .within in omega arith);
-        here = here;
-        target = i .0;
-        apart = λ e. i .1 (sym e);
-        gain-is = g .sums;
-      }
+  module _ (tr : Trial) (tr-is : tr ≡ trial (s .graph) (s .parts) (s .weights) (s .ceilings) p v) where
+    -- where it goes to t with the gain x
+    pub aimed : (t x : ℕ) → tr ≡ Goes t x → Aimed (s .graph) (s .parts) p v t x
+    aimed t x goes =
+        let g = goal (s .graph) (s .parts) (s .weights) (s .ceilings) p v t x (sym tr-is ∙ goes) in
+        let i = aim-in (s .graph) (s .parts) p v t (g .aim-is) in
+        record { target = i .0; apart = λ e. i .1 (sym e); gain-is = g .sums }
 
-  -- what the attempt answers, where the trial stays and where it goes
-  pub attempt-stays : (tr : Trial) → tr ≡ trial (s .graph) (s .parts) (s .weights) (s .ceilings) p v → ((t x : ℕ) → tr ≡ Goes t x → ⊥) → AttemptDone s p stack c p stack (record { st = record { fits = c .fits; top = c .top - 1; cut = c .cut; loads = c .loads }; trial = tr })
-  attempt-stays tr tr-is stays = record {
-    tried = tr-is ∙ ap (trial (s .graph) (s .parts) (s .weights) (s .ceilings) p) v-is;
-    stays = λ h. (refl, refl, refl);
-    goes = λ t x e. absurd (stays t x e);
-  }
+    pub move-asked : MoveAsked (s .graph) (s .parts) (s .weights) p stack (popped c) v tr
+    move-asked = record {
+      ok = ask .ok;
+      symmetric = ask .fixed .symmetric;
+      weighed = ask .fixed .weighed;
+      light = ask .fixed .light;
+      stood = ask .stood;
+      places = (let a = ask .within in omega arith);
+      here = here;
+      aimed = aimed;
+    }
 
-  pub attempt-goes :
-      (t x : ℕ) → Goes t x ≡ trial (s .graph) (s .parts) (s .weights) (s .ceilings) p v → (p′ stack′ : List ℕ) (d : Standing)
-      → MoveDone (s .graph) (s .parts) (s .weights) p stack (c .top - 1) v t p′ stack′ d → AttemptDone s p stack c p′ stack′ (record { st = d; trial = Goes t x })
-  attempt-goes t x goes p′ stack′ d done = record {
-    tried = goes ∙ ap (trial (s .graph) (s .parts) (s .weights) (s .ceilings) p) v-is;
-    stays = λ h. absurd (h t x refl);
-    goes = λ u y e. rw (← v-is, ← same u y e) done;
-  }
-    where
-      target : Trial → ℕ
-      target NoGain = t
-      target BadBalance = t
-      target (Goes u y) = u
-
-      same : (u y : ℕ) → Goes t x ≡ Goes u y → t ≡ u
-      same u y e = ap target e
+    -- what the attempt answers
+    pub attempted : (p′ stack′ : List ℕ) (d : Standing) → MoveDone (s .graph) (s .parts) (s .weights) p stack (popped c) v tr p′ stack′ d → AttemptDone s p stack c p′ stack′ (record { st = d; trial = tr })
+    attempted p′ stack′ d done = record { tried = tr-is ∙ ap (trial (s .graph) (s .parts) (s .weights) (s .ceilings) p) v-is; moved = rw (← v-is) done }
 
 abbrev fuel : Terms → List ℕ → ℕ
 fuel s p = (cut (s .graph) p + 1) * (s .places + 1)
@@ -196,7 +177,7 @@ module _ (s : Terms) (all-movable : s .movable ≡ (λ v. true)) (p₀ stack₀ 
       v = getD stack (c .top - 1) 0
 
       on-top : stacked stack (c .top) ≡ v ∷ stacked stack (c .top - 1)
-      on-top = popped s p stack c attempt-asked v refl
+      on-top = topped s p stack c attempt-asked v refl
 
       left-inside : Inside (length p₀) (stacked stack (c .top - 1))
       left-inside = inside-rest (rw on-top at (inv .ordered .inside))
@@ -227,7 +208,7 @@ module _ (s : Terms) (all-movable : s .movable ≡ (λ v. true)) (p₀ stack₀ 
             )
 
         -- it stays
-        turn-stays : ((t x : ℕ) → tr ≡ Goes t x → ⊥) → Draining s p₀ stack₀ c₀ counts₀ p stack (record { fits = c .fits; top = c .top - 1; cut = c .cut; loads = c .loads }) counts′
+        turn-stays : ((t x : ℕ) → tr ≡ Goes t x → ⊥) → Draining s p₀ stack₀ c₀ counts₀ p stack (popped c) counts′
         turn-stays stays = record {
           ordered = record {
             long = inv .ordered .long;
@@ -255,17 +236,17 @@ module _ (s : Terms) (all-movable : s .movable ≡ (λ v. true)) (p₀ stack₀ 
           goal′ : Goal (s .graph) (s .parts) (s .weights) (s .ceilings) p v t x
           goal′ = goal (s .graph) (s .parts) (s .weights) (s .ceilings) p v t x (sym tr-is ∙ goes)
 
-          asked′ : MoveAsked (s .graph) (s .parts) (s .weights) p stack (c .top - 1) (c .cut) (c .loads .at) v t x
-          asked′ = move-asked s p stack c attempt-asked v refl tr t x tr-is goes
+          here′ : v < length p
+          here′ = here s p stack c attempt-asked v refl
 
-          module _ (p′ stack′ : List ℕ) (d : Standing) (long′ : length stack′ ≡ length stack) (done : MoveDone (s .graph) (s .parts) (s .weights) p stack (c .top - 1) v t p′ stack′ d) where
+          module _ (p′ stack′ : List ℕ) (d : Standing) (long′ : length stack′ ≡ length stack) (done : Moved (s .graph) (s .parts) (s .weights) p stack (c .top - 1) v t p′ stack′ d) where
             abbrev new : List ℕ
             new = pushedBy (s .graph) (s .parts) p′ v
 
             -- the cut falls by x, which is above 0
             falls : d .cut + x ≡ c .cut
             falls =
-                let a = cut-move (s .graph) p v t (fixed′ .symmetric) (asked′ .here) in
+                let a = cut-move (s .graph) p v t (fixed′ .symmetric) here′ in
                 let b = goal′ .sums in
                 let g = inv .ordered .stood .cut-is in
                 let e = done .stood .cut-is in
@@ -273,7 +254,7 @@ module _ (s : Terms) (all-movable : s .movable ≡ (λ v. true)) (p₀ stack₀ 
                 omega arith
 
             few : length new ≤ mostArcs
-            few = omega (arith, pushed-few (s .graph) (s .parts) (λ u. true) p′ v (past (s .graph) v - first (s .graph) v), row-few (s .graph) (s .parts) (λ u. true) p′ v (length p) (inv .ordered .ok .rows) (asked′ .here))
+            few = omega (arith, pushed-few (s .graph) (s .parts) (λ u. true) p′ v (past (s .graph) v - first (s .graph) v), row-few (s .graph) (s .parts) (λ u. true) p′ v (length p) (inv .ordered .ok .rows) here′)
 
             stacked-size : length (stacked stack (c .top - 1)) ≡ c .top - 1
             stacked-size = length-stacked stack (c .top - 1)
@@ -289,12 +270,12 @@ module _ (s : Terms) (all-movable : s .movable ≡ (λ v. true)) (p₀ stack₀ 
                 go false e h = omega (arith, h, length-stacked stack′ (d .top), stacked-size)
 
             inside-by : (b : Bool) → Inside (length p₀) (cond b (new ++ stacked stack (c .top - 1)) (stacked stack (c .top - 1)))
-            inside-by true = inside-both (rw (inv .ordered .long) at (pushed-inside (s .graph) (s .parts) (λ u. true) p′ v (length p) (inv .ordered .ok .rows) (asked′ .here) (past (s .graph) v - first (s .graph) v) (omega arith))) left-inside
+            inside-by true = inside-both (rw (inv .ordered .long) at (pushed-inside (s .graph) (s .parts) (λ u. true) p′ v (length p) (inv .ordered .ok .rows) here′ (past (s .graph) v - first (s .graph) v) (omega arith))) left-inside
             inside-by false = left-inside
 
             ready′ : Ordered s (length p₀) p′ stack′ (d .top) (d .cut) (d .loads .at) counts′
             ready′ =
-                let ok′ = named-move (s .graph) (s .parts) p v t (inv .ordered .ok) (asked′ .here) (asked′ .target) in
+                let ok′ = named-move (s .graph) (s .parts) p v t (inv .ordered .ok) here′ (aimed s p stack c attempt-asked v refl tr tr-is t x goes .target) in
                 record {
                   long = ap length (done .labelled) ∙ length-set p v t ∙ inv .ordered .long;
                   ok = rw (done .labelled) ok′;
@@ -368,16 +349,16 @@ module _ (s : Terms) (all-movable : s .movable ≡ (λ v. true)) (p₀ stack₀ 
 
         pub again : r .st .fits ≡ true → Draining s p₀ stack₀ c₀ counts₀ p′ stack′ (r .st) counts′
         again e = cases (Draining s p₀ stack₀ c₀ counts₀ p′ stack′ (r .st) counts′)
-            (λ h. (let q = done .stays h in rw (q .0, q .1, q .2) (turn-stays (r .trial) (done .tried) counts′ counts-are h)))
-            (λ t x g. turn-goes (r .trial) (done .tried) counts′ counts-are t x g p′ stack′ (r .st) long′ (done .goes t x g) e)
+            (λ h. (let q = done .moved .stays h in rw (q .0, q .1, q .2) (turn-stays (r .trial) (done .tried) counts′ counts-are h)))
+            (λ t x g. turn-goes (r .trial) (done .tried) counts′ counts-are t x g p′ stack′ (r .st) long′ (done .moved .goes t x g) e)
 
         pub full : r .st .fits ≡ false → Done (λ x. drain s (fuel s p₀) (standing (c₀ .fits) x)) s p₀ stack₀ (c₀ .top) (c₀ .cut) counts₀ 0 p′ stack′ counts′ (r .st)
         full e = cases (Done (λ x. drain s (fuel s p₀) (standing (c₀ .fits) x)) s p₀ stack₀ (c₀ .top) (c₀ .cut) counts₀ 0 p′ stack′ counts′ (r .st))
-            (λ h. (let q : r .st .fits ≡ c .fits = ap (λ (d : Standing). d .fits) (done .stays h .2) in let f = fits-is in let o : _≡_ {A = ℕ} 0 1 = cc in absurd (omega arith)))
-            (λ t x g. turn-full (r .trial) (done .tried) counts′ counts-are t x g p′ stack′ (r .st) long′ (done .goes t x g) e)
+            (λ h. (let q : r .st .fits ≡ c .fits = ap (λ (d : Standing). d .fits) (done .moved .stays h .2) in let f = fits-is in let o : _≡_ {A = ℕ} 0 1 = cc in absurd (omega arith)))
+            (λ t x g. turn-full (r .trial) (done .tried) counts′ counts-are t x g p′ stack′ (r .st) long′ (done .moved .goes t x g) e)
 
         -- and the measure falls
         pub lessens : r .st .cut * (s .places + 1) + r .st .top < c .cut * (s .places + 1) + c .top
         lessens = cases (r .st .cut * (s .places + 1) + r .st .top < c .cut * (s .places + 1) + c .top)
-            (λ h. (let q = done .stays h in rw (q .2) (omega (arith, l))))
-            (λ t x g. (let a = less (r .trial) (done .tried) counts′ counts-are t x g p′ stack′ (r .st) long′ (done .goes t x g) in omega arith))
+            (λ h. (let q = done .moved .stays h in rw (q .2) (omega (arith, l))))
+            (λ t x g. (let a = less (r .trial) (done .tried) counts′ counts-are t x g p′ stack′ (r .st) long′ (done .moved .goes t x g) in omega arith))

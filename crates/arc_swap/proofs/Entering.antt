@@ -45,7 +45,7 @@ ready p labels r e z =
 
 -- the terms of a run that begins with b
 abbrev set-by : Given → List ℕ → Begun → Terms
-set-by p stack b = termsBy (p .starts) (p .neighbours) (p .arcs) (p .weights) (b .ceilings .at) (b .parts) (length stack)
+set-by p stack b = termsBy (p .starts) (p .neighbours) (p .arcs) (p .weights) (b .limits) (length stack)
 
 module _ (p : Given) (labels : List ℕ) (ok : Ready p labels) where
   -- what the ceilings ask
@@ -60,7 +60,7 @@ module _ (p : Given) (labels : List ℕ) (ok : Ready p labels) where
       (k n : ℕ) (loads : Loads) (t : ℕ) (ceils : Ceilings) (c : ℕ)
       → n ≡ k → k ≡ partsOf labels → loads ≡ loadsOf (p .weights) labels → t ≡ total (p .weights)
       → ceils .at ≡ ceilings (loads .at) t k (p .settings .ceiling) → c ≡ cut (graphOf p) labels
-      → Begins p labels (record { parts = n; ceilings = ceils; st = record { fits = true; top = 0; cut = c; loads = loads } })
+      → Begins p labels (record { limits = record { ceilings = ceils; parts = n }; st = record { fits = true; top = 0; cut = c; loads = loads } })
   begins k n loads t ceils c n-is k-is loads-are t-is ceils-are c-is = record {
     parts = n-is ∙ k-is;
     capped = ceils-are ∙ rw (loads-are, t-is, k-is);
@@ -68,7 +68,7 @@ module _ (p : Given) (labels : List ℕ) (ok : Ready p labels) where
   }
 
   module _ (stack : List ℕ) (b : Begun) (is : Begins p labels b) where
-    capped : length (b .ceilings .at) ≡ 16
+    capped : length (b .limits .ceilings .at) ≡ 16
     unfolding ceilings
     capped = ap length (is .capped) ∙ length-table 16 (λ u. ceiling (table 16 (load (p .weights) labels)) (total (p .weights)) (partsOf labels) (p .settings .ceiling))
 
@@ -113,7 +113,7 @@ module _ (p : Given) (labels : List ℕ) (ok : Ready p labels) where
 
 module _ (p : Given) (l : Lent) (b : Begun) (is : Begins p (l .labels) b) where
   same-terms : set-by p (l .stack) b ≡ termsOf p l
-  same-terms = ap₂ (λ (x : List ℕ) (y : ℕ). termsBy (p .starts) (p .neighbours) (p .arcs) (p .weights) x y (length (l .stack))) (is .capped) (is .parts)
+  same-terms = ap₂ (λ (x : List ℕ) (y : ℕ). termsBy (p .starts) (p .neighbours) (p .arcs) (p .weights) (record { ceilings = record { at = x }; parts = y }) (length (l .stack))) (is .capped) (is .parts)
 
   -- what the passes leave is what the call leaves
   pub ran :

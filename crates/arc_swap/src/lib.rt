@@ -16,10 +16,10 @@ mod number;
 mod steps;
 mod turns;
 
+use arc_swap_attempt::Limits;
 use arc_swap_attempt::Standing;
 use arc_swap_attempt::Trial;
 use imbalance::Ceiling;
-use imbalance::Ceilings;
 use imbalance::Loads;
 pub use number::parts_of;
 
@@ -62,10 +62,9 @@ pub struct Ended {
     pub st: Standing,
 }
 
-// What a run begins with: the number of parts, the ceilings, and where it stands.
+// What a run begins with: what bounds its moves, and where it stands.
 pub struct Begun {
-    pub parts: usize,
-    pub ceilings: Ceilings,
+    pub limits: Limits,
     pub st: Standing,
 }
 
@@ -103,13 +102,12 @@ fn drain_stack(
     weights: &[u32],
     labels: &mut [u32],
     stack: &mut [u32],
-    ceilings: Ceilings,
-    parts: usize,
+    limits: Limits,
     first: Standing,
     run: &mut RunRecord,
 ) -> Standing
-    requires { ⌜ Asked (termsBy (now starts) (now neighbours) (now «arc_weights») (now weights) (ceilings .at) parts (length (now stack))) (now labels) (now stack) (first .top) (first .cut) (first .loads .at) (now run) 0 × (first .fits ≡ false → _≡_ {A = ℕ} (first .top) 0) ⌝ }
-    ensures { λ r. ⌜ (let s = termsBy (now (starts .entry)) (now (neighbours .entry)) (now («arc_weights» .entry)) (now (weights .entry)) (ceilings .at) parts (length (now (stack .entry))) in Done
+    requires { ⌜ Asked (termsBy (now starts) (now neighbours) (now «arc_weights») (now weights) limits (length (now stack))) (now labels) (now stack) (first .top) (first .cut) (first .loads .at) (now run) 0 × (first .fits ≡ false → _≡_ {A = ℕ} (first .top) 0) ⌝ }
+    ensures { λ r. ⌜ (let s = termsBy (now (starts .entry)) (now (neighbours .entry)) (now («arc_weights» .entry)) (now (weights .entry)) limits (length (now (stack .entry))) in Done
         (λ x. drain s ((cut (inRows (now (starts .entry)) (now (neighbours .entry)) (now («arc_weights» .entry))) (now (labels .entry)) + 1) * (length (now (stack .entry)) + 1)) (standing (first .fits) x)) s
         (now (labels .entry)) (now (stack .entry)) (first .top) (first .cut) (now (run .entry)) 0
         (now (labels .exit)) (now (stack .exit)) (now (run .exit)) r) ⌝ }
@@ -123,8 +121,7 @@ fn drain_stack(
             weights,
             labels,
             stack,
-            ceilings,
-            parts,
+            limits,
             st,
         );
         let trial = a.trial;
@@ -145,13 +142,12 @@ fn make_pass(
     weights: &[u32],
     labels: &mut [u32],
     stack: &mut [u32],
-    ceilings: Ceilings,
-    parts: usize,
+    limits: Limits,
     first: Standing,
     run: &mut RunRecord,
 ) -> Standing
-    requires { ⌜ TurnAsked (termsBy (now starts) (now neighbours) (now «arc_weights») (now weights) (ceilings .at) parts (length (now stack))) (now labels) (now stack) first (now run) (length (now labels)) ⌝ }
-    ensures { λ r. ⌜ (let s = termsBy (now (starts .entry)) (now (neighbours .entry)) (now («arc_weights» .entry)) (now (weights .entry)) (ceilings .at) parts (length (now (stack .entry))) in Done
+    requires { ⌜ TurnAsked (termsBy (now starts) (now neighbours) (now «arc_weights») (now weights) limits (length (now stack))) (now labels) (now stack) first (now run) (length (now labels)) ⌝ }
+    ensures { λ r. ⌜ (let s = termsBy (now (starts .entry)) (now (neighbours .entry)) (now («arc_weights» .entry)) (now (weights .entry)) limits (length (now (stack .entry))) in Done
         (sweep s (length (now (labels .entry)))) s
         (now (labels .entry)) (now (stack .entry)) 0 (first .cut) (now (run .entry)) (length (now (labels .entry)))
         (now (labels .exit)) (now (stack .exit)) (now (run .exit)) r) ⌝ }
@@ -167,8 +163,7 @@ fn make_pass(
             weights,
             labels,
             stack,
-            ceilings,
-            parts,
+            limits,
             pushed,
             run,
         );
@@ -188,14 +183,13 @@ fn make_passes(
     weights: &[u32],
     labels: &mut [u32],
     stack: &mut [u32],
-    ceilings: Ceilings,
-    parts: usize,
+    limits: Limits,
     first: Standing,
     run: &mut RunRecord,
 ) -> Ended
-    requires { ⌜ TurnAsked (termsBy (now starts) (now neighbours) (now «arc_weights») (now weights) (ceilings .at) parts (length (now stack))) (now labels) (now stack) first (now run) 0 × (now run ≡ noCounts) × (first .cut ≤ mostWeight) ⌝ }
+    requires { ⌜ TurnAsked (termsBy (now starts) (now neighbours) (now «arc_weights») (now weights) limits (length (now stack))) (now labels) (now stack) first (now run) 0 × (now run ≡ noCounts) × (first .cut ≤ mostWeight) ⌝ }
     ensures { λ r. ⌜ PassesDone
-        (termsBy (now (starts .entry)) (now (neighbours .entry)) (now («arc_weights» .entry)) (now (weights .entry)) (ceilings .at) parts (length (now (stack .entry))))
+        (termsBy (now (starts .entry)) (now (neighbours .entry)) (now («arc_weights» .entry)) (now (weights .entry)) limits (length (now (stack .entry))))
         (now (labels .entry)) (now (labels .exit)) (now (stack .exit)) (now (run .exit)) r ⌝ }
 {
     let mut st = first;
@@ -209,8 +203,7 @@ fn make_passes(
             weights,
             labels,
             stack,
-            ceilings,
-            parts,
+            limits,
             st,
             run,
         );
@@ -250,8 +243,7 @@ fn refine(
         weights,
         labels,
         stack,
-        begun.ceilings,
-        begun.parts,
+        begun.limits,
         st,
         run,
     );

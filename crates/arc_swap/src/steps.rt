@@ -6,6 +6,7 @@ ghost use Rattle.arc_swap.specs.inner.Steps.{most, endBy, Ready, Begins}
 use crate::Begun;
 use crate::RunRecord;
 use crate::Settings;
+use arc_swap_attempt::Limits;
 use arc_swap_attempt::Standing;
 use arc_swap_attempt::Trial;
 
@@ -74,9 +75,9 @@ pub fn begin_run(
         cut: topology::cut_of(starts, neighbours, arc_weights, labels),
         loads,
     };
-    Begun {
-        parts: lists::index(parts),
+    let limits = Limits {
         ceilings,
-        st,
-    }
+        parts: lists::index(parts),
+    };
+    Begun { limits, st }
 }

@@ -9,9 +9,8 @@ ghost use Rattle.topology.specs.inner.Row.{RowsAlone};
 ghost use Rattle.arc_swap.specs.Run.{onCut};
 ghost use Rattle.arc_swap.specs.inner.Steps.{termsBy, AttemptAsked, AttemptDone, FirstDone};
 use crate::Attempted;
+use arc_swap_attempt::Limits;
 use arc_swap_attempt::Standing;
-use arc_swap_attempt::Trial;
-use imbalance::Ceilings;
 
 // The vertex on top of the stack is taken off it and tried, and moves where it may.
 pub fn attempt(
@@ -21,34 +20,25 @@ pub fn attempt(
     weights: &[u32],
     labels: &mut [u32],
     stack: &mut [u32],
-    ceilings: Ceilings,
-    parts: usize,
+    limits: Limits,
     st: Standing,
 ) -> Attempted
-    requires { ⌜ AttemptAsked (termsBy (now starts) (now neighbours) (now «arc_weights») (now weights) (ceilings .at) parts (length (now stack))) (now labels) (now stack) st ⌝ }
-    ensures { λ r. ⌜ AttemptDone
-        (termsBy (now (starts .entry)) (now (neighbours .entry)) (now («arc_weights» .entry)) (now (weights .entry)) (ceilings .at) parts (length (now (stack .entry))))
-        (now (labels .entry)) (now (stack .entry)) st (now (labels .exit)) (now (stack .exit)) r ⌝ }
+    requires { ⌜ AttemptAsked (termsBy (now starts) (now neighbours) (now «arc_weights») (now weights) limits (length (now stack))) (now labels) (now stack) st ⌝ }
+    ensures { λ r. ⌜ AttemptDone (termsBy (now (starts .entry)) (now (neighbours .entry)) (now («arc_weights» .entry)) (now (weights .entry)) limits (length (now (stack .entry)))) (now (labels .entry)) (now (stack .entry)) st (now (labels .exit)) (now (stack .exit)) r ⌝ }
 {
-    let top = st.top - 1;
-    let v = lists::index_at(stack, top);
-    let loads = st.loads;
+    let mut popped = st;
+    popped.top -= 1;
+    let v = lists::index_at(stack, popped.top);
     let trial = arc_swap_attempt::try_vertex(
         starts,
         neighbours,
         arc_weights,
         weights,
         labels,
-        loads,
-        ceilings,
-        parts,
+        popped.loads,
+        limits,
         v,
     );
-    let Trial::Goes(t, gain) = trial else {
-        let mut left = st;
-        left.top = top;
-        return Attempted { st: left, trial };
-    };
     let moved = arc_swap_attempt::move_vertex(
         starts,
         neighbours,
@@ -56,12 +46,10 @@ pub fn attempt(
         weights,
         labels,
         stack,
-        st,
-        parts,
-        top,
+        popped,
+        limits.parts,
         v,
-        t,
-        gain,
+        trial,
     );
     Attempted { st: moved, trial }
 }
@@ -101,9 +89,9 @@ pub fn push_first(
     let mut pushed = st;
     if stack.len() == 0 {
         pushed.fits = false;
-        return pushed;
+    } else {
+        stack[0] = v as u32;
+        pushed.top = 1;
     }
-    stack[0] = v as u32;
-    pushed.top = 1;
     pushed
 }

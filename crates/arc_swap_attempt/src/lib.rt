@@ -3,9 +3,16 @@ mod gains;
 mod moves;
 mod trials;
 
+use imbalance::Ceilings;
 use imbalance::Loads;
 pub use moves::move_vertex;
 pub use trials::try_vertex;
+
+// What bounds the moves of a run: the ceiling of each part, and how many parts there are.
+pub struct Limits {
+    pub ceilings: Ceilings,
+    pub parts: usize,
+}
 
 // A vertex's arc weight into each of the sixteen parts.
 pub struct Sums {

@@ -5,6 +5,7 @@ ghost use Rattle.topology.specs.Graph.{inRows};
 ghost use Rattle.arc_swap_attempt.specs.inner.Steps.{Named, pushedBy, PushDone, MoveAsked, MoveDone};
 use crate::Pushed;
 use crate::Standing;
+use crate::Trial;
 
 // The neighbours of v that gain by a move now, on top of the places held, in row order. Where one does not fit, the places held stay as they were.
 fn push_neighbours(
@@ -47,7 +48,7 @@ fn push_neighbours(
     Pushed { fits: true, top }
 }
 
-// v moves to part t with the gain given.
+// v, off the stack now, moves where its trial goes; else all stays.
 pub fn move_vertex(
     starts: &[u32],
     neighbours: &[u32],
@@ -55,18 +56,18 @@ pub fn move_vertex(
     weights: &[u32],
     labels: &mut [u32],
     stack: &mut [u32],
-    st: Standing,
+    popped: Standing,
     parts: usize,
-    used: usize,
     v: usize,
-    t: u32,
-    gain: u64,
+    trial: Trial,
 ) -> Standing
-    requires { ⌜ MoveAsked (inRows (now starts) (now neighbours) (now «arc_weights»)) parts (now weights) (now labels) (now stack) used (st .cut) (st .loads .at) v t gain ⌝ }
-    ensures { λ r. ⌜ MoveDone (inRows (now (starts .entry)) (now (neighbours .entry)) (now («arc_weights» .entry))) parts (now (weights .entry)) (now (labels .entry)) (now (stack .entry)) used v t (now (labels .exit)) (now (stack .exit)) r ⌝ }
+    requires { ⌜ MoveAsked (inRows (now starts) (now neighbours) (now «arc_weights»)) parts (now weights) (now labels) (now stack) popped v trial ⌝ }
+    ensures { λ r. ⌜ MoveDone (inRows (now (starts .entry)) (now (neighbours .entry)) (now («arc_weights» .entry))) parts (now (weights .entry)) (now (labels .entry)) (now (stack .entry)) popped v trial (now (labels .exit)) (now (stack .exit)) r ⌝ }
 {
-    let before = st.loads;
-    let loads = imbalance::moved_loads(before, labels[v], t, weights[v]);
+    let Trial::Goes(t, gain) = trial else {
+        return popped;
+    };
+    let loads = imbalance::moved_loads(popped.loads, labels[v], t, weights[v]);
     labels[v] = t;
     let p = push_neighbours(
         starts,
@@ -75,13 +76,13 @@ pub fn move_vertex(
         labels,
         stack,
         parts,
-        used,
+        popped.top,
         v,
     );
     Standing {
         fits: p.fits,
         top: p.top,
-        cut: st.cut - gain,
+        cut: popped.cut - gain,
         loads,
     }
 }

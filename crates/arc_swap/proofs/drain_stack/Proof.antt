@@ -11,11 +11,11 @@ use Rattle.arc_swap.proofs.drain_stack.Statement.{statement}
 use Rattle.arc_swap.proofs.drain_stack.Proof.Tie as tie
 
 abbrev Inv-loop : tie.InvT-loop
-Inv-loop starts neighbours arc-weights weights labels₀ stack₀ ceilings parts run₀ st₀ labels stack run st =
-    Draining (termsBy starts neighbours arc-weights weights (ceilings .at) parts (length stack₀)) labels₀ stack₀ st₀ run₀ labels stack st run
+Inv-loop starts neighbours arc-weights weights labels₀ stack₀ limits run₀ st₀ labels stack run st =
+    Draining (termsBy starts neighbours arc-weights weights limits (length stack₀)) labels₀ stack₀ st₀ run₀ labels stack st run
 
 abbrev μ-loop : tie.MeasureT-loop
-μ-loop starts neighbours arc-weights weights labels₀ stack₀ ceilings parts run₀ st₀ labels stack run st =
+μ-loop starts neighbours arc-weights weights labels₀ stack₀ limits run₀ st₀ labels stack run st =
     st .cut * (length stack₀ + 1) + st .top
 
 loop-holds : tie.Need-loop-holds Inv-loop μ-loop

@@ -14,11 +14,11 @@ use Rattle.arc_swap.proofs.make_pass.Statement.{statement}
 use Rattle.arc_swap.proofs.make_pass.Proof.Tie as tie
 
 abbrev Inv-loop : tie.InvT-loop
-Inv-loop starts neighbours arc-weights weights labels₀ stack₀ ceilings parts run₀ st₀ v₀ labels stack run st v =
-    Sweeping (termsBy starts neighbours arc-weights weights (ceilings .at) parts (length stack₀)) labels₀ stack₀ (st₀ .cut) run₀ v labels stack st run
+Inv-loop starts neighbours arc-weights weights labels₀ stack₀ limits run₀ st₀ v₀ labels stack run st v =
+    Sweeping (termsBy starts neighbours arc-weights weights limits (length stack₀)) labels₀ stack₀ (st₀ .cut) run₀ v labels stack st run
 
 abbrev μ-loop : tie.MeasureT-loop
-μ-loop starts neighbours arc-weights weights labels₀ stack₀ ceilings parts run₀ st₀ v₀ labels stack run st v =
+μ-loop starts neighbours arc-weights weights labels₀ stack₀ limits run₀ st₀ v₀ labels stack run st v =
     length labels₀ - v
 
 loop-holds : tie.Need-loop-holds Inv-loop μ-loop

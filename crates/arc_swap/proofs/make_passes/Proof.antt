@@ -10,11 +10,11 @@ use Rattle.arc_swap.proofs.make_passes.Statement.{statement}
 use Rattle.arc_swap.proofs.make_passes.Proof.Tie as tie
 
 abbrev Inv-loop : tie.InvT-loop
-Inv-loop starts neighbours arc-weights weights labels₀ stack₀ ceilings parts run₀ st₀ passes₀ labels stack run st passes =
-    Running (termsBy starts neighbours arc-weights weights (ceilings .at) parts (length stack₀)) labels₀ (st₀ .cut) passes labels stack st run
+Inv-loop starts neighbours arc-weights weights labels₀ stack₀ limits run₀ st₀ passes₀ labels stack run st passes =
+    Running (termsBy starts neighbours arc-weights weights limits (length stack₀)) labels₀ (st₀ .cut) passes labels stack st run
 
 abbrev μ-loop : tie.MeasureT-loop
-μ-loop starts neighbours arc-weights weights labels₀ stack₀ ceilings parts run₀ st₀ passes₀ labels stack run st passes =
+μ-loop starts neighbours arc-weights weights labels₀ stack₀ limits run₀ st₀ passes₀ labels stack run st passes =
     st .cut
 
 loop-holds : tie.Need-loop-holds Inv-loop μ-loop

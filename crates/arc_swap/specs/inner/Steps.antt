@@ -16,8 +16,8 @@ use Rattle.topology.specs.Rule.{Rows, Symmetric, Sound}
 use Rattle.topology.specs.Cut.{cut}
 use Rattle.arc_swap_attempt.specs.Trial.{trial}
 use Rattle.arc_swap_attempt.specs.inner.Steps.{stacked, Named, Stood, MoveDone}
+use Rattle.arc_swap_attempt.specs.declared.Limits.{Limits}
 use Rattle.arc_swap_attempt.specs.declared.Standing.{Standing}
-use Rattle.arc_swap_attempt.specs.declared.Trial.the-variants.{Goes}
 use Rattle.arc_swap.specs.declared.RunRecord.{RunRecord}
 use Rattle.arc_swap.specs.declared.Attempted.{Attempted}
 use Rattle.arc_swap.specs.declared.Begun.{Begun}
@@ -28,9 +28,9 @@ use Rattle.topology.specs.Given.{graphOf}
 use Rattle.arc_swap.specs.Entry.{Given, Lent, partsOf, noCounts, reportOf, leftBy}
 
 -- the terms that a function's parameters stand for
-abbrev pub termsBy : List ℕ → List ℕ → List ℕ → List ℕ → List ℕ → ℕ → ℕ → Terms
-termsBy starts neighbours arcs weights ceilings parts places =
-    record { graph = inRows starts neighbours arcs; weights = weights; ceilings = ceilings; movable = λ v. true; parts = parts; places = places }
+abbrev pub termsBy : List ℕ → List ℕ → List ℕ → List ℕ → Limits → ℕ → Terms
+termsBy starts neighbours arcs weights limits places =
+    record { graph = inRows starts neighbours arcs; weights = weights; ceilings = limits .ceilings .at; movable = λ v. true; parts = limits .parts; places = places }
 
 -- What stands still during a run of n vertices, once no number applies.
 pub record Fixed (s : Terms) (n : ℕ) : Type 0 where
@@ -97,11 +97,14 @@ pub record AttemptAsked (s : Terms) (labels stack : List ℕ) (c : Standing) : T
   pub inside : Inside (length labels) (stacked stack (c .top))
   pub stood : Stood (s .graph) (s .weights) labels (c .cut) (c .loads .at)
 
--- What it answers: what came of the vertex on top, which is off the stack now; where that one moves, the move, and else nothing more.
+-- the standing c with the top of its stack taken off
+abbrev pub popped : Standing → Standing
+popped c = record { fits = c .fits; top = c .top - 1; cut = c .cut; loads = c .loads }
+
+-- What it answers: what came of the vertex on top, and the move by that, with this vertex off the stack.
 pub record AttemptDone (s : Terms) (labels stack : List ℕ) (c : Standing) (labels′ stack′ : List ℕ) (r : Attempted) : Type 0 where
   pub tried : r .trial ≡ trial (s .graph) (s .parts) (s .weights) (s .ceilings) labels (getD stack (c .top - 1) 0)
-  pub stays : ((t x : ℕ) → r .trial ≡ Goes t x → ⊥) → (labels′ ≡ labels) × (stack′ ≡ stack) × (r .st ≡ record { fits = c .fits; top = c .top - 1; cut = c .cut; loads = c .loads })
-  pub goes : (t x : ℕ) → r .trial ≡ Goes t x → MoveDone (s .graph) (s .parts) (s .weights) labels stack (c .top - 1) (getD stack (c .top - 1) 0) t labels′ stack′ (r .st)
+  pub moved : MoveDone (s .graph) (s .parts) (s .weights) labels stack (popped c) (getD stack (c .top - 1) 0) (r .trial) labels′ stack′ (r .st)
 
 -- What v's first push leaves: all as it was for a vertex off the cut, else v alone on the stack, or nothing pushed where that has no place.
 pub record FirstDone (g : Graph) (labels stack : List ℕ) (v : ℕ) (c : Standing) (stack′ : List ℕ) (r : Standing) : Type 0 where
@@ -130,10 +133,10 @@ pub record Ready (p : Given) (labels : List ℕ) : Type 0 where
   pub named : labelAbove 15 labels ≡ false
   pub fit : unfitChoice (p .settings .ceiling) ≡ false
 
--- What a run begins with: the number of parts, the ceilings, and an empty stack beside the cut and the loads of the labels.
+-- What a run begins with: the number of parts and the ceilings, and an empty stack beside the cut and the loads of the labels.
 pub record Begins (p : Given) (labels : List ℕ) (b : Begun) : Type 0 where
-  pub parts : b .parts ≡ partsOf labels
-  pub capped : b .ceilings .at ≡ ceilings (table 16 (load (p .weights) labels)) (total (p .weights)) (partsOf labels) (p .settings .ceiling)
+  pub parts : b .limits .parts ≡ partsOf labels
+  pub capped : b .limits .ceilings .at ≡ ceilings (table 16 (load (p .weights) labels)) (total (p .weights)) (partsOf labels) (p .settings .ceiling)
   pub stands : b .st ≡ record { fits = true; top = 0; cut = cut (graphOf p) labels; loads = loadsOf (p .weights) labels }
 
 -- What the run of a call answers and leaves.

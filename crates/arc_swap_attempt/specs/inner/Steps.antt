@@ -17,6 +17,8 @@ use Rattle.topology.specs.Cut.{cut}
 use Rattle.arc_swap_attempt.specs.Trial.{pushed}
 use Rattle.arc_swap_attempt.specs.declared.Target.{Target}
 use Rattle.arc_swap_attempt.specs.declared.Standing.{Standing}
+use Rattle.arc_swap_attempt.specs.declared.Trial.{Trial}
+use Rattle.arc_swap_attempt.specs.declared.Trial.the-variants.{Goes}
 
 -- what stands in the first n places of the lent stack, the top first
 unfoldable pub stacked : List ℕ → ℕ → List ℕ
@@ -62,21 +64,30 @@ pub record Stood (g : Graph) (weights p : List ℕ) (cut₀ : ℕ) (loads : List
   pub cut-is : cut₀ ≡ cut g p
   pub loaded : loads ≡ table 16 (load weights p)
 
--- What a move of v to part t, with the gain x, asks: all in order, n places of the stack s₀ held, another part, and the gain of that move.
-pub record MoveAsked (g : Graph) (k : ℕ) (weights p s₀ : List ℕ) (n cut₀ : ℕ) (loads : List ℕ) (v t x : ℕ) : Type 0 where
-  pub ok : Named g k p
-  pub symmetric : Symmetric (length p) g
-  pub weighed : length weights ≡ length p
-  pub light : total weights ≤ mostWeight
-  pub stood : Stood g weights p cut₀ loads
-  pub places : n ≤ length s₀
-  pub here : v < length p
+-- t is another of the k parts, and x the gain of v's move there.
+pub record Aimed (g : Graph) (k : ℕ) (p : List ℕ) (v t x : ℕ) : Type 0 where
   pub target : t < k
   pub apart : part p v ≡ t → ⊥
   pub gain-is : into g p v t ≡ x + into g p v (part p v)
 
--- What it leaves: the label, the cut and the loads after it, and the pushes.
-pub record MoveDone (g : Graph) (k : ℕ) (weights p s₀ : List ℕ) (n v t : ℕ) (p′ s : List ℕ) (c : Standing) : Type 0 where
+-- What v's move by its trial asks: all in order, the places held within the stack s₀, and where the trial goes, another part and the gain of that move.
+pub record MoveAsked (g : Graph) (k : ℕ) (weights p s₀ : List ℕ) (c : Standing) (v : ℕ) (tr : Trial) : Type 0 where
+  pub ok : Named g k p
+  pub symmetric : Symmetric (length p) g
+  pub weighed : length weights ≡ length p
+  pub light : total weights ≤ mostWeight
+  pub stood : Stood g weights p (c .cut) (c .loads .at)
+  pub places : c .top ≤ length s₀
+  pub here : v < length p
+  pub aimed : (t x : ℕ) → tr ≡ Goes t x → Aimed g k p v t x
+
+-- What a move of v to part t leaves, n places of s₀ held before it: the label, the cut and the loads after it, and the pushes.
+pub record Moved (g : Graph) (k : ℕ) (weights p s₀ : List ℕ) (n v t : ℕ) (p′ s : List ℕ) (c : Standing) : Type 0 where
   pub labelled : p′ ≡ set p v t
   pub stood : Stood g weights p′ (c .cut) (c .loads .at)
   pub pushes : PushDone (pushedBy g k p′ v) s₀ n s (c .fits) (c .top)
+
+-- What v's move by its trial leaves: where the trial goes, that move, and else all as it was.
+pub record MoveDone (g : Graph) (k : ℕ) (weights p s₀ : List ℕ) (c : Standing) (v : ℕ) (tr : Trial) (p′ s : List ℕ) (r : Standing) : Type 0 where
+  pub stays : ((t x : ℕ) → tr ≡ Goes t x → ⊥) → (p′ ≡ p) × (s ≡ s₀) × (r ≡ c)
+  pub goes : (t x : ℕ) → tr ≡ Goes t x → Moved g k weights p s₀ (c .top) v t p′ s r

@@ -11,14 +11,14 @@ on-cut-requires c κs = search needs
 returns : tie.Need-returns
 returns c = first-off _ _ _ _ _ _ (c .before .on-cut .ensures) (not-true _ (c .if1 .taken))
 
-returns-2 : tie.Need-returns-2
-returns-2 c = first-full _ _ _ _ _ _ (c .before .before .on-cut .ensures) (not-false _ (c .before .if1 .left)) (c .if2 .taken)
-
 cast-stack : tie.Need-cast-stack
 cast-stack c = search needs
 
 slice-write-stack : tie.Need-slice-write-stack
 slice-write-stack c = search needs
+
+returns-2 : tie.Need-returns-2
+returns-2 c = first-full _ _ _ _ _ _ (c .before .before .on-cut .ensures) (not-false _ (c .before .if1 .left)) (c .if2 .taken)
 
 same-length : tie.Need-same-length
 same-length c = search needs
@@ -29,4 +29,4 @@ returns-3 c = first-alone _ _ _ _ _ _ (c .before .before .on-cut .ensures) (not-
 pub push-first-spec : {M : Type 1} → statement M
 push-first-spec =
     tie.close
-    (tie.spec on-cut-requires returns returns-2 cast-stack slice-write-stack same-length returns-3)
+    (tie.spec on-cut-requires returns cast-stack slice-write-stack returns-2 same-length returns-3)

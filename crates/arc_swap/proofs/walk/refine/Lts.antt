@@ -1,18 +1,18 @@
 -- Made by tools/walkgen.py: do not edit.
 use Rattle.arc_swap.proofs.walk.RunRecordTy
 use Prim.Native.Nat
+use Rattle.arc_swap_attempt.proofs.Limits
+use Rattle.arc_swap_attempt.proofs.Limits.Laws
 use Rattle.arc_swap_attempt.proofs.Standing
-use Rattle.arc_swap_attempt.proofs.Standing.Laws
+use Rattle.arc_swap_attempt.proofs.Standing.Laws as Laws'
 use Rattle.arc_swap.proofs.Begun
-use Rattle.arc_swap.proofs.Begun.Laws as Laws'
+use Rattle.arc_swap.proofs.Begun.Laws as Laws''
 use Rattle.arc_swap.proofs.Ended
-use Rattle.arc_swap.proofs.Ended.Laws as Laws''
+use Rattle.arc_swap.proofs.Ended.Laws as Laws'3
 use Rattle.arc_swap.proofs.Report
-use Rattle.arc_swap.proofs.Report.Laws as Laws'3
+use Rattle.arc_swap.proofs.Report.Laws as Laws'4
 use Rattle.arc_swap.proofs.Settings
-use Rattle.arc_swap.proofs.Settings.Laws as Laws'4
-use Rattle.imbalance.proofs.Ceilings
-use Rattle.imbalance.proofs.Ceilings.Laws as Laws'5
+use Rattle.arc_swap.proofs.Settings.Laws as Laws'5
 use borrow.Author.Called
 use borrow.Fn.Any
 use borrow.Fn.Call
@@ -76,130 +76,133 @@ abbrev pub type·0 : Syntax.Ty
 type·0 = Syntax.tyStruct (List._∷_ 105 (List._∷_ 109 (List._∷_ 98 (List._∷_ 97 (List._∷_ 108 (List._∷_ 97 (List._∷_ 110 (List._∷_ 99 (List._∷_ 101 (List._∷_ 58 (List._∷_ 58 (List._∷_ 67 (List._∷_ 101 (List._∷_ 105 (List._∷_ 108 (List._∷_ 105 (List._∷_ 110 (List._∷_ 103 (List._∷_ 115 List.[]))))))))))))))))))) (Syntax.tcons (Syntax.tyArray (Syntax.tyInt Syntax.w64) 16) Syntax.tnil)
 
 abbrev pub type·1 : Syntax.Ty
-type·1 = Syntax.tyStruct (List._∷_ 105 (List._∷_ 109 (List._∷_ 98 (List._∷_ 97 (List._∷_ 108 (List._∷_ 97 (List._∷_ 110 (List._∷_ 99 (List._∷_ 101 (List._∷_ 58 (List._∷_ 58 (List._∷_ 76 (List._∷_ 111 (List._∷_ 97 (List._∷_ 100 (List._∷_ 115 List.[])))))))))))))))) (Syntax.tcons (Syntax.tyArray (Syntax.tyInt Syntax.w64) 16) Syntax.tnil)
+type·1 = Syntax.tyStruct (List._∷_ 97 (List._∷_ 114 (List._∷_ 99 (List._∷_ 95 (List._∷_ 115 (List._∷_ 119 (List._∷_ 97 (List._∷_ 112 (List._∷_ 95 (List._∷_ 97 (List._∷_ 116 (List._∷_ 116 (List._∷_ 101 (List._∷_ 109 (List._∷_ 112 (List._∷_ 116 (List._∷_ 58 (List._∷_ 58 (List._∷_ 76 (List._∷_ 105 (List._∷_ 109 (List._∷_ 105 (List._∷_ 116 (List._∷_ 115 List.[])))))))))))))))))))))))) (Syntax.tcons type·0 (Syntax.tcons (Syntax.tyInt Syntax.w64) Syntax.tnil))
 
 abbrev pub type·2 : Syntax.Ty
-type·2 = Syntax.tyStruct (List._∷_ 97 (List._∷_ 114 (List._∷_ 99 (List._∷_ 95 (List._∷_ 115 (List._∷_ 119 (List._∷_ 97 (List._∷_ 112 (List._∷_ 95 (List._∷_ 97 (List._∷_ 116 (List._∷_ 116 (List._∷_ 101 (List._∷_ 109 (List._∷_ 112 (List._∷_ 116 (List._∷_ 58 (List._∷_ 58 (List._∷_ 83 (List._∷_ 116 (List._∷_ 97 (List._∷_ 110 (List._∷_ 100 (List._∷_ 105 (List._∷_ 110 (List._∷_ 103 List.[])))))))))))))))))))))))))) (Syntax.tcons Syntax.tyBool (Syntax.tcons (Syntax.tyInt Syntax.w64) (Syntax.tcons (Syntax.tyInt Syntax.w64) (Syntax.tcons type·1 Syntax.tnil))))
+type·2 = Syntax.tyStruct (List._∷_ 105 (List._∷_ 109 (List._∷_ 98 (List._∷_ 97 (List._∷_ 108 (List._∷_ 97 (List._∷_ 110 (List._∷_ 99 (List._∷_ 101 (List._∷_ 58 (List._∷_ 58 (List._∷_ 76 (List._∷_ 111 (List._∷_ 97 (List._∷_ 100 (List._∷_ 115 List.[])))))))))))))))) (Syntax.tcons (Syntax.tyArray (Syntax.tyInt Syntax.w64) 16) Syntax.tnil)
 
 abbrev pub type·3 : Syntax.Ty
-type·3 = Syntax.tyStruct (List._∷_ 97 (List._∷_ 114 (List._∷_ 99 (List._∷_ 95 (List._∷_ 115 (List._∷_ 119 (List._∷_ 97 (List._∷_ 112 (List._∷_ 58 (List._∷_ 58 (List._∷_ 66 (List._∷_ 101 (List._∷_ 103 (List._∷_ 117 (List._∷_ 110 List.[]))))))))))))))) (Syntax.tcons (Syntax.tyInt Syntax.w64) (Syntax.tcons type·0 (Syntax.tcons type·2 Syntax.tnil)))
+type·3 = Syntax.tyStruct (List._∷_ 97 (List._∷_ 114 (List._∷_ 99 (List._∷_ 95 (List._∷_ 115 (List._∷_ 119 (List._∷_ 97 (List._∷_ 112 (List._∷_ 95 (List._∷_ 97 (List._∷_ 116 (List._∷_ 116 (List._∷_ 101 (List._∷_ 109 (List._∷_ 112 (List._∷_ 116 (List._∷_ 58 (List._∷_ 58 (List._∷_ 83 (List._∷_ 116 (List._∷_ 97 (List._∷_ 110 (List._∷_ 100 (List._∷_ 105 (List._∷_ 110 (List._∷_ 103 List.[])))))))))))))))))))))))))) (Syntax.tcons Syntax.tyBool (Syntax.tcons (Syntax.tyInt Syntax.w64) (Syntax.tcons (Syntax.tyInt Syntax.w64) (Syntax.tcons type·2 Syntax.tnil))))
 
 abbrev pub type·4 : Syntax.Ty
-type·4 = Syntax.tyStruct (List._∷_ 97 (List._∷_ 114 (List._∷_ 99 (List._∷_ 95 (List._∷_ 115 (List._∷_ 119 (List._∷_ 97 (List._∷_ 112 (List._∷_ 58 (List._∷_ 58 (List._∷_ 69 (List._∷_ 110 (List._∷_ 100 (List._∷_ 101 (List._∷_ 100 List.[]))))))))))))))) (Syntax.tcons (Syntax.tyInt Syntax.w32) (Syntax.tcons (Syntax.tyInt Syntax.w32) (Syntax.tcons type·2 Syntax.tnil)))
+type·4 = Syntax.tyStruct (List._∷_ 97 (List._∷_ 114 (List._∷_ 99 (List._∷_ 95 (List._∷_ 115 (List._∷_ 119 (List._∷_ 97 (List._∷_ 112 (List._∷_ 58 (List._∷_ 58 (List._∷_ 66 (List._∷_ 101 (List._∷_ 103 (List._∷_ 117 (List._∷_ 110 List.[]))))))))))))))) (Syntax.tcons type·1 (Syntax.tcons type·3 Syntax.tnil))
 
 abbrev pub type·5 : Syntax.Ty
-type·5 = Syntax.tyRef Syntax.erased Syntax.imm (Syntax.tyInt Syntax.w32)
+type·5 = Syntax.tyStruct (List._∷_ 97 (List._∷_ 114 (List._∷_ 99 (List._∷_ 95 (List._∷_ 115 (List._∷_ 119 (List._∷_ 97 (List._∷_ 112 (List._∷_ 58 (List._∷_ 58 (List._∷_ 69 (List._∷_ 110 (List._∷_ 100 (List._∷_ 101 (List._∷_ 100 List.[]))))))))))))))) (Syntax.tcons (Syntax.tyInt Syntax.w32) (Syntax.tcons (Syntax.tyInt Syntax.w32) (Syntax.tcons type·3 Syntax.tnil)))
 
 abbrev pub type·6 : Syntax.Ty
-type·6 = Syntax.tyStruct (List._∷_ 38 (List._∷_ 91 (List._∷_ 93 List.[]))) (Syntax.tcons type·5 (Syntax.tcons (Syntax.tyInt Syntax.w64) Syntax.tnil))
+type·6 = Syntax.tyRef Syntax.erased Syntax.imm (Syntax.tyInt Syntax.w32)
 
 abbrev pub type·7 : Syntax.Ty
-type·7 = Syntax.tyRef Syntax.erased Syntax.mut RunRecordTy.behind
+type·7 = Syntax.tyStruct (List._∷_ 38 (List._∷_ 91 (List._∷_ 93 List.[]))) (Syntax.tcons type·6 (Syntax.tcons (Syntax.tyInt Syntax.w64) Syntax.tnil))
 
 abbrev pub type·8 : Syntax.Ty
-type·8 = Syntax.tyRef Syntax.erased Syntax.mut (Syntax.tyInt Syntax.w32)
+type·8 = Syntax.tyRef Syntax.erased Syntax.mut RunRecordTy.behind
 
 abbrev pub type·9 : Syntax.Ty
-type·9 = Syntax.tyStruct (List._∷_ 38 (List._∷_ 91 (List._∷_ 93 List.[]))) (Syntax.tcons type·8 (Syntax.tcons (Syntax.tyInt Syntax.w64) Syntax.tnil))
+type·9 = Syntax.tyRef Syntax.erased Syntax.mut (Syntax.tyInt Syntax.w32)
 
 abbrev pub type·10 : Syntax.Ty
-type·10 = Syntax.tyStruct (List._∷_ 97 (List._∷_ 114 (List._∷_ 99 (List._∷_ 95 (List._∷_ 115 (List._∷_ 119 (List._∷_ 97 (List._∷_ 112 (List._∷_ 58 (List._∷_ 58 (List._∷_ 82 (List._∷_ 101 (List._∷_ 112 (List._∷_ 111 (List._∷_ 114 (List._∷_ 116 List.[])))))))))))))))) (Syntax.tcons (Syntax.tyInt Syntax.w32) (Syntax.tcons (Syntax.tyInt Syntax.w32) (Syntax.tcons (Syntax.tyInt Syntax.w32) (Syntax.tcons (Syntax.tyInt Syntax.w64) (Syntax.tcons (Syntax.tyInt Syntax.w64) (Syntax.tcons type·1 Syntax.tnil))))))
+type·10 = Syntax.tyStruct (List._∷_ 38 (List._∷_ 91 (List._∷_ 93 List.[]))) (Syntax.tcons type·9 (Syntax.tcons (Syntax.tyInt Syntax.w64) Syntax.tnil))
 
 abbrev pub type·11 : Syntax.Ty
-type·11 = Syntax.tyRef (Syntax.named 0) Syntax.imm (Syntax.tyInt Syntax.w32)
+type·11 = Syntax.tyStruct (List._∷_ 97 (List._∷_ 114 (List._∷_ 99 (List._∷_ 95 (List._∷_ 115 (List._∷_ 119 (List._∷_ 97 (List._∷_ 112 (List._∷_ 58 (List._∷_ 58 (List._∷_ 82 (List._∷_ 101 (List._∷_ 112 (List._∷_ 111 (List._∷_ 114 (List._∷_ 116 List.[])))))))))))))))) (Syntax.tcons (Syntax.tyInt Syntax.w32) (Syntax.tcons (Syntax.tyInt Syntax.w32) (Syntax.tcons (Syntax.tyInt Syntax.w32) (Syntax.tcons (Syntax.tyInt Syntax.w64) (Syntax.tcons (Syntax.tyInt Syntax.w64) (Syntax.tcons type·2 Syntax.tnil))))))
 
 abbrev pub type·12 : Syntax.Ty
-type·12 = Syntax.tyRef (Syntax.named 1) Syntax.imm (Syntax.tyInt Syntax.w32)
+type·12 = Syntax.tyRef (Syntax.named 0) Syntax.imm (Syntax.tyInt Syntax.w32)
 
 abbrev pub type·13 : Syntax.Ty
-type·13 = Syntax.tyRef (Syntax.named 2) Syntax.imm (Syntax.tyInt Syntax.w32)
+type·13 = Syntax.tyRef (Syntax.named 1) Syntax.imm (Syntax.tyInt Syntax.w32)
 
 abbrev pub type·14 : Syntax.Ty
-type·14 = Syntax.tyRef (Syntax.named 3) Syntax.imm (Syntax.tyInt Syntax.w32)
+type·14 = Syntax.tyRef (Syntax.named 2) Syntax.imm (Syntax.tyInt Syntax.w32)
 
 abbrev pub type·15 : Syntax.Ty
-type·15 = Syntax.tyRef (Syntax.named 4) Syntax.mut (Syntax.tyInt Syntax.w32)
+type·15 = Syntax.tyRef (Syntax.named 3) Syntax.imm (Syntax.tyInt Syntax.w32)
 
 abbrev pub type·16 : Syntax.Ty
-type·16 = Syntax.tyRef (Syntax.named 5) Syntax.mut (Syntax.tyInt Syntax.w32)
+type·16 = Syntax.tyRef (Syntax.named 4) Syntax.mut (Syntax.tyInt Syntax.w32)
 
 abbrev pub type·17 : Syntax.Ty
-type·17 = Syntax.tyRef (Syntax.named 6) Syntax.mut RunRecordTy.behind
+type·17 = Syntax.tyRef (Syntax.named 5) Syntax.mut (Syntax.tyInt Syntax.w32)
 
 abbrev pub type·18 : Syntax.Ty
-type·18 = Syntax.tyStruct (List._∷_ 105 (List._∷_ 109 (List._∷_ 98 (List._∷_ 97 (List._∷_ 108 (List._∷_ 97 (List._∷_ 110 (List._∷_ 99 (List._∷_ 101 (List._∷_ 58 (List._∷_ 58 (List._∷_ 67 (List._∷_ 101 (List._∷_ 105 (List._∷_ 108 (List._∷_ 105 (List._∷_ 110 (List._∷_ 103 List.[])))))))))))))))))) (Syntax.tcons (Syntax.tyInt Syntax.w32) (Syntax.tcons (Syntax.tyInt Syntax.w32) (Syntax.tcons (Syntax.tyFloat Ieee.binary64) Syntax.tnil)))
+type·18 = Syntax.tyRef (Syntax.named 6) Syntax.mut RunRecordTy.behind
 
 abbrev pub type·19 : Syntax.Ty
-type·19 = Syntax.tyStruct (List._∷_ 97 (List._∷_ 114 (List._∷_ 99 (List._∷_ 95 (List._∷_ 115 (List._∷_ 119 (List._∷_ 97 (List._∷_ 112 (List._∷_ 58 (List._∷_ 58 (List._∷_ 83 (List._∷_ 101 (List._∷_ 116 (List._∷_ 116 (List._∷_ 105 (List._∷_ 110 (List._∷_ 103 (List._∷_ 115 List.[])))))))))))))))))) (Syntax.tcons type·18 Syntax.tnil)
+type·19 = Syntax.tyStruct (List._∷_ 105 (List._∷_ 109 (List._∷_ 98 (List._∷_ 97 (List._∷_ 108 (List._∷_ 97 (List._∷_ 110 (List._∷_ 99 (List._∷_ 101 (List._∷_ 58 (List._∷_ 58 (List._∷_ 67 (List._∷_ 101 (List._∷_ 105 (List._∷_ 108 (List._∷_ 105 (List._∷_ 110 (List._∷_ 103 List.[])))))))))))))))))) (Syntax.tcons (Syntax.tyInt Syntax.w32) (Syntax.tcons (Syntax.tyInt Syntax.w32) (Syntax.tcons (Syntax.tyFloat Ieee.binary64) Syntax.tnil)))
+
+abbrev pub type·20 : Syntax.Ty
+type·20 = Syntax.tyStruct (List._∷_ 97 (List._∷_ 114 (List._∷_ 99 (List._∷_ 95 (List._∷_ 115 (List._∷_ 119 (List._∷_ 97 (List._∷_ 112 (List._∷_ 58 (List._∷_ 58 (List._∷_ 83 (List._∷_ 101 (List._∷_ 116 (List._∷_ 116 (List._∷_ 105 (List._∷_ 110 (List._∷_ 103 (List._∷_ 115 List.[])))))))))))))))))) (Syntax.tcons type·19 Syntax.tnil)
 
 abbrev pub row·0 : Row.Entry
-row·0 = (0, Rows.any-gone type·10)
+row·0 = (0, Rows.any-gone type·11)
 
 abbrev pub row·1 : Row.Entry
-row·1 = (1, Rows.sslice (Referent.rtF (Referent.fInt Syntax.w32)) type·11 0)
+row·1 = (1, Rows.sslice (Referent.rtF (Referent.fInt Syntax.w32)) type·12 0)
 
 abbrev pub row·2 : Row.Entry
-row·2 = (2, Rows.sslice (Referent.rtF (Referent.fInt Syntax.w32)) type·12 1)
+row·2 = (2, Rows.sslice (Referent.rtF (Referent.fInt Syntax.w32)) type·13 1)
 
 abbrev pub row·3 : Row.Entry
-row·3 = (3, Rows.sslice (Referent.rtF (Referent.fInt Syntax.w32)) type·13 2)
+row·3 = (3, Rows.sslice (Referent.rtF (Referent.fInt Syntax.w32)) type·14 2)
 
 abbrev pub row·4 : Row.Entry
-row·4 = (4, Rows.sslice (Referent.rtF (Referent.fInt Syntax.w32)) type·14 3)
+row·4 = (4, Rows.sslice (Referent.rtF (Referent.fInt Syntax.w32)) type·15 3)
 
 abbrev pub row·5 : Row.Entry
-row·5 = (5, Mut.mslice (Referent.rtF (Referent.fInt Syntax.w32)) type·15 4)
+row·5 = (5, Mut.mslice (Referent.rtF (Referent.fInt Syntax.w32)) type·16 4)
 
 abbrev pub row·6 : Row.Entry
-row·6 = (6, Mut.mslice (Referent.rtF (Referent.fInt Syntax.w32)) type·16 5)
+row·6 = (6, Mut.mslice (Referent.rtF (Referent.fInt Syntax.w32)) type·17 5)
 
 abbrev pub row·7 : Row.Entry
 row·7 = (7, Rows.whole (Declared.row Settings.the-type))
 
 abbrev pub row·8 : Row.Entry
-row·8 = (8, Rows.mref RunRecordTy.R type·17 6)
+row·8 = (8, Rows.mref RunRecordTy.R type·18 6)
 
 abbrev pub row·9 : Row.Entry
-row·9 = (9, Rows.any-gone type·3)
+row·9 = (9, Rows.any-gone type·4)
 
 abbrev pub row·10 : Row.Entry
-row·10 = (10, Rows.any-gone type·2)
+row·10 = (10, Rows.any-gone type·3)
 
 abbrev pub row·11 : Row.Entry
-row·11 = (11, Rows.any-gone type·4)
+row·11 = (11, Rows.any-gone type·5)
 
 abbrev pub row·12 : Row.Entry
-row·12 = (12, Rows.any-gone type·5)
+row·12 = (12, Rows.any-gone type·6)
 
 abbrev pub row·13 : Row.Entry
-row·13 = (13, Rows.any-gone type·6)
+row·13 = (13, Rows.any-gone type·7)
 
 abbrev pub row·14 : Row.Entry
 row·14 = (14, Rows.any-gone Syntax.tyUnit)
 
 abbrev pub row·15 : Row.Entry
-row·15 = (15, Rows.any-gone type·7)
+row·15 = (15, Rows.any-gone type·8)
 
 abbrev pub row·16 : Row.Entry
-row·16 = (16, Rows.any-gone type·8)
+row·16 = (16, Rows.any-gone type·9)
 
 abbrev pub row·17 : Row.Entry
-row·17 = (17, Rows.any-gone type·9)
+row·17 = (17, Rows.any-gone type·10)
 
 abbrev pub row·18 : Row.Entry
-row·18 = (18, Rows.any-gone type·8)
+row·18 = (18, Rows.any-gone type·9)
 
 abbrev pub row·19 : Row.Entry
-row·19 = (19, Rows.any-gone type·9)
+row·19 = (19, Rows.any-gone type·10)
 
 abbrev pub row·20 : Row.Entry
-row·20 = (20, Rows.any-gone type·7)
+row·20 = (20, Rows.any-gone type·8)
 
 abbrev pub row·21 : Row.Entry
-row·21 = (21, Rows.any-gone type·8)
+row·21 = (21, Rows.any-gone type·9)
 
 abbrev pub row·22 : Row.Entry
-row·22 = (22, Rows.any-gone type·9)
+row·22 = (22, Rows.any-gone type·10)
 
 abbrev pub row·23 : Row.Entry
 row·23 = (23, Rows.any-gone (Syntax.tyInt Syntax.w64))
@@ -208,88 +211,88 @@ abbrev pub row·24 : Row.Entry
 row·24 = (0, Rows.whole (Declared.row Report.the-type))
 
 abbrev pub row·25 : Row.Entry
-row·25 = (7, Rows.any-gone type·19)
+row·25 = (7, Rows.any-gone type·20)
 
 abbrev pub row·26 : Row.Entry
-row·26 = (5, Reshare.mslice-owedS (Referent.rtF (Referent.fInt Syntax.w32)) type·15 4 7 Row.off)
+row·26 = (5, Reshare.mslice-owedS (Referent.rtF (Referent.fInt Syntax.w32)) type·16 4 7 Row.off)
 
 abbrev pub row·27 : Row.Entry
-row·27 = (12, Relend.ssptr (Referent.rtF (Referent.fInt Syntax.w32)) type·5 7)
+row·27 = (12, Relend.ssptr (Referent.rtF (Referent.fInt Syntax.w32)) type·6 7)
 
 abbrev pub row·28 : Row.Entry
-row·28 = (13, Rows.sslice (Referent.rtF (Referent.fInt Syntax.w32)) type·5 7)
+row·28 = (13, Rows.sslice (Referent.rtF (Referent.fInt Syntax.w32)) type·6 7)
 
 abbrev pub row·29 : Row.Entry
 row·29 = (9, Rows.whole (Declared.row Begun.the-type))
 
 abbrev pub row·30 : Row.Entry
-row·30 = (8, Rows.mref-owed RunRecordTy.R type·17 6 8 Row.off)
+row·30 = (8, Rows.mref-owed RunRecordTy.R type·18 6 8 Row.off)
 
 abbrev pub row·31 : Row.Entry
-row·31 = (15, Rows.mref RunRecordTy.R type·7 8)
+row·31 = (15, Rows.mref RunRecordTy.R type·8 8)
 
 abbrev pub row·32 : Row.Entry
 row·32 = (14, Rows.sc-here Row.sUnit)
 
 abbrev pub row·33 : Row.Entry
-row·33 = (15, Rows.mleft RunRecordTy.R type·7)
+row·33 = (15, Rows.mleft RunRecordTy.R type·8)
 
 abbrev pub row·34 : Row.Entry
 row·34 = (10, Rows.whole (Declared.row Standing.the-type))
 
 abbrev pub row·35 : Row.Entry
-row·35 = (5, Relend.mslice-owed (Referent.rtF (Referent.fInt Syntax.w32)) type·15 4 9 Row.off)
+row·35 = (5, Relend.mslice-owed (Referent.rtF (Referent.fInt Syntax.w32)) type·16 4 9 Row.off)
 
 abbrev pub row·36 : Row.Entry
-row·36 = (17, Mut.mslice (Referent.rtF (Referent.fInt Syntax.w32)) type·8 9)
+row·36 = (17, Mut.mslice (Referent.rtF (Referent.fInt Syntax.w32)) type·9 9)
 
 abbrev pub row·37 : Row.Entry
-row·37 = (6, Relend.mslice-owed (Referent.rtF (Referent.fInt Syntax.w32)) type·16 5 10 Row.off)
+row·37 = (6, Relend.mslice-owed (Referent.rtF (Referent.fInt Syntax.w32)) type·17 5 10 Row.off)
 
 abbrev pub row·38 : Row.Entry
-row·38 = (19, Mut.mslice (Referent.rtF (Referent.fInt Syntax.w32)) type·8 10)
+row·38 = (19, Mut.mslice (Referent.rtF (Referent.fInt Syntax.w32)) type·9 10)
 
 abbrev pub row·39 : Row.Entry
-row·39 = (8, Rows.mref-owed RunRecordTy.R type·17 6 11 Row.off)
+row·39 = (8, Rows.mref-owed RunRecordTy.R type·18 6 11 Row.off)
 
 abbrev pub row·40 : Row.Entry
 row·40 = (11, Rows.whole (Declared.row Ended.the-type))
 
 abbrev pub row·41 : Row.Entry
-row·41 = (19, Mut.msleft (Referent.rtF (Referent.fInt Syntax.w32)) type·8)
+row·41 = (19, Mut.msleft (Referent.rtF (Referent.fInt Syntax.w32)) type·9)
 
 abbrev pub row·42 : Row.Entry
-row·42 = (20, Rows.mleft RunRecordTy.R type·7)
+row·42 = (20, Rows.mleft RunRecordTy.R type·8)
 
 abbrev pub row·43 : Row.Entry
-row·43 = (6, Relend.mslice-owed (Referent.rtF (Referent.fInt Syntax.w32)) type·16 5 12 Row.off)
+row·43 = (6, Relend.mslice-owed (Referent.rtF (Referent.fInt Syntax.w32)) type·17 5 12 Row.off)
 
 abbrev pub row·44 : Row.Entry
-row·44 = (22, Mut.mslice (Referent.rtF (Referent.fInt Syntax.w32)) type·8 12)
+row·44 = (22, Mut.mslice (Referent.rtF (Referent.fInt Syntax.w32)) type·9 12)
 
 abbrev pub row·45 : Row.Entry
 row·45 = (23, Rows.sc-here (Row.sInt Syntax.w64))
 
 abbrev pub row·46 : Row.Entry
-row·46 = (22, Mut.msleft (Referent.rtF (Referent.fInt Syntax.w32)) type·8)
+row·46 = (22, Mut.msleft (Referent.rtF (Referent.fInt Syntax.w32)) type·9)
 
 abbrev pub ps : List.List (Kinds.PK 7)
-ps = List._∷_ (ShrSlice.pShrS (Referent.rtF (Referent.fInt Syntax.w32)) 0 tt) (List._∷_ (ShrSlice.pShrS (Referent.rtF (Referent.fInt Syntax.w32)) 1 tt) (List._∷_ (ShrSlice.pShrS (Referent.rtF (Referent.fInt Syntax.w32)) 2 tt) (List._∷_ (ShrSlice.pShrS (Referent.rtF (Referent.fInt Syntax.w32)) 3 tt) (List._∷_ (MutSlice.pMutS (Referent.rtF (Referent.fInt Syntax.w32)) 4 tt) (List._∷_ (MutSlice.pMutS (Referent.rtF (Referent.fInt Syntax.w32)) 5 tt) (List._∷_ (Value.pVal record { ty = Declared.row Settings.the-type; one = Path'.refl; val = Laws'6.val Settings.the-type Laws'4.the-laws; tells = Laws'6.tells Settings.the-type Laws'4.the-laws; still = Laws'6.still Settings.the-type Laws'4.the-copy Exit.yes; row = Rows.whole (Declared.row Settings.the-type); rd = λ x. x; mk = λ x. x } λ M 𝓤 H A W. record { copies = Laws'6.copy Settings.the-type Laws'4.the-copy 𝓤 H A W; lawful = Laws'6.lawful Settings.the-type Laws'4.the-laws 𝓤 H A W; makes = Laws'6.makes Settings.the-type Laws'4.the-plain 𝓤 H A; in-mem = Local.mem-whole 𝓤 H A W (Declared.row Settings.the-type); of-mem = Local.whole-mem 𝓤 H A W (Declared.row Settings.the-type) }) (List._∷_ (Kinds.pMut RunRecordTy.R 6 tt) List.[])))))))
+ps = List._∷_ (ShrSlice.pShrS (Referent.rtF (Referent.fInt Syntax.w32)) 0 tt) (List._∷_ (ShrSlice.pShrS (Referent.rtF (Referent.fInt Syntax.w32)) 1 tt) (List._∷_ (ShrSlice.pShrS (Referent.rtF (Referent.fInt Syntax.w32)) 2 tt) (List._∷_ (ShrSlice.pShrS (Referent.rtF (Referent.fInt Syntax.w32)) 3 tt) (List._∷_ (MutSlice.pMutS (Referent.rtF (Referent.fInt Syntax.w32)) 4 tt) (List._∷_ (MutSlice.pMutS (Referent.rtF (Referent.fInt Syntax.w32)) 5 tt) (List._∷_ (Value.pVal record { ty = Declared.row Settings.the-type; one = Path'.refl; val = Laws'6.val Settings.the-type Laws'5.the-laws; tells = Laws'6.tells Settings.the-type Laws'5.the-laws; still = Laws'6.still Settings.the-type Laws'5.the-copy Exit.yes; row = Rows.whole (Declared.row Settings.the-type); rd = λ x. x; mk = λ x. x } λ M 𝓤 H A W. record { copies = Laws'6.copy Settings.the-type Laws'5.the-copy 𝓤 H A W; lawful = Laws'6.lawful Settings.the-type Laws'5.the-laws 𝓤 H A W; makes = Laws'6.makes Settings.the-type Laws'5.the-plain 𝓤 H A; in-mem = Local.mem-whole 𝓤 H A W (Declared.row Settings.the-type); of-mem = Local.whole-mem 𝓤 H A W (Declared.row Settings.the-type) }) (List._∷_ (Kinds.pMut RunRecordTy.R 6 tt) List.[])))))))
 
 abbrev pub r : Kinds.RK 7
-r = Value.rVal record { ty = Declared.row Report.the-type; one = Path'.refl; val = Laws'6.val Report.the-type Laws'3.the-laws; tells = Laws'6.tells Report.the-type Laws'3.the-laws; still = Laws'6.still Report.the-type Laws'3.the-copy Exit.yes; row = Rows.whole (Declared.row Report.the-type); rd = λ x. x; mk = λ x. x } λ M 𝓤 H A W. record { copies = Laws'6.copy Report.the-type Laws'3.the-copy 𝓤 H A W; lawful = Laws'6.lawful Report.the-type Laws'3.the-laws 𝓤 H A W; makes = Laws'6.makes Report.the-type Laws'3.the-plain 𝓤 H A; in-mem = Local.mem-whole 𝓤 H A W (Declared.row Report.the-type); of-mem = Local.whole-mem 𝓤 H A W (Declared.row Report.the-type) }
+r = Value.rVal record { ty = Declared.row Report.the-type; one = Path'.refl; val = Laws'6.val Report.the-type Laws'4.the-laws; tells = Laws'6.tells Report.the-type Laws'4.the-laws; still = Laws'6.still Report.the-type Laws'4.the-copy Exit.yes; row = Rows.whole (Declared.row Report.the-type); rd = λ x. x; mk = λ x. x } λ M 𝓤 H A W. record { copies = Laws'6.copy Report.the-type Laws'4.the-copy 𝓤 H A W; lawful = Laws'6.lawful Report.the-type Laws'4.the-laws 𝓤 H A W; makes = Laws'6.makes Report.the-type Laws'4.the-plain 𝓤 H A; in-mem = Local.mem-whole 𝓤 H A W (Declared.row Report.the-type); of-mem = Local.whole-mem 𝓤 H A W (Declared.row Report.the-type) }
 
 abbrev pub xs : List.List Syntax.Ty
-xs = List._∷_ type·3 (List._∷_ type·2 (List._∷_ type·4 (List._∷_ type·5 (List._∷_ type·6 (List._∷_ Syntax.tyUnit (List._∷_ type·7 (List._∷_ type·8 (List._∷_ type·9 (List._∷_ type·8 (List._∷_ type·9 (List._∷_ type·7 (List._∷_ type·8 (List._∷_ type·9 (List._∷_ (Syntax.tyInt Syntax.w64) List.[]))))))))))))))
+xs = List._∷_ type·4 (List._∷_ type·3 (List._∷_ type·5 (List._∷_ type·6 (List._∷_ type·7 (List._∷_ Syntax.tyUnit (List._∷_ type·8 (List._∷_ type·9 (List._∷_ type·10 (List._∷_ type·9 (List._∷_ type·10 (List._∷_ type·8 (List._∷_ type·9 (List._∷_ type·10 (List._∷_ (Syntax.tyInt Syntax.w64) List.[]))))))))))))))
 
 abbrev pub m : Nat.ℕ
 m = 6
 
 abbrev pub ps·0 : List.List (Kinds.PK 5)
-ps·0 = List._∷_ (ShrSlice.pShrS (Referent.rtF (Referent.fInt Syntax.w32)) 0 tt) (List._∷_ (ShrSlice.pShrS (Referent.rtF (Referent.fInt Syntax.w32)) 1 tt) (List._∷_ (ShrSlice.pShrS (Referent.rtF (Referent.fInt Syntax.w32)) 2 tt) (List._∷_ (ShrSlice.pShrS (Referent.rtF (Referent.fInt Syntax.w32)) 3 tt) (List._∷_ (ShrSlice.pShrS (Referent.rtF (Referent.fInt Syntax.w32)) 4 tt) (List._∷_ (Value.pVal record { ty = Declared.row Settings.the-type; one = Path'.refl; val = Laws'6.val Settings.the-type Laws'4.the-laws; tells = Laws'6.tells Settings.the-type Laws'4.the-laws; still = Laws'6.still Settings.the-type Laws'4.the-copy Exit.yes; row = Rows.whole (Declared.row Settings.the-type); rd = λ x. x; mk = λ x. x } λ M 𝓤 H A W. record { copies = Laws'6.copy Settings.the-type Laws'4.the-copy 𝓤 H A W; lawful = Laws'6.lawful Settings.the-type Laws'4.the-laws 𝓤 H A W; makes = Laws'6.makes Settings.the-type Laws'4.the-plain 𝓤 H A; in-mem = Local.mem-whole 𝓤 H A W (Declared.row Settings.the-type); of-mem = Local.whole-mem 𝓤 H A W (Declared.row Settings.the-type) }) List.[])))))
+ps·0 = List._∷_ (ShrSlice.pShrS (Referent.rtF (Referent.fInt Syntax.w32)) 0 tt) (List._∷_ (ShrSlice.pShrS (Referent.rtF (Referent.fInt Syntax.w32)) 1 tt) (List._∷_ (ShrSlice.pShrS (Referent.rtF (Referent.fInt Syntax.w32)) 2 tt) (List._∷_ (ShrSlice.pShrS (Referent.rtF (Referent.fInt Syntax.w32)) 3 tt) (List._∷_ (ShrSlice.pShrS (Referent.rtF (Referent.fInt Syntax.w32)) 4 tt) (List._∷_ (Value.pVal record { ty = Declared.row Settings.the-type; one = Path'.refl; val = Laws'6.val Settings.the-type Laws'5.the-laws; tells = Laws'6.tells Settings.the-type Laws'5.the-laws; still = Laws'6.still Settings.the-type Laws'5.the-copy Exit.yes; row = Rows.whole (Declared.row Settings.the-type); rd = λ x. x; mk = λ x. x } λ M 𝓤 H A W. record { copies = Laws'6.copy Settings.the-type Laws'5.the-copy 𝓤 H A W; lawful = Laws'6.lawful Settings.the-type Laws'5.the-laws 𝓤 H A W; makes = Laws'6.makes Settings.the-type Laws'5.the-plain 𝓤 H A; in-mem = Local.mem-whole 𝓤 H A W (Declared.row Settings.the-type); of-mem = Local.whole-mem 𝓤 H A W (Declared.row Settings.the-type) }) List.[])))))
 
 abbrev pub r·0 : Kinds.RK 5
-r·0 = Value.rVal record { ty = Declared.row Begun.the-type; one = Path'.refl; val = Laws'6.val Begun.the-type Laws'.the-laws; tells = Laws'6.tells Begun.the-type Laws'.the-laws; still = Laws'6.still Begun.the-type Laws'.the-copy Exit.yes; row = Rows.whole (Declared.row Begun.the-type); rd = λ x. x; mk = λ x. x } λ M 𝓤 H A W. record { copies = Laws'6.copy Begun.the-type Laws'.the-copy 𝓤 H A W; lawful = Laws'6.lawful Begun.the-type Laws'.the-laws 𝓤 H A W; makes = Laws'6.makes Begun.the-type Laws'.the-plain 𝓤 H A; in-mem = Local.mem-whole 𝓤 H A W (Declared.row Begun.the-type); of-mem = Local.whole-mem 𝓤 H A W (Declared.row Begun.the-type) }
+r·0 = Value.rVal record { ty = Declared.row Begun.the-type; one = Path'.refl; val = Laws'6.val Begun.the-type Laws''.the-laws; tells = Laws'6.tells Begun.the-type Laws''.the-laws; still = Laws'6.still Begun.the-type Laws''.the-copy Exit.yes; row = Rows.whole (Declared.row Begun.the-type); rd = λ x. x; mk = λ x. x } λ M 𝓤 H A W. record { copies = Laws'6.copy Begun.the-type Laws''.the-copy 𝓤 H A W; lawful = Laws'6.lawful Begun.the-type Laws''.the-laws 𝓤 H A W; makes = Laws'6.makes Begun.the-type Laws''.the-plain 𝓤 H A; in-mem = Local.mem-whole 𝓤 H A W (Declared.row Begun.the-type); of-mem = Local.whole-mem 𝓤 H A W (Declared.row Begun.the-type) }
 
 abbrev pub ps·1 : List.List (Kinds.PK 1)
 ps·1 = List._∷_ (Kinds.pMut RunRecordTy.R 0 tt) List.[]
@@ -298,10 +301,10 @@ abbrev pub r·1 : Kinds.RK 1
 r·1 = Unit'.rUnit
 
 abbrev pub ps·2 : List.List (Kinds.PK 7)
-ps·2 = List._∷_ (ShrSlice.pShrS (Referent.rtF (Referent.fInt Syntax.w32)) 0 tt) (List._∷_ (ShrSlice.pShrS (Referent.rtF (Referent.fInt Syntax.w32)) 1 tt) (List._∷_ (ShrSlice.pShrS (Referent.rtF (Referent.fInt Syntax.w32)) 2 tt) (List._∷_ (ShrSlice.pShrS (Referent.rtF (Referent.fInt Syntax.w32)) 3 tt) (List._∷_ (MutSlice.pMutS (Referent.rtF (Referent.fInt Syntax.w32)) 4 tt) (List._∷_ (MutSlice.pMutS (Referent.rtF (Referent.fInt Syntax.w32)) 5 tt) (List._∷_ (Value.pVal record { ty = Declared.row Ceilings.the-type; one = Path'.refl; val = Laws'6.val Ceilings.the-type Laws'5.the-laws; tells = Laws'6.tells Ceilings.the-type Laws'5.the-laws; still = Laws'6.still Ceilings.the-type Laws'5.the-copy Exit.yes; row = Rows.whole (Declared.row Ceilings.the-type); rd = λ x. x; mk = λ x. x } λ M 𝓤 H A W. record { copies = Laws'6.copy Ceilings.the-type Laws'5.the-copy 𝓤 H A W; lawful = Laws'6.lawful Ceilings.the-type Laws'5.the-laws 𝓤 H A W; makes = Laws'6.makes Ceilings.the-type Laws'5.the-plain 𝓤 H A; in-mem = Local.mem-whole 𝓤 H A W (Declared.row Ceilings.the-type); of-mem = Local.whole-mem 𝓤 H A W (Declared.row Ceilings.the-type) }) (List._∷_ (Num.pNum Syntax.w64) (List._∷_ (Value.pVal record { ty = Declared.row Standing.the-type; one = Path'.refl; val = Laws'6.val Standing.the-type Laws.the-laws; tells = Laws'6.tells Standing.the-type Laws.the-laws; still = Laws'6.still Standing.the-type Laws.the-copy Exit.yes; row = Rows.whole (Declared.row Standing.the-type); rd = λ x. x; mk = λ x. x } λ M 𝓤 H A W. record { copies = Laws'6.copy Standing.the-type Laws.the-copy 𝓤 H A W; lawful = Laws'6.lawful Standing.the-type Laws.the-laws 𝓤 H A W; makes = Laws'6.makes Standing.the-type Laws.the-plain 𝓤 H A; in-mem = Local.mem-whole 𝓤 H A W (Declared.row Standing.the-type); of-mem = Local.whole-mem 𝓤 H A W (Declared.row Standing.the-type) }) (List._∷_ (Kinds.pMut RunRecordTy.R 6 tt) List.[])))))))))
+ps·2 = List._∷_ (ShrSlice.pShrS (Referent.rtF (Referent.fInt Syntax.w32)) 0 tt) (List._∷_ (ShrSlice.pShrS (Referent.rtF (Referent.fInt Syntax.w32)) 1 tt) (List._∷_ (ShrSlice.pShrS (Referent.rtF (Referent.fInt Syntax.w32)) 2 tt) (List._∷_ (ShrSlice.pShrS (Referent.rtF (Referent.fInt Syntax.w32)) 3 tt) (List._∷_ (MutSlice.pMutS (Referent.rtF (Referent.fInt Syntax.w32)) 4 tt) (List._∷_ (MutSlice.pMutS (Referent.rtF (Referent.fInt Syntax.w32)) 5 tt) (List._∷_ (Value.pVal record { ty = Declared.row Limits.the-type; one = Path'.refl; val = Laws'6.val Limits.the-type Laws.the-laws; tells = Laws'6.tells Limits.the-type Laws.the-laws; still = Laws'6.still Limits.the-type Laws.the-copy Exit.yes; row = Rows.whole (Declared.row Limits.the-type); rd = λ x. x; mk = λ x. x } λ M 𝓤 H A W. record { copies = Laws'6.copy Limits.the-type Laws.the-copy 𝓤 H A W; lawful = Laws'6.lawful Limits.the-type Laws.the-laws 𝓤 H A W; makes = Laws'6.makes Limits.the-type Laws.the-plain 𝓤 H A; in-mem = Local.mem-whole 𝓤 H A W (Declared.row Limits.the-type); of-mem = Local.whole-mem 𝓤 H A W (Declared.row Limits.the-type) }) (List._∷_ (Value.pVal record { ty = Declared.row Standing.the-type; one = Path'.refl; val = Laws'6.val Standing.the-type Laws'.the-laws; tells = Laws'6.tells Standing.the-type Laws'.the-laws; still = Laws'6.still Standing.the-type Laws'.the-copy Exit.yes; row = Rows.whole (Declared.row Standing.the-type); rd = λ x. x; mk = λ x. x } λ M 𝓤 H A W. record { copies = Laws'6.copy Standing.the-type Laws'.the-copy 𝓤 H A W; lawful = Laws'6.lawful Standing.the-type Laws'.the-laws 𝓤 H A W; makes = Laws'6.makes Standing.the-type Laws'.the-plain 𝓤 H A; in-mem = Local.mem-whole 𝓤 H A W (Declared.row Standing.the-type); of-mem = Local.whole-mem 𝓤 H A W (Declared.row Standing.the-type) }) (List._∷_ (Kinds.pMut RunRecordTy.R 6 tt) List.[]))))))))
 
 abbrev pub r·2 : Kinds.RK 7
-r·2 = Value.rVal record { ty = Declared.row Ended.the-type; one = Path'.refl; val = Laws'6.val Ended.the-type Laws''.the-laws; tells = Laws'6.tells Ended.the-type Laws''.the-laws; still = Laws'6.still Ended.the-type Laws''.the-copy Exit.yes; row = Rows.whole (Declared.row Ended.the-type); rd = λ x. x; mk = λ x. x } λ M 𝓤 H A W. record { copies = Laws'6.copy Ended.the-type Laws''.the-copy 𝓤 H A W; lawful = Laws'6.lawful Ended.the-type Laws''.the-laws 𝓤 H A W; makes = Laws'6.makes Ended.the-type Laws''.the-plain 𝓤 H A; in-mem = Local.mem-whole 𝓤 H A W (Declared.row Ended.the-type); of-mem = Local.whole-mem 𝓤 H A W (Declared.row Ended.the-type) }
+r·2 = Value.rVal record { ty = Declared.row Ended.the-type; one = Path'.refl; val = Laws'6.val Ended.the-type Laws'3.the-laws; tells = Laws'6.tells Ended.the-type Laws'3.the-laws; still = Laws'6.still Ended.the-type Laws'3.the-copy Exit.yes; row = Rows.whole (Declared.row Ended.the-type); rd = λ x. x; mk = λ x. x } λ M 𝓤 H A W. record { copies = Laws'6.copy Ended.the-type Laws'3.the-copy 𝓤 H A W; lawful = Laws'6.lawful Ended.the-type Laws'3.the-laws 𝓤 H A W; makes = Laws'6.makes Ended.the-type Laws'3.the-plain 𝓤 H A; in-mem = Local.mem-whole 𝓤 H A W (Declared.row Ended.the-type); of-mem = Local.whole-mem 𝓤 H A W (Declared.row Ended.the-type) }
 
 abbrev pub ps·3 : List.List (Kinds.PK 1)
 ps·3 = List._∷_ (MutSlice.pMutS (Referent.rtF (Referent.fInt Syntax.w32)) 0 tt) (List._∷_ (Num.pNum Syntax.w64) List.[])
@@ -310,10 +313,10 @@ abbrev pub r·3 : Kinds.RK 1
 r·3 = Unit'.rUnit
 
 abbrev pub ps·4 : List.List (Kinds.PK 0)
-ps·4 = List._∷_ (Num.pNum Syntax.w64) (List._∷_ (Value.pVal record { ty = Declared.row Ended.the-type; one = Path'.refl; val = Laws'6.val Ended.the-type Laws''.the-laws; tells = Laws'6.tells Ended.the-type Laws''.the-laws; still = Laws'6.still Ended.the-type Laws''.the-copy Exit.yes; row = Rows.whole (Declared.row Ended.the-type); rd = λ x. x; mk = λ x. x } λ M 𝓤 H A W. record { copies = Laws'6.copy Ended.the-type Laws''.the-copy 𝓤 H A W; lawful = Laws'6.lawful Ended.the-type Laws''.the-laws 𝓤 H A W; makes = Laws'6.makes Ended.the-type Laws''.the-plain 𝓤 H A; in-mem = Local.mem-whole 𝓤 H A W (Declared.row Ended.the-type); of-mem = Local.whole-mem 𝓤 H A W (Declared.row Ended.the-type) }) List.[])
+ps·4 = List._∷_ (Num.pNum Syntax.w64) (List._∷_ (Value.pVal record { ty = Declared.row Ended.the-type; one = Path'.refl; val = Laws'6.val Ended.the-type Laws'3.the-laws; tells = Laws'6.tells Ended.the-type Laws'3.the-laws; still = Laws'6.still Ended.the-type Laws'3.the-copy Exit.yes; row = Rows.whole (Declared.row Ended.the-type); rd = λ x. x; mk = λ x. x } λ M 𝓤 H A W. record { copies = Laws'6.copy Ended.the-type Laws'3.the-copy 𝓤 H A W; lawful = Laws'6.lawful Ended.the-type Laws'3.the-laws 𝓤 H A W; makes = Laws'6.makes Ended.the-type Laws'3.the-plain 𝓤 H A; in-mem = Local.mem-whole 𝓤 H A W (Declared.row Ended.the-type); of-mem = Local.whole-mem 𝓤 H A W (Declared.row Ended.the-type) }) List.[])
 
 abbrev pub r·4 : Kinds.RK 0
-r·4 = Value.rVal record { ty = Declared.row Report.the-type; one = Path'.refl; val = Laws'6.val Report.the-type Laws'3.the-laws; tells = Laws'6.tells Report.the-type Laws'3.the-laws; still = Laws'6.still Report.the-type Laws'3.the-copy Exit.yes; row = Rows.whole (Declared.row Report.the-type); rd = λ x. x; mk = λ x. x } λ M 𝓤 H A W. record { copies = Laws'6.copy Report.the-type Laws'3.the-copy 𝓤 H A W; lawful = Laws'6.lawful Report.the-type Laws'3.the-laws 𝓤 H A W; makes = Laws'6.makes Report.the-type Laws'3.the-plain 𝓤 H A; in-mem = Local.mem-whole 𝓤 H A W (Declared.row Report.the-type); of-mem = Local.whole-mem 𝓤 H A W (Declared.row Report.the-type) }
+r·4 = Value.rVal record { ty = Declared.row Report.the-type; one = Path'.refl; val = Laws'6.val Report.the-type Laws'4.the-laws; tells = Laws'6.tells Report.the-type Laws'4.the-laws; still = Laws'6.still Report.the-type Laws'4.the-copy Exit.yes; row = Rows.whole (Declared.row Report.the-type); rd = λ x. x; mk = λ x. x } λ M 𝓤 H A W. record { copies = Laws'6.copy Report.the-type Laws'4.the-copy 𝓤 H A W; lawful = Laws'6.lawful Report.the-type Laws'4.the-laws 𝓤 H A W; makes = Laws'6.makes Report.the-type Laws'4.the-plain 𝓤 H A; in-mem = Local.mem-whole 𝓤 H A W (Declared.row Report.the-type); of-mem = Local.whole-mem 𝓤 H A W (Declared.row Report.the-type) }
 
 abbrev pub hs : List.List Syntax.Home
 hs = List._∷_ Syntax.valueLocal (List._∷_ Syntax.valueLocal (List._∷_ Syntax.valueLocal (List._∷_ Syntax.valueLocal (List._∷_ Syntax.valueLocal (List._∷_ Syntax.valueLocal (List._∷_ Syntax.valueLocal (List._∷_ Syntax.valueLocal (List._∷_ Syntax.valueLocal (List._∷_ Syntax.valueLocal (List._∷_ Syntax.valueLocal (List._∷_ Syntax.valueLocal (List._∷_ Syntax.valueLocal (List._∷_ Syntax.valueLocal (List._∷_ Syntax.valueLocal (List._∷_ Syntax.valueLocal (List._∷_ Syntax.valueLocal (List._∷_ Syntax.valueLocal (List._∷_ Syntax.valueLocal (List._∷_ Syntax.valueLocal (List._∷_ Syntax.valueLocal (List._∷_ Syntax.valueLocal (List._∷_ Syntax.valueLocal (List._∷_ Syntax.valueLocal List.[])))))))))))))))))))))))
@@ -334,7 +337,7 @@ abbrev b4 : Syntax.Body
 b4 = Syntax.call "arc_swap::zero_run" (List._∷_ (Syntax.copy (Syntax.place 15 List.[])) List.[]) (Syntax.place 14 List.[])
 
 abbrev b5 : Syntax.Body
-b5 = Syntax.assign (Syntax.place 10 List.[]) (Syntax.rvOpd (Syntax.copy (Syntax.place 9 (List._∷_ (Syntax.field 2) List.[]))))
+b5 = Syntax.assign (Syntax.place 10 List.[]) (Syntax.rvOpd (Syntax.copy (Syntax.place 9 (List._∷_ (Syntax.field 1) List.[]))))
 
 abbrev b6 : Syntax.Body
 b6 = Syntax.assign (Syntax.place 16 List.[]) (Syntax.addrOf (Syntax.place 5 (List._∷_ (Syntax.field 0) (List._∷_ (Syntax.deref (Syntax.tyInt Syntax.w32)) List.[]))))
@@ -352,7 +355,7 @@ abbrev b10 : Syntax.Body
 b10 = Syntax.assign (Syntax.place 20 List.[]) (Syntax.addrOf (Syntax.place 8 (List._∷_ (Syntax.deref RunRecordTy.by-value) List.[])))
 
 abbrev b11 : Syntax.Body
-b11 = Syntax.call "arc_swap::make_passes" (List._∷_ (Syntax.copy (Syntax.place 1 List.[])) (List._∷_ (Syntax.copy (Syntax.place 2 List.[])) (List._∷_ (Syntax.copy (Syntax.place 3 List.[])) (List._∷_ (Syntax.copy (Syntax.place 4 List.[])) (List._∷_ (Syntax.copy (Syntax.place 17 List.[])) (List._∷_ (Syntax.copy (Syntax.place 19 List.[])) (List._∷_ (Syntax.copy (Syntax.place 9 (List._∷_ (Syntax.field 1) List.[]))) (List._∷_ (Syntax.copy (Syntax.place 9 (List._∷_ (Syntax.field 0) List.[]))) (List._∷_ (Syntax.copy (Syntax.place 10 List.[])) (List._∷_ (Syntax.copy (Syntax.place 20 List.[])) List.[])))))))))) (Syntax.place 11 List.[])
+b11 = Syntax.call "arc_swap::make_passes" (List._∷_ (Syntax.copy (Syntax.place 1 List.[])) (List._∷_ (Syntax.copy (Syntax.place 2 List.[])) (List._∷_ (Syntax.copy (Syntax.place 3 List.[])) (List._∷_ (Syntax.copy (Syntax.place 4 List.[])) (List._∷_ (Syntax.copy (Syntax.place 17 List.[])) (List._∷_ (Syntax.copy (Syntax.place 19 List.[])) (List._∷_ (Syntax.copy (Syntax.place 9 (List._∷_ (Syntax.field 0) List.[]))) (List._∷_ (Syntax.copy (Syntax.place 10 List.[])) (List._∷_ (Syntax.copy (Syntax.place 20 List.[])) List.[]))))))))) (Syntax.place 11 List.[])
 
 abbrev b12 : Syntax.Body
 b12 = Syntax.assign (Syntax.place 21 List.[]) (Syntax.addrOf (Syntax.place 6 (List._∷_ (Syntax.field 0) (List._∷_ (Syntax.deref (Syntax.tyInt Syntax.w32)) List.[]))))
@@ -472,7 +475,7 @@ abbrev pub t13 : List.List Row.Entry
 t13 = List._∷_ row·0 (List._∷_ row·1 (List._∷_ row·2 (List._∷_ row·3 (List._∷_ row·4 (List._∷_ row·35 (List._∷_ row·6 (List._∷_ row·25 (List._∷_ row·8 (List._∷_ row·29 (List._∷_ row·34 (List._∷_ row·11 (List._∷_ row·12 (List._∷_ row·13 (List._∷_ row·14 (List._∷_ row·15 List.[])))))))))))))))
 
 abbrev pub t14 : List.List Row.Entry
-t14 = List._∷_ (16, Relend.msptr (Referent.rtF (Referent.fInt Syntax.w32)) type·8 9) (List._∷_ row·17 (List._∷_ row·18 (List._∷_ row·19 (List._∷_ row·20 (List._∷_ row·21 (List._∷_ row·22 (List._∷_ row·23 List.[])))))))
+t14 = List._∷_ (16, Relend.msptr (Referent.rtF (Referent.fInt Syntax.w32)) type·9 9) (List._∷_ row·17 (List._∷_ row·18 (List._∷_ row·19 (List._∷_ row·20 (List._∷_ row·21 (List._∷_ row·22 (List._∷_ row·23 List.[])))))))
 
 abbrev pub t15 : List.List Row.Entry
 t15 = List._∷_ row·16 (List._∷_ row·36 (List._∷_ row·18 (List._∷_ row·19 (List._∷_ row·20 (List._∷_ row·21 (List._∷_ row·22 (List._∷_ row·23 List.[])))))))
@@ -481,7 +484,7 @@ abbrev pub t16 : List.List Row.Entry
 t16 = List._∷_ row·0 (List._∷_ row·1 (List._∷_ row·2 (List._∷_ row·3 (List._∷_ row·4 (List._∷_ row·35 (List._∷_ row·37 (List._∷_ row·25 (List._∷_ row·8 (List._∷_ row·29 (List._∷_ row·34 (List._∷_ row·11 (List._∷_ row·12 (List._∷_ row·13 (List._∷_ row·14 (List._∷_ row·15 List.[])))))))))))))))
 
 abbrev pub t17 : List.List Row.Entry
-t17 = List._∷_ row·16 (List._∷_ row·36 (List._∷_ (18, Relend.msptr (Referent.rtF (Referent.fInt Syntax.w32)) type·8 10) (List._∷_ row·19 (List._∷_ row·20 (List._∷_ row·21 (List._∷_ row·22 (List._∷_ row·23 List.[])))))))
+t17 = List._∷_ row·16 (List._∷_ row·36 (List._∷_ (18, Relend.msptr (Referent.rtF (Referent.fInt Syntax.w32)) type·9 10) (List._∷_ row·19 (List._∷_ row·20 (List._∷_ row·21 (List._∷_ row·22 (List._∷_ row·23 List.[])))))))
 
 abbrev pub t18 : List.List Row.Entry
 t18 = List._∷_ row·16 (List._∷_ row·36 (List._∷_ row·18 (List._∷_ row·38 (List._∷_ row·20 (List._∷_ row·21 (List._∷_ row·22 (List._∷_ row·23 List.[])))))))
@@ -490,13 +493,13 @@ abbrev pub t19 : List.List Row.Entry
 t19 = List._∷_ row·0 (List._∷_ row·1 (List._∷_ row·2 (List._∷_ row·3 (List._∷_ row·4 (List._∷_ row·35 (List._∷_ row·37 (List._∷_ row·25 (List._∷_ row·39 (List._∷_ row·29 (List._∷_ row·34 (List._∷_ row·11 (List._∷_ row·12 (List._∷_ row·13 (List._∷_ row·14 (List._∷_ row·15 List.[])))))))))))))))
 
 abbrev pub t20 : List.List Row.Entry
-t20 = List._∷_ row·16 (List._∷_ row·36 (List._∷_ row·18 (List._∷_ row·38 (List._∷_ (20, Rows.mref RunRecordTy.R type·7 11) (List._∷_ row·21 (List._∷_ row·22 (List._∷_ row·23 List.[])))))))
+t20 = List._∷_ row·16 (List._∷_ row·36 (List._∷_ row·18 (List._∷_ row·38 (List._∷_ (20, Rows.mref RunRecordTy.R type·8 11) (List._∷_ row·21 (List._∷_ row·22 (List._∷_ row·23 List.[])))))))
 
 abbrev pub t21 : List.List Row.Entry
 t21 = List._∷_ row·0 (List._∷_ row·1 (List._∷_ row·2 (List._∷_ row·3 (List._∷_ row·4 (List._∷_ row·35 (List._∷_ row·37 (List._∷_ row·25 (List._∷_ row·39 (List._∷_ row·29 (List._∷_ row·34 (List._∷_ row·40 (List._∷_ row·12 (List._∷_ row·13 (List._∷_ row·14 (List._∷_ row·15 List.[])))))))))))))))
 
 abbrev pub t22 : List.List Row.Entry
-t22 = List._∷_ row·16 (List._∷_ (17, Mut.msleft (Referent.rtF (Referent.fInt Syntax.w32)) type·8) (List._∷_ row·18 (List._∷_ row·41 (List._∷_ row·42 (List._∷_ row·21 (List._∷_ row·22 (List._∷_ row·23 List.[])))))))
+t22 = List._∷_ row·16 (List._∷_ (17, Mut.msleft (Referent.rtF (Referent.fInt Syntax.w32)) type·9) (List._∷_ row·18 (List._∷_ row·41 (List._∷_ row·42 (List._∷_ row·21 (List._∷_ row·22 (List._∷_ row·23 List.[])))))))
 
 abbrev pub t23 : List.List Row.Entry
 t23 = List._∷_ row·0 (List._∷_ row·1 (List._∷_ row·2 (List._∷_ row·3 (List._∷_ row·4 (List._∷_ row·35 (List._∷_ row·37 (List._∷_ row·25 (List._∷_ row·39 (List._∷_ row·9 (List._∷_ row·34 (List._∷_ row·40 (List._∷_ row·12 (List._∷_ row·13 (List._∷_ row·14 (List._∷_ row·15 List.[])))))))))))))))
@@ -520,7 +523,7 @@ abbrev pub t29 : List.List Row.Entry
 t29 = List._∷_ row·0 (List._∷_ row·1 (List._∷_ row·2 (List._∷_ row·3 (List._∷_ row·4 (List._∷_ row·5 (List._∷_ row·43 (List._∷_ row·25 (List._∷_ row·8 (List._∷_ row·9 (List._∷_ row·34 (List._∷_ row·40 (List._∷_ row·12 (List._∷_ row·13 (List._∷_ row·14 (List._∷_ row·15 List.[])))))))))))))))
 
 abbrev pub t30 : List.List Row.Entry
-t30 = List._∷_ row·16 (List._∷_ row·17 (List._∷_ row·18 (List._∷_ row·19 (List._∷_ row·20 (List._∷_ (21, Relend.msptr (Referent.rtF (Referent.fInt Syntax.w32)) type·8 12) (List._∷_ row·22 (List._∷_ row·23 List.[])))))))
+t30 = List._∷_ row·16 (List._∷_ row·17 (List._∷_ row·18 (List._∷_ row·19 (List._∷_ row·20 (List._∷_ (21, Relend.msptr (Referent.rtF (Referent.fInt Syntax.w32)) type·9 12) (List._∷_ row·22 (List._∷_ row·23 List.[])))))))
 
 abbrev pub t31 : List.List Row.Entry
 t31 = List._∷_ row·16 (List._∷_ row·17 (List._∷_ row·18 (List._∷_ row·19 (List._∷_ row·20 (List._∷_ row·21 (List._∷_ row·44 (List._∷_ row·23 List.[])))))))
@@ -674,43 +677,43 @@ O0 = record { next = Option.none; exits = List.[]; returns = Option.some T1 }
 
 module _ (claims· : Claims) where
   abbrev s0 : (bs : List.List Nat.ℕ) → Typed.Gives T0 T2
-  s0 = λ bs. Know.k-shs-known (Referent.fInt Syntax.w32) T0 1 0 type·11 Row.off 0 λ x. x
+  s0 = λ bs. Know.k-shs-known (Referent.fInt Syntax.w32) T0 1 0 type·12 Row.off 0 λ x. x
 
   abbrev s1 : (bs : List.List Nat.ℕ) → Typed.Gives T2 T3
-  s1 = λ bs. Know.k-shs-known (Referent.fInt Syntax.w32) T2 2 1 type·12 Row.off 0 λ x. x
+  s1 = λ bs. Know.k-shs-known (Referent.fInt Syntax.w32) T2 2 1 type·13 Row.off 0 λ x. x
 
   abbrev s2 : (bs : List.List Nat.ℕ) → Typed.Gives T3 T4
-  s2 = λ bs. Know.k-shs-known (Referent.fInt Syntax.w32) T3 3 2 type·13 Row.off 0 λ x. x
+  s2 = λ bs. Know.k-shs-known (Referent.fInt Syntax.w32) T3 3 2 type·14 Row.off 0 λ x. x
 
   abbrev s3 : (bs : List.List Nat.ℕ) → Typed.Gives T4 T5
-  s3 = λ bs. Know.k-shs-known (Referent.fInt Syntax.w32) T4 4 3 type·14 Row.off 0 λ x. x
+  s3 = λ bs. Know.k-shs-known (Referent.fInt Syntax.w32) T4 4 3 type·15 Row.off 0 λ x. x
 
   abbrev s4 : (bs : List.List Nat.ℕ) → Typed.Gives T5 T6
-  s4 = λ bs. Know.k-sl-known (Referent.fInt Syntax.w32) T5 5 4 type·15 Row.off 0 λ x. x
+  s4 = λ bs. Know.k-sl-known (Referent.fInt Syntax.w32) T5 5 4 type·16 Row.off 0 λ x. x
 
   abbrev s5 : (bs : List.List Nat.ℕ) → Typed.Gives T6 T7
-  s5 = λ bs. Know.k-sl-known (Referent.fInt Syntax.w32) T6 6 5 type·16 Row.off 0 λ x. x
+  s5 = λ bs. Know.k-sl-known (Referent.fInt Syntax.w32) T6 6 5 type·17 Row.off 0 λ x. x
 
   abbrev s7 : (bs : List.List Nat.ℕ) → Typed.Gives T7 T9
-  s7 = λ bs. Reshare.k-sl-reshare (Referent.rtF (Referent.fInt Syntax.w32)) T7 5 12 4 7 type·15 type·5 Row.off λ x. x
+  s7 = λ bs. Reshare.k-sl-reshare (Referent.rtF (Referent.fInt Syntax.w32)) T7 5 12 4 7 type·16 type·6 Row.off λ x. x
 
   abbrev s8 : (bs : List.List Nat.ℕ) → Typed.Asks T9 T10
-  s8 = λ bs. Relend.k-sl-aggregate (Referent.rtF (Referent.fInt Syntax.w32)) (Relend.asShr (Referent.rtF (Referent.fInt Syntax.w32))) T9 12 13 7 type·5 type·5 (λ x. x) (Scalar.oFld 5 (List._∷_ (Syntax.field 1) List.[]) (Syntax.tyInt Syntax.w64) 8 λ v. Shared.lenV (v .0))
+  s8 = λ bs. Relend.k-sl-aggregate (Referent.rtF (Referent.fInt Syntax.w32)) (Relend.asShr (Referent.rtF (Referent.fInt Syntax.w32))) T9 12 13 7 type·6 type·6 (λ x. x) (Scalar.oFld 5 (List._∷_ (Syntax.field 1) List.[]) (Syntax.tyInt Syntax.w64) 8 λ v. Shared.lenV (v .0))
 
   abbrev s9 : (bs : List.List Nat.ℕ) → Typed.Both T10 T11
-  s9 = λ bs. Call.callB ps·0 r·0 (claims· .0) (claims· .1) T10 (record { pos = 1; ty = Syntax.tyRef (Syntax.named 0) Syntax.imm (Syntax.tyInt Syntax.w32); ref = λ x. x }, (record { pos = 2; ty = Syntax.tyRef (Syntax.named 1) Syntax.imm (Syntax.tyInt Syntax.w32); ref = λ x. x }, (record { pos = 3; ty = Syntax.tyRef (Syntax.named 2) Syntax.imm (Syntax.tyInt Syntax.w32); ref = λ x. x }, (record { pos = 4; ty = Syntax.tyRef (Syntax.named 3) Syntax.imm (Syntax.tyInt Syntax.w32); ref = λ x. x }, (record { pos = 13; ty = Syntax.tyRef Syntax.erased Syntax.imm (Syntax.tyInt Syntax.w32); ref = λ x. x }, (record { pos = 7; st = List.[]; d = 0; at = λ x. x }, tt)))))) 9 (List._∷_ 0 (List._∷_ 1 (List._∷_ 2 (List._∷_ 3 (List._∷_ 7 List.[]))))) type·3
+  s9 = λ bs. Call.callB ps·0 r·0 (claims· .0) (claims· .1) T10 (record { pos = 1; ty = Syntax.tyRef (Syntax.named 0) Syntax.imm (Syntax.tyInt Syntax.w32); ref = λ x. x }, (record { pos = 2; ty = Syntax.tyRef (Syntax.named 1) Syntax.imm (Syntax.tyInt Syntax.w32); ref = λ x. x }, (record { pos = 3; ty = Syntax.tyRef (Syntax.named 2) Syntax.imm (Syntax.tyInt Syntax.w32); ref = λ x. x }, (record { pos = 4; ty = Syntax.tyRef (Syntax.named 3) Syntax.imm (Syntax.tyInt Syntax.w32); ref = λ x. x }, (record { pos = 13; ty = Syntax.tyRef Syntax.erased Syntax.imm (Syntax.tyInt Syntax.w32); ref = λ x. x }, (record { pos = 7; st = List.[]; d = 0; at = λ x. x }, tt)))))) 9 (List._∷_ 0 (List._∷_ 1 (List._∷_ 2 (List._∷_ 3 (List._∷_ 7 List.[]))))) type·4
 
   abbrev s10 : (bs : List.List Nat.ℕ) → Typed.Mo T11 → Typed.Mo T12
-  s10 = λ bs. Scalar.n-room T11 13 type·6
+  s10 = λ bs. Scalar.n-room T11 13 type·7
 
   abbrev s11 : (bs : List.List Nat.ℕ) → Typed.Mo T12 → Typed.Mo T13
-  s11 = λ bs. Scalar.n-room T12 7 type·19
+  s11 = λ bs. Scalar.n-room T12 7 type·20
 
   abbrev s13 : (bs : List.List Nat.ℕ) → Typed.Mo T13 → Typed.Mo T15
-  s13 = λ bs. Reshare.n-back-sl-shr (Referent.rtF (Referent.fInt Syntax.w32)) T13 5 4 7 type·15 Row.off λ x. x
+  s13 = λ bs. Reshare.n-back-sl-shr (Referent.rtF (Referent.fInt Syntax.w32)) T13 5 4 7 type·16 Row.off λ x. x
 
   abbrev s16 : (bs : List.List Nat.ℕ) → Typed.Gives T15 T18
-  s16 = λ bs. Reborrow.k-mref-relend T15 8 15 6 8 RunRecordTy.R type·17 type·7 Row.off List.[] λ x. x
+  s16 = λ bs. Reborrow.k-mref-relend T15 8 15 6 8 RunRecordTy.R type·18 type·8 Row.off List.[] λ x. x
 
   abbrev s17 : (bs : List.List Nat.ℕ) → Typed.Both T18 T19
   s17 = λ bs. Call.callB ps·1 r·1 (claims· .2) (claims· .3) T18 (record { pos = 15; ty = Syntax.tyRef Syntax.erased Syntax.mut RunRecordTy.behind; ref = λ x. x }, tt) 14 (List._∷_ 8 List.[]) Syntax.tyUnit
@@ -719,52 +722,52 @@ module _ (claims· : Claims) where
   s18 = λ bs. Scalar.n-room T19 14 Syntax.tyUnit
 
   abbrev s20 : (bs : List.List Nat.ℕ) → Typed.Asks T20 T22
-  s20 = λ bs. Reborrow.k-back-mref T20 15 8 6 RunRecordTy.R type·17 type·7 List.[] (λ x. x) λ x. x
+  s20 = λ bs. Reborrow.k-back-mref T20 15 8 6 RunRecordTy.R type·18 type·8 List.[] (λ x. x) λ x. x
 
   abbrev s22 : (bs : List.List Nat.ℕ) → Typed.Both T22 T24
-  s22 = λ bs. WayStmt.k-way-copy-out T22 (Row.out 9 (T22 .locals)) (λ u. Row.drop 9 (T22 .locals) u) 10 (Rows.whole (Declared.row Standing.the-type)) (λ u. At.getAt (Begun.the-type .parts) 2 (Begun.struct .as-values (u .1 .1 .1 .1 .1 .1 .1 .1 .1 .0))) (λ T′. record { locals = Row.setRow 9 row·29 T′; slots = List.[] }) (λ u T′ m′. Row.set 9 row·29 (u .1 .1 .1 .1 .1 .1 .1 .1 .1 .0) T′ m′) (λ u. Unit) λ u. Unit
+  s22 = λ bs. WayStmt.k-way-copy-out T22 (Row.out 9 (T22 .locals)) (λ u. Row.drop 9 (T22 .locals) u) 10 (Rows.whole (Declared.row Standing.the-type)) (λ u. At.getAt (Begun.the-type .parts) 1 (Begun.struct .as-values (u .1 .1 .1 .1 .1 .1 .1 .1 .1 .0))) (λ T′. record { locals = Row.setRow 9 row·29 T′; slots = List.[] }) (λ u T′ m′. Row.set 9 row·29 (u .1 .1 .1 .1 .1 .1 .1 .1 .1 .0) T′ m′) (λ u. Unit) λ u. Unit
 
   abbrev s24 : (bs : List.List Nat.ℕ) → Typed.Gives T24 T26
-  s24 = λ bs. Relend.k-sl-relend (Referent.rtF (Referent.fInt Syntax.w32)) T24 5 16 4 9 type·15 type·8 Row.off λ x. x
+  s24 = λ bs. Relend.k-sl-relend (Referent.rtF (Referent.fInt Syntax.w32)) T24 5 16 4 9 type·16 type·9 Row.off λ x. x
 
   abbrev s25 : (bs : List.List Nat.ℕ) → Typed.Asks T26 T27
-  s25 = λ bs. Relend.k-sl-aggregate (Referent.rtF (Referent.fInt Syntax.w32)) (Relend.asMut (Referent.rtF (Referent.fInt Syntax.w32))) T26 16 17 9 type·8 type·8 (λ x. x) (Scalar.oFld 5 (List._∷_ (Syntax.field 1) List.[]) (Syntax.tyInt Syntax.w64) 8 λ v. Shared.lenV (v .0))
+  s25 = λ bs. Relend.k-sl-aggregate (Referent.rtF (Referent.fInt Syntax.w32)) (Relend.asMut (Referent.rtF (Referent.fInt Syntax.w32))) T26 16 17 9 type·9 type·9 (λ x. x) (Scalar.oFld 5 (List._∷_ (Syntax.field 1) List.[]) (Syntax.tyInt Syntax.w64) 8 λ v. Shared.lenV (v .0))
 
   abbrev s27 : (bs : List.List Nat.ℕ) → Typed.Gives T27 T29
-  s27 = λ bs. Relend.k-sl-relend (Referent.rtF (Referent.fInt Syntax.w32)) T27 6 18 5 10 type·16 type·8 Row.off λ x. x
+  s27 = λ bs. Relend.k-sl-relend (Referent.rtF (Referent.fInt Syntax.w32)) T27 6 18 5 10 type·17 type·9 Row.off λ x. x
 
   abbrev s28 : (bs : List.List Nat.ℕ) → Typed.Asks T29 T30
-  s28 = λ bs. Relend.k-sl-aggregate (Referent.rtF (Referent.fInt Syntax.w32)) (Relend.asMut (Referent.rtF (Referent.fInt Syntax.w32))) T29 18 19 10 type·8 type·8 (λ x. x) (Scalar.oFld 6 (List._∷_ (Syntax.field 1) List.[]) (Syntax.tyInt Syntax.w64) 8 λ v. Shared.lenV (v .0))
+  s28 = λ bs. Relend.k-sl-aggregate (Referent.rtF (Referent.fInt Syntax.w32)) (Relend.asMut (Referent.rtF (Referent.fInt Syntax.w32))) T29 18 19 10 type·9 type·9 (λ x. x) (Scalar.oFld 6 (List._∷_ (Syntax.field 1) List.[]) (Syntax.tyInt Syntax.w64) 8 λ v. Shared.lenV (v .0))
 
   abbrev s30 : (bs : List.List Nat.ℕ) → Typed.Gives T30 T32
-  s30 = λ bs. Reborrow.k-mref-relend T30 8 20 6 11 RunRecordTy.R type·17 type·7 Row.off List.[] λ x. x
+  s30 = λ bs. Reborrow.k-mref-relend T30 8 20 6 11 RunRecordTy.R type·18 type·8 Row.off List.[] λ x. x
 
   abbrev s31 : (bs : List.List Nat.ℕ) → Typed.Both T32 T33
-  s31 = λ bs. Call.callB ps·2 r·2 (claims· .4) (claims· .5) T32 (record { pos = 1; ty = Syntax.tyRef (Syntax.named 0) Syntax.imm (Syntax.tyInt Syntax.w32); ref = λ x. x }, (record { pos = 2; ty = Syntax.tyRef (Syntax.named 1) Syntax.imm (Syntax.tyInt Syntax.w32); ref = λ x. x }, (record { pos = 3; ty = Syntax.tyRef (Syntax.named 2) Syntax.imm (Syntax.tyInt Syntax.w32); ref = λ x. x }, (record { pos = 4; ty = Syntax.tyRef (Syntax.named 3) Syntax.imm (Syntax.tyInt Syntax.w32); ref = λ x. x }, (record { pos = 17; ty = Syntax.tyRef Syntax.erased Syntax.mut (Syntax.tyInt Syntax.w32); ref = λ x. x }, (record { pos = 19; ty = Syntax.tyRef Syntax.erased Syntax.mut (Syntax.tyInt Syntax.w32); ref = λ x. x }, (record { pos = 9; st = List._∷_ (Syntax.field 1) List.[]; d = 8; at = λ x. Begun.struct .as-values x .1 .0 }, (Num.vFld 9 (List._∷_ (Syntax.field 0) List.[]) 0 λ x. Begun.struct .as-values x .0, (record { pos = 10; st = List.[]; d = 0; at = λ x. x }, (record { pos = 20; ty = Syntax.tyRef Syntax.erased Syntax.mut RunRecordTy.behind; ref = λ x. x }, tt)))))))))) 11 (List._∷_ 0 (List._∷_ 1 (List._∷_ 2 (List._∷_ 3 (List._∷_ 9 (List._∷_ 10 (List._∷_ 11 List.[]))))))) type·4
+  s31 = λ bs. Call.callB ps·2 r·2 (claims· .4) (claims· .5) T32 (record { pos = 1; ty = Syntax.tyRef (Syntax.named 0) Syntax.imm (Syntax.tyInt Syntax.w32); ref = λ x. x }, (record { pos = 2; ty = Syntax.tyRef (Syntax.named 1) Syntax.imm (Syntax.tyInt Syntax.w32); ref = λ x. x }, (record { pos = 3; ty = Syntax.tyRef (Syntax.named 2) Syntax.imm (Syntax.tyInt Syntax.w32); ref = λ x. x }, (record { pos = 4; ty = Syntax.tyRef (Syntax.named 3) Syntax.imm (Syntax.tyInt Syntax.w32); ref = λ x. x }, (record { pos = 17; ty = Syntax.tyRef Syntax.erased Syntax.mut (Syntax.tyInt Syntax.w32); ref = λ x. x }, (record { pos = 19; ty = Syntax.tyRef Syntax.erased Syntax.mut (Syntax.tyInt Syntax.w32); ref = λ x. x }, (record { pos = 9; st = List._∷_ (Syntax.field 0) List.[]; d = 0; at = λ x. Begun.struct .as-values x .0 }, (record { pos = 10; st = List.[]; d = 0; at = λ x. x }, (record { pos = 20; ty = Syntax.tyRef Syntax.erased Syntax.mut RunRecordTy.behind; ref = λ x. x }, tt))))))))) 11 (List._∷_ 0 (List._∷_ 1 (List._∷_ 2 (List._∷_ 3 (List._∷_ 9 (List._∷_ 10 (List._∷_ 11 List.[]))))))) type·5
 
   abbrev s32 : (bs : List.List Nat.ℕ) → Typed.Mo T33 → Typed.Mo T34
-  s32 = λ bs. Scalar.n-room T33 9 type·3
+  s32 = λ bs. Scalar.n-room T33 9 type·4
 
   abbrev s34 : (bs : List.List Nat.ℕ) → Typed.Both T34 T36
-  s34 = λ bs. Relend.k-back-sl (Referent.rtF (Referent.fInt Syntax.w32)) T34 17 5 4 9 type·15 type·8 Row.off (λ x. x) λ x. x
+  s34 = λ bs. Relend.k-back-sl (Referent.rtF (Referent.fInt Syntax.w32)) T34 17 5 4 9 type·16 type·9 Row.off (λ x. x) λ x. x
 
   abbrev s35 : (bs : List.List Nat.ℕ) → Typed.Gives T36 T37
-  s35 = λ bs. Know.k-sl-known (Referent.fInt Syntax.w32) T36 5 4 type·15 Row.off 0 λ x. x
+  s35 = λ bs. Know.k-sl-known (Referent.fInt Syntax.w32) T36 5 4 type·16 Row.off 0 λ x. x
 
   abbrev s38 : (bs : List.List Nat.ℕ) → Typed.Both T37 T40
-  s38 = λ bs. Relend.k-back-sl (Referent.rtF (Referent.fInt Syntax.w32)) T37 19 6 5 10 type·16 type·8 Row.off (λ x. x) λ x. x
+  s38 = λ bs. Relend.k-back-sl (Referent.rtF (Referent.fInt Syntax.w32)) T37 19 6 5 10 type·17 type·9 Row.off (λ x. x) λ x. x
 
   abbrev s39 : (bs : List.List Nat.ℕ) → Typed.Gives T40 T41
-  s39 = λ bs. Know.k-sl-known (Referent.fInt Syntax.w32) T40 6 5 type·16 Row.off 0 λ x. x
+  s39 = λ bs. Know.k-sl-known (Referent.fInt Syntax.w32) T40 6 5 type·17 Row.off 0 λ x. x
 
   abbrev s42 : (bs : List.List Nat.ℕ) → Typed.Asks T41 T44
-  s42 = λ bs. Reborrow.k-back-mref T41 20 8 6 RunRecordTy.R type·17 type·7 List.[] (λ x. x) λ x. x
+  s42 = λ bs. Reborrow.k-back-mref T41 20 8 6 RunRecordTy.R type·18 type·8 List.[] (λ x. x) λ x. x
 
   abbrev s45 : (bs : List.List Nat.ℕ) → Typed.Gives T44 T47
-  s45 = λ bs. Relend.k-sl-relend (Referent.rtF (Referent.fInt Syntax.w32)) T44 6 21 5 12 type·16 type·8 Row.off λ x. x
+  s45 = λ bs. Relend.k-sl-relend (Referent.rtF (Referent.fInt Syntax.w32)) T44 6 21 5 12 type·17 type·9 Row.off λ x. x
 
   abbrev s46 : (bs : List.List Nat.ℕ) → Typed.Asks T47 T48
-  s46 = λ bs. Relend.k-sl-aggregate (Referent.rtF (Referent.fInt Syntax.w32)) (Relend.asMut (Referent.rtF (Referent.fInt Syntax.w32))) T47 21 22 12 type·8 type·8 (λ x. x) (Scalar.oFld 6 (List._∷_ (Syntax.field 1) List.[]) (Syntax.tyInt Syntax.w64) 8 λ v. Shared.lenV (v .0))
+  s46 = λ bs. Relend.k-sl-aggregate (Referent.rtF (Referent.fInt Syntax.w32)) (Relend.asMut (Referent.rtF (Referent.fInt Syntax.w32))) T47 21 22 12 type·9 type·9 (λ x. x) (Scalar.oFld 6 (List._∷_ (Syntax.field 1) List.[]) (Syntax.tyInt Syntax.w64) 8 λ v. Shared.lenV (v .0))
 
   abbrev s47 : (bs : List.List Nat.ℕ) → Typed.Mo T48 → Typed.Mo T49
   s47 = λ bs. Scalar.n-use T48 (Scalar.oFld 6 (List._∷_ (Syntax.field 1) List.[]) (Syntax.tyInt Syntax.w64) 8 λ v. Shared.lenV (v .0)) 23 (Rows.sc-here (Row.sInt Syntax.w64)) (Row.sInt Syntax.w64 .of)
@@ -779,19 +782,19 @@ module _ (claims· : Claims) where
   s50 = λ bs. Scalar.n-room T51 23 (Syntax.tyInt Syntax.w64)
 
   abbrev s52 : (bs : List.List Nat.ℕ) → Typed.Both T52 T54
-  s52 = λ bs. Relend.k-back-sl (Referent.rtF (Referent.fInt Syntax.w32)) T52 22 6 5 12 type·16 type·8 Row.off (λ x. x) λ x. x
+  s52 = λ bs. Relend.k-back-sl (Referent.rtF (Referent.fInt Syntax.w32)) T52 22 6 5 12 type·17 type·9 Row.off (λ x. x) λ x. x
 
   abbrev s53 : (bs : List.List Nat.ℕ) → Typed.Gives T54 T55
-  s53 = λ bs. Know.k-sl-known (Referent.fInt Syntax.w32) T54 6 5 type·16 Row.off 0 λ x. x
+  s53 = λ bs. Know.k-sl-known (Referent.fInt Syntax.w32) T54 6 5 type·17 Row.off 0 λ x. x
 
   abbrev s55 : (bs : List.List Nat.ℕ) → Typed.Both T55 T57
-  s55 = λ bs. Call.callB ps·4 r·4 (claims· .8) (claims· .9) T55 (Num.vFld 10 (List._∷_ (Syntax.field 2) List.[]) 16 λ x. Standing.struct .as-values x .1 .1 .0, (record { pos = 11; st = List.[]; d = 0; at = λ x. x }, tt)) 0 List.[] type·10
+  s55 = λ bs. Call.callB ps·4 r·4 (claims· .8) (claims· .9) T55 (Num.vFld 10 (List._∷_ (Syntax.field 2) List.[]) 16 λ x. Standing.struct .as-values x .1 .1 .0, (record { pos = 11; st = List.[]; d = 0; at = λ x. x }, tt)) 0 List.[] type·11
 
   abbrev s56 : (bs : List.List Nat.ℕ) → Typed.Mo T57 → Typed.Mo T58
-  s56 = λ bs. Scalar.n-room T57 10 type·2
+  s56 = λ bs. Scalar.n-room T57 10 type·3
 
   abbrev s57 : (bs : List.List Nat.ℕ) → Typed.Mo T58 → Typed.Mo T59
-  s57 = λ bs. Scalar.n-room T58 11 type·4
+  s57 = λ bs. Scalar.n-room T58 11 type·5
 
   module _ (Pre· : (κs : Lifetimes.Lfts 7) → Kinds.Dens κs ps → Type 0) (Post· : (κs : Lifetimes.Lfts 7) → (a : Kinds.Dens κs ps) → Kinds.Plain 7 ps r κs) where
     module _ (M : Type 1) where
@@ -985,55 +988,55 @@ module _ (claims· : Claims) where
 
       module _ (κs : Lifetimes.Lfts 7) (qs : Lifetimes.Shares 7) where
         abbrev g3 : List.List Row.Entry
-        g3 = List._∷_ row·0 (List._∷_ row·1 (List._∷_ row·2 (List._∷_ row·3 (List._∷_ row·4 (List._∷_ (5, Reshare.mslice-owedS (Referent.rtF (Referent.fInt Syntax.w32)) type·15 4 7 (Row.lease (κs .1 .1 .1 .1 .0) (qs .1 .1 .1 .1 .0))) (List._∷_ row·6 (List._∷_ row·7 (List._∷_ row·8 (List._∷_ row·9 (List._∷_ row·10 (List._∷_ row·11 (List._∷_ row·27 (List._∷_ row·13 (List._∷_ row·14 (List._∷_ row·15 List.[])))))))))))))))
+        g3 = List._∷_ row·0 (List._∷_ row·1 (List._∷_ row·2 (List._∷_ row·3 (List._∷_ row·4 (List._∷_ (5, Reshare.mslice-owedS (Referent.rtF (Referent.fInt Syntax.w32)) type·16 4 7 (Row.lease (κs .1 .1 .1 .1 .0) (qs .1 .1 .1 .1 .0))) (List._∷_ row·6 (List._∷_ row·7 (List._∷_ row·8 (List._∷_ row·9 (List._∷_ row·10 (List._∷_ row·11 (List._∷_ row·27 (List._∷_ row·13 (List._∷_ row·14 (List._∷_ row·15 List.[])))))))))))))))
 
         abbrev g4 : List.List Row.Entry
-        g4 = List._∷_ row·0 (List._∷_ row·1 (List._∷_ row·2 (List._∷_ row·3 (List._∷_ row·4 (List._∷_ (5, Reshare.mslice-owedS (Referent.rtF (Referent.fInt Syntax.w32)) type·15 4 7 (Row.lease (κs .1 .1 .1 .1 .0) (qs .1 .1 .1 .1 .0))) (List._∷_ row·6 (List._∷_ row·7 (List._∷_ row·8 (List._∷_ row·9 (List._∷_ row·10 (List._∷_ row·11 (List._∷_ row·12 (List._∷_ row·28 (List._∷_ row·14 (List._∷_ row·15 List.[])))))))))))))))
+        g4 = List._∷_ row·0 (List._∷_ row·1 (List._∷_ row·2 (List._∷_ row·3 (List._∷_ row·4 (List._∷_ (5, Reshare.mslice-owedS (Referent.rtF (Referent.fInt Syntax.w32)) type·16 4 7 (Row.lease (κs .1 .1 .1 .1 .0) (qs .1 .1 .1 .1 .0))) (List._∷_ row·6 (List._∷_ row·7 (List._∷_ row·8 (List._∷_ row·9 (List._∷_ row·10 (List._∷_ row·11 (List._∷_ row·12 (List._∷_ row·28 (List._∷_ row·14 (List._∷_ row·15 List.[])))))))))))))))
 
         abbrev g5 : List.List Row.Entry
-        g5 = List._∷_ row·0 (List._∷_ row·1 (List._∷_ row·2 (List._∷_ row·3 (List._∷_ row·4 (List._∷_ (5, Reshare.mslice-owedS (Referent.rtF (Referent.fInt Syntax.w32)) type·15 4 7 (Row.lease (κs .1 .1 .1 .1 .0) (qs .1 .1 .1 .1 .0))) (List._∷_ row·6 (List._∷_ row·7 (List._∷_ row·8 (List._∷_ row·29 (List._∷_ row·10 (List._∷_ row·11 (List._∷_ row·12 (List._∷_ row·28 (List._∷_ row·14 (List._∷_ row·15 List.[])))))))))))))))
+        g5 = List._∷_ row·0 (List._∷_ row·1 (List._∷_ row·2 (List._∷_ row·3 (List._∷_ row·4 (List._∷_ (5, Reshare.mslice-owedS (Referent.rtF (Referent.fInt Syntax.w32)) type·16 4 7 (Row.lease (κs .1 .1 .1 .1 .0) (qs .1 .1 .1 .1 .0))) (List._∷_ row·6 (List._∷_ row·7 (List._∷_ row·8 (List._∷_ row·29 (List._∷_ row·10 (List._∷_ row·11 (List._∷_ row·12 (List._∷_ row·28 (List._∷_ row·14 (List._∷_ row·15 List.[])))))))))))))))
 
         abbrev g6 : List.List Row.Entry
-        g6 = List._∷_ row·0 (List._∷_ row·1 (List._∷_ row·2 (List._∷_ row·3 (List._∷_ row·4 (List._∷_ (5, Reshare.mslice-owedS (Referent.rtF (Referent.fInt Syntax.w32)) type·15 4 7 (Row.lease (κs .1 .1 .1 .1 .0) (qs .1 .1 .1 .1 .0))) (List._∷_ row·6 (List._∷_ row·7 (List._∷_ row·8 (List._∷_ row·29 (List._∷_ row·10 (List._∷_ row·11 (List._∷_ row·12 (List._∷_ row·13 (List._∷_ row·14 (List._∷_ row·15 List.[])))))))))))))))
+        g6 = List._∷_ row·0 (List._∷_ row·1 (List._∷_ row·2 (List._∷_ row·3 (List._∷_ row·4 (List._∷_ (5, Reshare.mslice-owedS (Referent.rtF (Referent.fInt Syntax.w32)) type·16 4 7 (Row.lease (κs .1 .1 .1 .1 .0) (qs .1 .1 .1 .1 .0))) (List._∷_ row·6 (List._∷_ row·7 (List._∷_ row·8 (List._∷_ row·29 (List._∷_ row·10 (List._∷_ row·11 (List._∷_ row·12 (List._∷_ row·13 (List._∷_ row·14 (List._∷_ row·15 List.[])))))))))))))))
 
         abbrev g7 : List.List Row.Entry
-        g7 = List._∷_ row·0 (List._∷_ row·1 (List._∷_ row·2 (List._∷_ row·3 (List._∷_ row·4 (List._∷_ (5, Reshare.mslice-owedS (Referent.rtF (Referent.fInt Syntax.w32)) type·15 4 7 (Row.lease (κs .1 .1 .1 .1 .0) (qs .1 .1 .1 .1 .0))) (List._∷_ row·6 (List._∷_ row·25 (List._∷_ row·8 (List._∷_ row·29 (List._∷_ row·10 (List._∷_ row·11 (List._∷_ row·12 (List._∷_ row·13 (List._∷_ row·14 (List._∷_ row·15 List.[])))))))))))))))
+        g7 = List._∷_ row·0 (List._∷_ row·1 (List._∷_ row·2 (List._∷_ row·3 (List._∷_ row·4 (List._∷_ (5, Reshare.mslice-owedS (Referent.rtF (Referent.fInt Syntax.w32)) type·16 4 7 (Row.lease (κs .1 .1 .1 .1 .0) (qs .1 .1 .1 .1 .0))) (List._∷_ row·6 (List._∷_ row·25 (List._∷_ row·8 (List._∷_ row·29 (List._∷_ row·10 (List._∷_ row·11 (List._∷_ row·12 (List._∷_ row·13 (List._∷_ row·14 (List._∷_ row·15 List.[])))))))))))))))
 
         abbrev g9 : List.List Row.Entry
-        g9 = List._∷_ row·0 (List._∷_ row·1 (List._∷_ row·2 (List._∷_ row·3 (List._∷_ row·4 (List._∷_ row·5 (List._∷_ row·6 (List._∷_ row·25 (List._∷_ (8, Rows.mref-owed RunRecordTy.R type·17 6 8 (Row.lease (κs .1 .1 .1 .1 .1 .1 .0) (qs .1 .1 .1 .1 .1 .1 .0))) (List._∷_ row·29 (List._∷_ row·10 (List._∷_ row·11 (List._∷_ row·12 (List._∷_ row·13 (List._∷_ row·14 (List._∷_ row·31 List.[])))))))))))))))
+        g9 = List._∷_ row·0 (List._∷_ row·1 (List._∷_ row·2 (List._∷_ row·3 (List._∷_ row·4 (List._∷_ row·5 (List._∷_ row·6 (List._∷_ row·25 (List._∷_ (8, Rows.mref-owed RunRecordTy.R type·18 6 8 (Row.lease (κs .1 .1 .1 .1 .1 .1 .0) (qs .1 .1 .1 .1 .1 .1 .0))) (List._∷_ row·29 (List._∷_ row·10 (List._∷_ row·11 (List._∷_ row·12 (List._∷_ row·13 (List._∷_ row·14 (List._∷_ row·31 List.[])))))))))))))))
 
         abbrev g10 : List.List Row.Entry
-        g10 = List._∷_ row·0 (List._∷_ row·1 (List._∷_ row·2 (List._∷_ row·3 (List._∷_ row·4 (List._∷_ row·5 (List._∷_ row·6 (List._∷_ row·25 (List._∷_ (8, Rows.mref-owed RunRecordTy.R type·17 6 8 (Row.lease (κs .1 .1 .1 .1 .1 .1 .0) (qs .1 .1 .1 .1 .1 .1 .0))) (List._∷_ row·29 (List._∷_ row·10 (List._∷_ row·11 (List._∷_ row·12 (List._∷_ row·13 (List._∷_ row·32 (List._∷_ row·33 List.[])))))))))))))))
+        g10 = List._∷_ row·0 (List._∷_ row·1 (List._∷_ row·2 (List._∷_ row·3 (List._∷_ row·4 (List._∷_ row·5 (List._∷_ row·6 (List._∷_ row·25 (List._∷_ (8, Rows.mref-owed RunRecordTy.R type·18 6 8 (Row.lease (κs .1 .1 .1 .1 .1 .1 .0) (qs .1 .1 .1 .1 .1 .1 .0))) (List._∷_ row·29 (List._∷_ row·10 (List._∷_ row·11 (List._∷_ row·12 (List._∷_ row·13 (List._∷_ row·32 (List._∷_ row·33 List.[])))))))))))))))
 
         abbrev g11 : List.List Row.Entry
-        g11 = List._∷_ row·0 (List._∷_ row·1 (List._∷_ row·2 (List._∷_ row·3 (List._∷_ row·4 (List._∷_ row·5 (List._∷_ row·6 (List._∷_ row·25 (List._∷_ (8, Rows.mref-owed RunRecordTy.R type·17 6 8 (Row.lease (κs .1 .1 .1 .1 .1 .1 .0) (qs .1 .1 .1 .1 .1 .1 .0))) (List._∷_ row·29 (List._∷_ row·10 (List._∷_ row·11 (List._∷_ row·12 (List._∷_ row·13 (List._∷_ row·14 (List._∷_ row·33 List.[])))))))))))))))
+        g11 = List._∷_ row·0 (List._∷_ row·1 (List._∷_ row·2 (List._∷_ row·3 (List._∷_ row·4 (List._∷_ row·5 (List._∷_ row·6 (List._∷_ row·25 (List._∷_ (8, Rows.mref-owed RunRecordTy.R type·18 6 8 (Row.lease (κs .1 .1 .1 .1 .1 .1 .0) (qs .1 .1 .1 .1 .1 .1 .0))) (List._∷_ row·29 (List._∷_ row·10 (List._∷_ row·11 (List._∷_ row·12 (List._∷_ row·13 (List._∷_ row·14 (List._∷_ row·33 List.[])))))))))))))))
 
         abbrev g13 : List.List Row.Entry
-        g13 = List._∷_ row·0 (List._∷_ row·1 (List._∷_ row·2 (List._∷_ row·3 (List._∷_ row·4 (List._∷_ (5, Relend.mslice-owed (Referent.rtF (Referent.fInt Syntax.w32)) type·15 4 9 (Row.lease (κs .1 .1 .1 .1 .0) (qs .1 .1 .1 .1 .0))) (List._∷_ row·6 (List._∷_ row·25 (List._∷_ row·8 (List._∷_ row·29 (List._∷_ row·34 (List._∷_ row·11 (List._∷_ row·12 (List._∷_ row·13 (List._∷_ row·14 (List._∷_ row·15 List.[])))))))))))))))
+        g13 = List._∷_ row·0 (List._∷_ row·1 (List._∷_ row·2 (List._∷_ row·3 (List._∷_ row·4 (List._∷_ (5, Relend.mslice-owed (Referent.rtF (Referent.fInt Syntax.w32)) type·16 4 9 (Row.lease (κs .1 .1 .1 .1 .0) (qs .1 .1 .1 .1 .0))) (List._∷_ row·6 (List._∷_ row·25 (List._∷_ row·8 (List._∷_ row·29 (List._∷_ row·34 (List._∷_ row·11 (List._∷_ row·12 (List._∷_ row·13 (List._∷_ row·14 (List._∷_ row·15 List.[])))))))))))))))
 
         abbrev g16 : List.List Row.Entry
-        g16 = List._∷_ row·0 (List._∷_ row·1 (List._∷_ row·2 (List._∷_ row·3 (List._∷_ row·4 (List._∷_ (5, Relend.mslice-owed (Referent.rtF (Referent.fInt Syntax.w32)) type·15 4 9 (Row.lease (κs .1 .1 .1 .1 .0) (qs .1 .1 .1 .1 .0))) (List._∷_ (6, Relend.mslice-owed (Referent.rtF (Referent.fInt Syntax.w32)) type·16 5 10 (Row.lease (κs .1 .1 .1 .1 .1 .0) (qs .1 .1 .1 .1 .1 .0))) (List._∷_ row·25 (List._∷_ row·8 (List._∷_ row·29 (List._∷_ row·34 (List._∷_ row·11 (List._∷_ row·12 (List._∷_ row·13 (List._∷_ row·14 (List._∷_ row·15 List.[])))))))))))))))
+        g16 = List._∷_ row·0 (List._∷_ row·1 (List._∷_ row·2 (List._∷_ row·3 (List._∷_ row·4 (List._∷_ (5, Relend.mslice-owed (Referent.rtF (Referent.fInt Syntax.w32)) type·16 4 9 (Row.lease (κs .1 .1 .1 .1 .0) (qs .1 .1 .1 .1 .0))) (List._∷_ (6, Relend.mslice-owed (Referent.rtF (Referent.fInt Syntax.w32)) type·17 5 10 (Row.lease (κs .1 .1 .1 .1 .1 .0) (qs .1 .1 .1 .1 .1 .0))) (List._∷_ row·25 (List._∷_ row·8 (List._∷_ row·29 (List._∷_ row·34 (List._∷_ row·11 (List._∷_ row·12 (List._∷_ row·13 (List._∷_ row·14 (List._∷_ row·15 List.[])))))))))))))))
 
         abbrev g19 : List.List Row.Entry
-        g19 = List._∷_ row·0 (List._∷_ row·1 (List._∷_ row·2 (List._∷_ row·3 (List._∷_ row·4 (List._∷_ (5, Relend.mslice-owed (Referent.rtF (Referent.fInt Syntax.w32)) type·15 4 9 (Row.lease (κs .1 .1 .1 .1 .0) (qs .1 .1 .1 .1 .0))) (List._∷_ (6, Relend.mslice-owed (Referent.rtF (Referent.fInt Syntax.w32)) type·16 5 10 (Row.lease (κs .1 .1 .1 .1 .1 .0) (qs .1 .1 .1 .1 .1 .0))) (List._∷_ row·25 (List._∷_ (8, Rows.mref-owed RunRecordTy.R type·17 6 11 (Row.lease (κs .1 .1 .1 .1 .1 .1 .0) (qs .1 .1 .1 .1 .1 .1 .0))) (List._∷_ row·29 (List._∷_ row·34 (List._∷_ row·11 (List._∷_ row·12 (List._∷_ row·13 (List._∷_ row·14 (List._∷_ row·15 List.[])))))))))))))))
+        g19 = List._∷_ row·0 (List._∷_ row·1 (List._∷_ row·2 (List._∷_ row·3 (List._∷_ row·4 (List._∷_ (5, Relend.mslice-owed (Referent.rtF (Referent.fInt Syntax.w32)) type·16 4 9 (Row.lease (κs .1 .1 .1 .1 .0) (qs .1 .1 .1 .1 .0))) (List._∷_ (6, Relend.mslice-owed (Referent.rtF (Referent.fInt Syntax.w32)) type·17 5 10 (Row.lease (κs .1 .1 .1 .1 .1 .0) (qs .1 .1 .1 .1 .1 .0))) (List._∷_ row·25 (List._∷_ (8, Rows.mref-owed RunRecordTy.R type·18 6 11 (Row.lease (κs .1 .1 .1 .1 .1 .1 .0) (qs .1 .1 .1 .1 .1 .1 .0))) (List._∷_ row·29 (List._∷_ row·34 (List._∷_ row·11 (List._∷_ row·12 (List._∷_ row·13 (List._∷_ row·14 (List._∷_ row·15 List.[])))))))))))))))
 
         abbrev g21 : List.List Row.Entry
-        g21 = List._∷_ row·0 (List._∷_ row·1 (List._∷_ row·2 (List._∷_ row·3 (List._∷_ row·4 (List._∷_ (5, Relend.mslice-owed (Referent.rtF (Referent.fInt Syntax.w32)) type·15 4 9 (Row.lease (κs .1 .1 .1 .1 .0) (qs .1 .1 .1 .1 .0))) (List._∷_ (6, Relend.mslice-owed (Referent.rtF (Referent.fInt Syntax.w32)) type·16 5 10 (Row.lease (κs .1 .1 .1 .1 .1 .0) (qs .1 .1 .1 .1 .1 .0))) (List._∷_ row·25 (List._∷_ (8, Rows.mref-owed RunRecordTy.R type·17 6 11 (Row.lease (κs .1 .1 .1 .1 .1 .1 .0) (qs .1 .1 .1 .1 .1 .1 .0))) (List._∷_ row·29 (List._∷_ row·34 (List._∷_ row·40 (List._∷_ row·12 (List._∷_ row·13 (List._∷_ row·14 (List._∷_ row·15 List.[])))))))))))))))
+        g21 = List._∷_ row·0 (List._∷_ row·1 (List._∷_ row·2 (List._∷_ row·3 (List._∷_ row·4 (List._∷_ (5, Relend.mslice-owed (Referent.rtF (Referent.fInt Syntax.w32)) type·16 4 9 (Row.lease (κs .1 .1 .1 .1 .0) (qs .1 .1 .1 .1 .0))) (List._∷_ (6, Relend.mslice-owed (Referent.rtF (Referent.fInt Syntax.w32)) type·17 5 10 (Row.lease (κs .1 .1 .1 .1 .1 .0) (qs .1 .1 .1 .1 .1 .0))) (List._∷_ row·25 (List._∷_ (8, Rows.mref-owed RunRecordTy.R type·18 6 11 (Row.lease (κs .1 .1 .1 .1 .1 .1 .0) (qs .1 .1 .1 .1 .1 .1 .0))) (List._∷_ row·29 (List._∷_ row·34 (List._∷_ row·40 (List._∷_ row·12 (List._∷_ row·13 (List._∷_ row·14 (List._∷_ row·15 List.[])))))))))))))))
 
         abbrev g23 : List.List Row.Entry
-        g23 = List._∷_ row·0 (List._∷_ row·1 (List._∷_ row·2 (List._∷_ row·3 (List._∷_ row·4 (List._∷_ (5, Relend.mslice-owed (Referent.rtF (Referent.fInt Syntax.w32)) type·15 4 9 (Row.lease (κs .1 .1 .1 .1 .0) (qs .1 .1 .1 .1 .0))) (List._∷_ (6, Relend.mslice-owed (Referent.rtF (Referent.fInt Syntax.w32)) type·16 5 10 (Row.lease (κs .1 .1 .1 .1 .1 .0) (qs .1 .1 .1 .1 .1 .0))) (List._∷_ row·25 (List._∷_ (8, Rows.mref-owed RunRecordTy.R type·17 6 11 (Row.lease (κs .1 .1 .1 .1 .1 .1 .0) (qs .1 .1 .1 .1 .1 .1 .0))) (List._∷_ row·9 (List._∷_ row·34 (List._∷_ row·40 (List._∷_ row·12 (List._∷_ row·13 (List._∷_ row·14 (List._∷_ row·15 List.[])))))))))))))))
+        g23 = List._∷_ row·0 (List._∷_ row·1 (List._∷_ row·2 (List._∷_ row·3 (List._∷_ row·4 (List._∷_ (5, Relend.mslice-owed (Referent.rtF (Referent.fInt Syntax.w32)) type·16 4 9 (Row.lease (κs .1 .1 .1 .1 .0) (qs .1 .1 .1 .1 .0))) (List._∷_ (6, Relend.mslice-owed (Referent.rtF (Referent.fInt Syntax.w32)) type·17 5 10 (Row.lease (κs .1 .1 .1 .1 .1 .0) (qs .1 .1 .1 .1 .1 .0))) (List._∷_ row·25 (List._∷_ (8, Rows.mref-owed RunRecordTy.R type·18 6 11 (Row.lease (κs .1 .1 .1 .1 .1 .1 .0) (qs .1 .1 .1 .1 .1 .1 .0))) (List._∷_ row·9 (List._∷_ row·34 (List._∷_ row·40 (List._∷_ row·12 (List._∷_ row·13 (List._∷_ row·14 (List._∷_ row·15 List.[])))))))))))))))
 
         abbrev g24 : List.List Row.Entry
-        g24 = List._∷_ row·0 (List._∷_ row·1 (List._∷_ row·2 (List._∷_ row·3 (List._∷_ row·4 (List._∷_ row·5 (List._∷_ (6, Relend.mslice-owed (Referent.rtF (Referent.fInt Syntax.w32)) type·16 5 10 (Row.lease (κs .1 .1 .1 .1 .1 .0) (qs .1 .1 .1 .1 .1 .0))) (List._∷_ row·25 (List._∷_ (8, Rows.mref-owed RunRecordTy.R type·17 6 11 (Row.lease (κs .1 .1 .1 .1 .1 .1 .0) (qs .1 .1 .1 .1 .1 .1 .0))) (List._∷_ row·9 (List._∷_ row·34 (List._∷_ row·40 (List._∷_ row·12 (List._∷_ row·13 (List._∷_ row·14 (List._∷_ row·15 List.[])))))))))))))))
+        g24 = List._∷_ row·0 (List._∷_ row·1 (List._∷_ row·2 (List._∷_ row·3 (List._∷_ row·4 (List._∷_ row·5 (List._∷_ (6, Relend.mslice-owed (Referent.rtF (Referent.fInt Syntax.w32)) type·17 5 10 (Row.lease (κs .1 .1 .1 .1 .1 .0) (qs .1 .1 .1 .1 .1 .0))) (List._∷_ row·25 (List._∷_ (8, Rows.mref-owed RunRecordTy.R type·18 6 11 (Row.lease (κs .1 .1 .1 .1 .1 .1 .0) (qs .1 .1 .1 .1 .1 .1 .0))) (List._∷_ row·9 (List._∷_ row·34 (List._∷_ row·40 (List._∷_ row·12 (List._∷_ row·13 (List._∷_ row·14 (List._∷_ row·15 List.[])))))))))))))))
 
         abbrev g26 : List.List Row.Entry
-        g26 = List._∷_ row·0 (List._∷_ row·1 (List._∷_ row·2 (List._∷_ row·3 (List._∷_ row·4 (List._∷_ row·5 (List._∷_ row·6 (List._∷_ row·25 (List._∷_ (8, Rows.mref-owed RunRecordTy.R type·17 6 11 (Row.lease (κs .1 .1 .1 .1 .1 .1 .0) (qs .1 .1 .1 .1 .1 .1 .0))) (List._∷_ row·9 (List._∷_ row·34 (List._∷_ row·40 (List._∷_ row·12 (List._∷_ row·13 (List._∷_ row·14 (List._∷_ row·15 List.[])))))))))))))))
+        g26 = List._∷_ row·0 (List._∷_ row·1 (List._∷_ row·2 (List._∷_ row·3 (List._∷_ row·4 (List._∷_ row·5 (List._∷_ row·6 (List._∷_ row·25 (List._∷_ (8, Rows.mref-owed RunRecordTy.R type·18 6 11 (Row.lease (κs .1 .1 .1 .1 .1 .1 .0) (qs .1 .1 .1 .1 .1 .1 .0))) (List._∷_ row·9 (List._∷_ row·34 (List._∷_ row·40 (List._∷_ row·12 (List._∷_ row·13 (List._∷_ row·14 (List._∷_ row·15 List.[])))))))))))))))
 
         abbrev g29 : List.List Row.Entry
-        g29 = List._∷_ row·0 (List._∷_ row·1 (List._∷_ row·2 (List._∷_ row·3 (List._∷_ row·4 (List._∷_ row·5 (List._∷_ (6, Relend.mslice-owed (Referent.rtF (Referent.fInt Syntax.w32)) type·16 5 12 (Row.lease (κs .1 .1 .1 .1 .1 .0) (qs .1 .1 .1 .1 .1 .0))) (List._∷_ row·25 (List._∷_ row·8 (List._∷_ row·9 (List._∷_ row·34 (List._∷_ row·40 (List._∷_ row·12 (List._∷_ row·13 (List._∷_ row·14 (List._∷_ row·15 List.[])))))))))))))))
+        g29 = List._∷_ row·0 (List._∷_ row·1 (List._∷_ row·2 (List._∷_ row·3 (List._∷_ row·4 (List._∷_ row·5 (List._∷_ (6, Relend.mslice-owed (Referent.rtF (Referent.fInt Syntax.w32)) type·17 5 12 (Row.lease (κs .1 .1 .1 .1 .1 .0) (qs .1 .1 .1 .1 .1 .0))) (List._∷_ row·25 (List._∷_ row·8 (List._∷_ row·9 (List._∷_ row·34 (List._∷_ row·40 (List._∷_ row·12 (List._∷_ row·13 (List._∷_ row·14 (List._∷_ row·15 List.[])))))))))))))))
 
         abbrev g33 : List.List Row.Entry
-        g33 = List._∷_ row·0 (List._∷_ row·1 (List._∷_ row·2 (List._∷_ row·3 (List._∷_ row·4 (List._∷_ row·5 (List._∷_ (6, Relend.mslice-owed (Referent.rtF (Referent.fInt Syntax.w32)) type·16 5 12 (Row.lease (κs .1 .1 .1 .1 .1 .0) (qs .1 .1 .1 .1 .1 .0))) (List._∷_ row·25 (List._∷_ row·8 (List._∷_ row·9 (List._∷_ row·34 (List._∷_ row·40 (List._∷_ row·12 (List._∷_ row·13 (List._∷_ row·32 (List._∷_ row·15 List.[])))))))))))))))
+        g33 = List._∷_ row·0 (List._∷_ row·1 (List._∷_ row·2 (List._∷_ row·3 (List._∷_ row·4 (List._∷_ row·5 (List._∷_ (6, Relend.mslice-owed (Referent.rtF (Referent.fInt Syntax.w32)) type·17 5 12 (Row.lease (κs .1 .1 .1 .1 .1 .0) (qs .1 .1 .1 .1 .1 .0))) (List._∷_ row·25 (List._∷_ row·8 (List._∷_ row·9 (List._∷_ row·34 (List._∷_ row·40 (List._∷_ row·12 (List._∷_ row·13 (List._∷_ row·32 (List._∷_ row·15 List.[])))))))))))))))
 
         abbrev pub slots·0 : List.List Row.Life
         slots·0 = List._∷_ (Row.lease (κs .0) (qs .0)) (List._∷_ (Row.lease (κs .1 .0) (qs .1 .0)) (List._∷_ (Row.lease (κs .1 .1 .0) (qs .1 .1 .0)) (List._∷_ (Row.lease (κs .1 .1 .1 .0) (qs .1 .1 .1 .0)) (List._∷_ (Row.lease (κs .1 .1 .1 .1 .0) (qs .1 .1 .1 .1 .0)) (List._∷_ (Row.lease (κs .1 .1 .1 .1 .1 .0) (qs .1 .1 .1 .1 .1 .0)) (List._∷_ (Row.lease (κs .1 .1 .1 .1 .1 .1 .0) (qs .1 .1 .1 .1 .1 .1 .0)) (List._∷_ Row.off (List._∷_ Row.off (List._∷_ Row.off (List._∷_ Row.off (List._∷_ Row.off (List._∷_ Row.off List.[]))))))))))))
@@ -1256,22 +1259,22 @@ module _ (claims· : Claims) where
           d0 = Typed.t-return 𝓤 H A W 𝓣 E Δ0 tt
 
           d1 : Typed.Typed 𝓤 H A 𝓣 E G58 b17 Δ0 (at1 bs)
-          d1 = Typed.g-pre 𝓤 H A W 𝓣 E G58 G59 b17 Δ0 (Typed.pass T58 T59 (s57 bs)) (at0 bs) (Scalar.g-room 𝓤 H A W E G58 11 type·4 (Local.room-whole 𝓤 H A W (Declared.row Ended.the-type) type·4 Path'.refl)) d0
+          d1 = Typed.g-pre 𝓤 H A W 𝓣 E G58 G59 b17 Δ0 (Typed.pass T58 T59 (s57 bs)) (at0 bs) (Scalar.g-room 𝓤 H A W E G58 11 type·5 (Local.room-whole 𝓤 H A W (Declared.row Ended.the-type) type·5 Path'.refl)) d0
 
           d2 : Typed.Typed 𝓤 H A 𝓣 E G57 b17 Δ0 (at2 bs)
-          d2 = Typed.g-pre 𝓤 H A W 𝓣 E G57 G58 b17 Δ0 (Typed.pass T57 T58 (s56 bs)) (at1 bs) (Scalar.g-room 𝓤 H A W E G57 10 type·2 (Local.room-whole 𝓤 H A W (Declared.row Standing.the-type) type·2 Path'.refl)) d1
+          d2 = Typed.g-pre 𝓤 H A W 𝓣 E G57 G58 b17 Δ0 (Typed.pass T57 T58 (s56 bs)) (at1 bs) (Scalar.g-room 𝓤 H A W E G57 10 type·3 (Local.room-whole 𝓤 H A W (Declared.row Standing.the-type) type·3 Path'.refl)) d1
 
           d3 : Typed.Typed 𝓤 H A 𝓣 E G56 b18 Δ0 (at3 bs)
-          d3 = Typed.s-seq 𝓤 H A W 𝓣 E G56 G57 b16 b17 Δ0 (Typed.both (s55 bs)) (at2 bs) (Plain.t-call-plain 𝓤 H A W 𝓣 0 ps·4 r·4 (claims· .8) (claims· .9) "arc_swap::answers::run_report" (known .4) E (λ pos β. β) G56 (Num.vFld 10 (List._∷_ (Syntax.field 2) List.[]) 16 λ x. Standing.struct .as-values x .1 .1 .0, (record { pos = 11; st = List.[]; d = 0; at = λ x. x }, tt)) 0 List.[] (Call.sub-id 𝓤 H A W (G56 .slots)) ((Reads.reads-field 𝓤 H A W Standing.the-type Laws.the-laws 2 (Syntax.tyInt Syntax.w64) 16 Path'.refl, Path'.refl), ((Yields.yields-copy 𝓤 H A W (λ ρ. Unit) (Declared.row Ended.the-type) Path'.refl (Copies.cStruct Ended.the-type Laws''.the-laws Laws''.the-copy .copy 𝓤 H A W) (Rows.whole (Declared.row Ended.the-type)) (λ x. x) (λ x. x) (λ ρ told. Local.mem-whole 𝓤 H A W (Declared.row Ended.the-type) ρ) λ ρ told. Local.whole-mem 𝓤 H A W (Declared.row Ended.the-type) ρ, Path'.refl), tt)) (Reads'.room-gone 𝓤 H A type·10) tt Path'.refl) d2
+          d3 = Typed.s-seq 𝓤 H A W 𝓣 E G56 G57 b16 b17 Δ0 (Typed.both (s55 bs)) (at2 bs) (Plain.t-call-plain 𝓤 H A W 𝓣 0 ps·4 r·4 (claims· .8) (claims· .9) "arc_swap::answers::run_report" (known .4) E (λ pos β. β) G56 (Num.vFld 10 (List._∷_ (Syntax.field 2) List.[]) 16 λ x. Standing.struct .as-values x .1 .1 .0, (record { pos = 11; st = List.[]; d = 0; at = λ x. x }, tt)) 0 List.[] (Call.sub-id 𝓤 H A W (G56 .slots)) ((Reads.reads-field 𝓤 H A W Standing.the-type Laws'.the-laws 2 (Syntax.tyInt Syntax.w64) 16 Path'.refl, Path'.refl), ((Yields.yields-copy 𝓤 H A W (λ ρ. Unit) (Declared.row Ended.the-type) Path'.refl (Copies.cStruct Ended.the-type Laws'3.the-laws Laws'3.the-copy .copy 𝓤 H A W) (Rows.whole (Declared.row Ended.the-type)) (λ x. x) (λ x. x) (λ ρ told. Local.mem-whole 𝓤 H A W (Declared.row Ended.the-type) ρ) λ ρ told. Local.whole-mem 𝓤 H A W (Declared.row Ended.the-type) ρ, Path'.refl), tt)) (Reads'.room-gone 𝓤 H A type·11) tt Path'.refl) d2
 
           d4 : Typed.Typed 𝓤 H A 𝓣 E G55 b18 Δ0 (at4 bs)
           d4 = Typed.g-pre 𝓤 H A W 𝓣 E G55 G56 b18 Δ0 (λ Ψ. Ψ) (at3 bs) (Lifetime.g-forget 𝓤 H A W E G55 12 Row.dead Path'.refl) d3
 
           d5 : Typed.Typed 𝓤 H A 𝓣 E G54 b18 Δ0 (at5 bs)
-          d5 = Typed.g-pre 𝓤 H A W 𝓣 E G54 G55 b18 Δ0 (Typed.give (s53 bs)) (at4 bs) (Know.g-sl-known 𝓤 H A W (Referent.fInt Syntax.w32) E G54 6 5 type·16 (Row.lease (κs .1 .1 .1 .1 .1 .0) (qs .1 .1 .1 .1 .1 .0)) 0 (λ x. x) record { fits = Dec'.lit< tt } (Reads'.as-is 𝓤 H A (Mut.mslice (Referent.rtF (Referent.fInt Syntax.w32)) type·16 5)) Path'.refl tt) d4
+          d5 = Typed.g-pre 𝓤 H A W 𝓣 E G54 G55 b18 Δ0 (Typed.give (s53 bs)) (at4 bs) (Know.g-sl-known 𝓤 H A W (Referent.fInt Syntax.w32) E G54 6 5 type·17 (Row.lease (κs .1 .1 .1 .1 .1 .0) (qs .1 .1 .1 .1 .1 .0)) 0 (λ x. x) record { fits = Dec'.lit< tt } (Reads'.as-is 𝓤 H A (Mut.mslice (Referent.rtF (Referent.fInt Syntax.w32)) type·17 5)) Path'.refl tt) d4
 
           d6 : Typed.Typed 𝓤 H A 𝓣 E G53 b18 Δ0 (at6 bs)
-          d6 = Typed.g-pre 𝓤 H A W 𝓣 E G53 G54 b18 Δ0 (Typed.both (s52 bs)) (at5 bs) (Relend.g-back-sl 𝓤 H A W E (Referent.rtF (Referent.fInt Syntax.w32)) G53 22 6 5 12 type·16 type·8 (Row.lease (κs .1 .1 .1 .1 .1 .0) (qs .1 .1 .1 .1 .1 .0)) (λ x. x) (λ x. x) (Reads'.as-is 𝓤 H A (Mut.msleft (Referent.rtF (Referent.fInt Syntax.w32)) type·8)) (Reads'.as-is 𝓤 H A (Relend.mslice-owed (Referent.rtF (Referent.fInt Syntax.w32)) type·16 5 12 (Row.lease (κs .1 .1 .1 .1 .1 .0) (qs .1 .1 .1 .1 .1 .0)))) Path'.refl Path'.refl) d5
+          d6 = Typed.g-pre 𝓤 H A W 𝓣 E G53 G54 b18 Δ0 (Typed.both (s52 bs)) (at5 bs) (Relend.g-back-sl 𝓤 H A W E (Referent.rtF (Referent.fInt Syntax.w32)) G53 22 6 5 12 type·17 type·9 (Row.lease (κs .1 .1 .1 .1 .1 .0) (qs .1 .1 .1 .1 .1 .0)) (λ x. x) (λ x. x) (Reads'.as-is 𝓤 H A (Mut.msleft (Referent.rtF (Referent.fInt Syntax.w32)) type·9)) (Reads'.as-is 𝓤 H A (Relend.mslice-owed (Referent.rtF (Referent.fInt Syntax.w32)) type·17 5 12 (Row.lease (κs .1 .1 .1 .1 .1 .0) (qs .1 .1 .1 .1 .1 .0)))) Path'.refl Path'.refl) d5
 
           d7 : Typed.Typed 𝓤 H A 𝓣 E G52 b18 Δ0 (at7 bs)
           d7 = Typed.g-pre 𝓤 H A W 𝓣 E G52 G53 b18 Δ0 (λ Ψ. Ψ) (at6 bs) (Lifetime.g-end 𝓤 H A W E G52 12 Path'.refl) d6
@@ -1283,16 +1286,16 @@ module _ (claims· : Claims) where
           d9 = Typed.g-pre 𝓤 H A W 𝓣 E G50 G51 b18 Δ0 (Typed.pass T50 T51 (s49 bs)) (at8 bs) (Scalar.g-room 𝓤 H A W E G50 14 Syntax.tyUnit (Scalar.room-sc 𝓤 H A W Row.sUnit)) d8
 
           d10 : Typed.Typed 𝓤 H A 𝓣 E G49 b19 Δ0 (at10 bs)
-          d10 = Typed.s-seq 𝓤 H A W 𝓣 E G49 G50 b15 b18 Δ0 (Typed.both (s48 bs)) (at9 bs) (Plain.t-call-plain 𝓤 H A W 𝓣 1 ps·3 r·3 (claims· .6) (claims· .7) "lists::clear_numbers" (known .3) E (λ pos β. β) G49 (record { pos = 22; ty = Syntax.tyRef Syntax.erased Syntax.mut (Syntax.tyInt Syntax.w32); ref = λ x. x }, (Num.vAt 23 λ x. x, tt)) 14 (List._∷_ 12 List.[]) (Call.sub-id 𝓤 H A W (G49 .slots)) (Reads'.as-is 𝓤 H A (Mut.mslice (Referent.rtF (Referent.fInt Syntax.w32)) type·8 12), Mut.reads-mslice 𝓤 H A W (Referent.rtF (Referent.fInt Syntax.w32)) type·8 12, Path'.refl, ((Scalar.reads-sc 𝓤 H A W (Row.sInt Syntax.w64), Path'.refl), tt)) (Reads'.room-gone 𝓤 H A Syntax.tyUnit) (tt, tt) Path'.refl) d9
+          d10 = Typed.s-seq 𝓤 H A W 𝓣 E G49 G50 b15 b18 Δ0 (Typed.both (s48 bs)) (at9 bs) (Plain.t-call-plain 𝓤 H A W 𝓣 1 ps·3 r·3 (claims· .6) (claims· .7) "lists::clear_numbers" (known .3) E (λ pos β. β) G49 (record { pos = 22; ty = Syntax.tyRef Syntax.erased Syntax.mut (Syntax.tyInt Syntax.w32); ref = λ x. x }, (Num.vAt 23 λ x. x, tt)) 14 (List._∷_ 12 List.[]) (Call.sub-id 𝓤 H A W (G49 .slots)) (Reads'.as-is 𝓤 H A (Mut.mslice (Referent.rtF (Referent.fInt Syntax.w32)) type·9 12), Mut.reads-mslice 𝓤 H A W (Referent.rtF (Referent.fInt Syntax.w32)) type·9 12, Path'.refl, ((Scalar.reads-sc 𝓤 H A W (Row.sInt Syntax.w64), Path'.refl), tt)) (Reads'.room-gone 𝓤 H A Syntax.tyUnit) (tt, tt) Path'.refl) d9
 
           d11 : Typed.Typed 𝓤 H A 𝓣 E G48 b20 Δ0 (at11 bs)
-          d11 = Typed.s-seq 𝓤 H A W 𝓣 E G48 G49 b14 b19 Δ0 (Typed.pass T48 T49 (s47 bs)) (at10 bs) (Scalar.t-use 𝓤 H A W E 𝓣 G48 (Scalar.oFld 6 (List._∷_ (Syntax.field 1) List.[]) (Syntax.tyInt Syntax.w64) 8 λ v. Shared.lenV (v .0)) 23 (Rows.sc-here (Row.sInt Syntax.w64)) (Syntax.tyInt Syntax.w64) (Row.valS (Row.sInt Syntax.w64)) (Row.sInt Syntax.w64 .of) (Relend.reads-owed-len 𝓤 H A W (Referent.rtF (Referent.fInt Syntax.w32)) type·16 5 12 (Row.lease (κs .1 .1 .1 .1 .1 .0) (qs .1 .1 .1 .1 .1 .0)) 8 Path'.refl, Path'.refl) (Reads'.room-gone 𝓤 H A (Syntax.tyInt Syntax.w64)) (Scalar.holds-sc 𝓤 H A W (Row.sInt Syntax.w64)) Path'.refl (λ u. Path'.refl) λ u. tt) d10
+          d11 = Typed.s-seq 𝓤 H A W 𝓣 E G48 G49 b14 b19 Δ0 (Typed.pass T48 T49 (s47 bs)) (at10 bs) (Scalar.t-use 𝓤 H A W E 𝓣 G48 (Scalar.oFld 6 (List._∷_ (Syntax.field 1) List.[]) (Syntax.tyInt Syntax.w64) 8 λ v. Shared.lenV (v .0)) 23 (Rows.sc-here (Row.sInt Syntax.w64)) (Syntax.tyInt Syntax.w64) (Row.valS (Row.sInt Syntax.w64)) (Row.sInt Syntax.w64 .of) (Relend.reads-owed-len 𝓤 H A W (Referent.rtF (Referent.fInt Syntax.w32)) type·17 5 12 (Row.lease (κs .1 .1 .1 .1 .1 .0) (qs .1 .1 .1 .1 .1 .0)) 8 Path'.refl, Path'.refl) (Reads'.room-gone 𝓤 H A (Syntax.tyInt Syntax.w64)) (Scalar.holds-sc 𝓤 H A W (Row.sInt Syntax.w64)) Path'.refl (λ u. Path'.refl) λ u. tt) d10
 
           d12 : Typed.Typed 𝓤 H A 𝓣 E G47 b21 Δ0 (at12 bs)
-          d12 = Typed.s-seq 𝓤 H A W 𝓣 E G47 G48 b13 b20 Δ0 (Typed.ask (s46 bs)) (at11 bs) (Relend.t-sl-aggregate 𝓤 H A W E (Referent.rtF (Referent.fInt Syntax.w32)) 𝓣 (Relend.asMut (Referent.rtF (Referent.fInt Syntax.w32))) G47 21 22 12 type·8 type·8 (λ x. x) (Scalar.oFld 6 (List._∷_ (Syntax.field 1) List.[]) (Syntax.tyInt Syntax.w64) 8 λ v. Shared.lenV (v .0)) (Reads'.as-is 𝓤 H A (Relend.msptr (Referent.rtF (Referent.fInt Syntax.w32)) type·8 12)) (Reads'.room-gone 𝓤 H A type·9) (Relend.reads-owed-len 𝓤 H A W (Referent.rtF (Referent.fInt Syntax.w32)) type·16 5 12 (Row.lease (κs .1 .1 .1 .1 .1 .0) (qs .1 .1 .1 .1 .1 .0)) 8 Path'.refl, Path'.refl) Path'.refl Path'.refl λ b o k. tt) d11
+          d12 = Typed.s-seq 𝓤 H A W 𝓣 E G47 G48 b13 b20 Δ0 (Typed.ask (s46 bs)) (at11 bs) (Relend.t-sl-aggregate 𝓤 H A W E (Referent.rtF (Referent.fInt Syntax.w32)) 𝓣 (Relend.asMut (Referent.rtF (Referent.fInt Syntax.w32))) G47 21 22 12 type·9 type·9 (λ x. x) (Scalar.oFld 6 (List._∷_ (Syntax.field 1) List.[]) (Syntax.tyInt Syntax.w64) 8 λ v. Shared.lenV (v .0)) (Reads'.as-is 𝓤 H A (Relend.msptr (Referent.rtF (Referent.fInt Syntax.w32)) type·9 12)) (Reads'.room-gone 𝓤 H A type·10) (Relend.reads-owed-len 𝓤 H A W (Referent.rtF (Referent.fInt Syntax.w32)) type·17 5 12 (Row.lease (κs .1 .1 .1 .1 .1 .0) (qs .1 .1 .1 .1 .1 .0)) 8 Path'.refl, Path'.refl) Path'.refl Path'.refl λ b o k. tt) d11
 
           d13 : Typed.Typed 𝓤 H A 𝓣 E G46 b22 Δ0 (at13 bs)
-          d13 = Typed.s-seq 𝓤 H A W 𝓣 E G46 G47 b12 b21 Δ0 (Typed.give (s45 bs)) (at12 bs) (Relend.t-sl-relend 𝓤 H A W E (Referent.rtF (Referent.fInt Syntax.w32)) 𝓣 G46 6 21 5 12 type·16 type·8 (Row.lease (κs .1 .1 .1 .1 .1 .0) (qs .1 .1 .1 .1 .1 .0)) 0 (λ x. x) (Reads'.as-is 𝓤 H A (Mut.mslice (Referent.rtF (Referent.fInt Syntax.w32)) type·16 5)) (Reads'.room-gone 𝓤 H A type·8) Path'.refl tt Path'.refl Path'.refl Path'.refl λ b o. tt) d12
+          d13 = Typed.s-seq 𝓤 H A W 𝓣 E G46 G47 b12 b21 Δ0 (Typed.give (s45 bs)) (at12 bs) (Relend.t-sl-relend 𝓤 H A W E (Referent.rtF (Referent.fInt Syntax.w32)) 𝓣 G46 6 21 5 12 type·17 type·9 (Row.lease (κs .1 .1 .1 .1 .1 .0) (qs .1 .1 .1 .1 .1 .0)) 0 (λ x. x) (Reads'.as-is 𝓤 H A (Mut.mslice (Referent.rtF (Referent.fInt Syntax.w32)) type·17 5)) (Reads'.room-gone 𝓤 H A type·9) Path'.refl tt Path'.refl Path'.refl Path'.refl λ b o. tt) d12
 
           d14 : Typed.Typed 𝓤 H A 𝓣 E G45 b22 Δ0 (at14 bs)
           d14 = Typed.g-pre 𝓤 H A W 𝓣 E G45 G46 b22 Δ0 (λ Ψ. Ψ) (at13 bs) (Lifetime.g-begin 𝓤 H A W E G45 12 (tt, (tt, (tt, (tt, (tt, (tt, (tt, (tt, (tt, (tt, (tt, (tt, (tt, (tt, (tt, (tt, (tt, (tt, (tt, (tt, (tt, (tt, (tt, (tt, tt))))))))))))))))))))))))) d13
@@ -1301,7 +1304,7 @@ module _ (claims· : Claims) where
           d15 = Typed.g-pre 𝓤 H A W 𝓣 E G44 G45 b22 Δ0 (λ Ψ. Ψ) (at14 bs) (Lifetime.g-forget 𝓤 H A W E G44 11 Row.dead Path'.refl) d14
 
           d16 : Typed.Typed 𝓤 H A 𝓣 E G43 b22 Δ0 (at16 bs)
-          d16 = Typed.g-pre 𝓤 H A W 𝓣 E G43 G44 b22 Δ0 (Typed.ask (s42 bs)) (at15 bs) (Reborrow.g-back-mref 𝓤 H A W E G43 20 8 6 11 RunRecordTy.R type·17 type·7 (Row.lease (κs .1 .1 .1 .1 .1 .1 .0) (qs .1 .1 .1 .1 .1 .1 .0)) (λ x. x) (λ x. x) (Reads'.as-is 𝓤 H A (Rows.mleft RunRecordTy.R type·7)) (Reads'.as-is 𝓤 H A (Rows.mref-owed RunRecordTy.R type·17 6 11 (Row.lease (κs .1 .1 .1 .1 .1 .1 .0) (qs .1 .1 .1 .1 .1 .1 .0)))) Path'.refl Path'.refl) d15
+          d16 = Typed.g-pre 𝓤 H A W 𝓣 E G43 G44 b22 Δ0 (Typed.ask (s42 bs)) (at15 bs) (Reborrow.g-back-mref 𝓤 H A W E G43 20 8 6 11 RunRecordTy.R type·18 type·8 (Row.lease (κs .1 .1 .1 .1 .1 .1 .0) (qs .1 .1 .1 .1 .1 .1 .0)) (λ x. x) (λ x. x) (Reads'.as-is 𝓤 H A (Rows.mleft RunRecordTy.R type·8)) (Reads'.as-is 𝓤 H A (Rows.mref-owed RunRecordTy.R type·18 6 11 (Row.lease (κs .1 .1 .1 .1 .1 .1 .0) (qs .1 .1 .1 .1 .1 .1 .0)))) Path'.refl Path'.refl) d15
 
           d17 : Typed.Typed 𝓤 H A 𝓣 E G42 b22 Δ0 (at17 bs)
           d17 = Typed.g-pre 𝓤 H A W 𝓣 E G42 G43 b22 Δ0 (λ Ψ. Ψ) (at16 bs) (Lifetime.g-end 𝓤 H A W E G42 11 Path'.refl) d16
@@ -1310,10 +1313,10 @@ module _ (claims· : Claims) where
           d18 = Typed.g-pre 𝓤 H A W 𝓣 E G41 G42 b22 Δ0 (λ Ψ. Ψ) (at17 bs) (Lifetime.g-forget 𝓤 H A W E G41 10 Row.dead Path'.refl) d17
 
           d19 : Typed.Typed 𝓤 H A 𝓣 E G40 b22 Δ0 (at19 bs)
-          d19 = Typed.g-pre 𝓤 H A W 𝓣 E G40 G41 b22 Δ0 (Typed.give (s39 bs)) (at18 bs) (Know.g-sl-known 𝓤 H A W (Referent.fInt Syntax.w32) E G40 6 5 type·16 (Row.lease (κs .1 .1 .1 .1 .1 .0) (qs .1 .1 .1 .1 .1 .0)) 0 (λ x. x) record { fits = Dec'.lit< tt } (Reads'.as-is 𝓤 H A (Mut.mslice (Referent.rtF (Referent.fInt Syntax.w32)) type·16 5)) Path'.refl tt) d18
+          d19 = Typed.g-pre 𝓤 H A W 𝓣 E G40 G41 b22 Δ0 (Typed.give (s39 bs)) (at18 bs) (Know.g-sl-known 𝓤 H A W (Referent.fInt Syntax.w32) E G40 6 5 type·17 (Row.lease (κs .1 .1 .1 .1 .1 .0) (qs .1 .1 .1 .1 .1 .0)) 0 (λ x. x) record { fits = Dec'.lit< tt } (Reads'.as-is 𝓤 H A (Mut.mslice (Referent.rtF (Referent.fInt Syntax.w32)) type·17 5)) Path'.refl tt) d18
 
           d20 : Typed.Typed 𝓤 H A 𝓣 E G39 b22 Δ0 (at20 bs)
-          d20 = Typed.g-pre 𝓤 H A W 𝓣 E G39 G40 b22 Δ0 (Typed.both (s38 bs)) (at19 bs) (Relend.g-back-sl 𝓤 H A W E (Referent.rtF (Referent.fInt Syntax.w32)) G39 19 6 5 10 type·16 type·8 (Row.lease (κs .1 .1 .1 .1 .1 .0) (qs .1 .1 .1 .1 .1 .0)) (λ x. x) (λ x. x) (Reads'.as-is 𝓤 H A (Mut.msleft (Referent.rtF (Referent.fInt Syntax.w32)) type·8)) (Reads'.as-is 𝓤 H A (Relend.mslice-owed (Referent.rtF (Referent.fInt Syntax.w32)) type·16 5 10 (Row.lease (κs .1 .1 .1 .1 .1 .0) (qs .1 .1 .1 .1 .1 .0)))) Path'.refl Path'.refl) d19
+          d20 = Typed.g-pre 𝓤 H A W 𝓣 E G39 G40 b22 Δ0 (Typed.both (s38 bs)) (at19 bs) (Relend.g-back-sl 𝓤 H A W E (Referent.rtF (Referent.fInt Syntax.w32)) G39 19 6 5 10 type·17 type·9 (Row.lease (κs .1 .1 .1 .1 .1 .0) (qs .1 .1 .1 .1 .1 .0)) (λ x. x) (λ x. x) (Reads'.as-is 𝓤 H A (Mut.msleft (Referent.rtF (Referent.fInt Syntax.w32)) type·9)) (Reads'.as-is 𝓤 H A (Relend.mslice-owed (Referent.rtF (Referent.fInt Syntax.w32)) type·17 5 10 (Row.lease (κs .1 .1 .1 .1 .1 .0) (qs .1 .1 .1 .1 .1 .0)))) Path'.refl Path'.refl) d19
 
           d21 : Typed.Typed 𝓤 H A 𝓣 E G38 b22 Δ0 (at21 bs)
           d21 = Typed.g-pre 𝓤 H A W 𝓣 E G38 G39 b22 Δ0 (λ Ψ. Ψ) (at20 bs) (Lifetime.g-end 𝓤 H A W E G38 10 Path'.refl) d20
@@ -1322,52 +1325,52 @@ module _ (claims· : Claims) where
           d22 = Typed.g-pre 𝓤 H A W 𝓣 E G37 G38 b22 Δ0 (λ Ψ. Ψ) (at21 bs) (Lifetime.g-forget 𝓤 H A W E G37 9 Row.dead Path'.refl) d21
 
           d23 : Typed.Typed 𝓤 H A 𝓣 E G36 b22 Δ0 (at23 bs)
-          d23 = Typed.g-pre 𝓤 H A W 𝓣 E G36 G37 b22 Δ0 (Typed.give (s35 bs)) (at22 bs) (Know.g-sl-known 𝓤 H A W (Referent.fInt Syntax.w32) E G36 5 4 type·15 (Row.lease (κs .1 .1 .1 .1 .0) (qs .1 .1 .1 .1 .0)) 0 (λ x. x) record { fits = Dec'.lit< tt } (Reads'.as-is 𝓤 H A (Mut.mslice (Referent.rtF (Referent.fInt Syntax.w32)) type·15 4)) Path'.refl tt) d22
+          d23 = Typed.g-pre 𝓤 H A W 𝓣 E G36 G37 b22 Δ0 (Typed.give (s35 bs)) (at22 bs) (Know.g-sl-known 𝓤 H A W (Referent.fInt Syntax.w32) E G36 5 4 type·16 (Row.lease (κs .1 .1 .1 .1 .0) (qs .1 .1 .1 .1 .0)) 0 (λ x. x) record { fits = Dec'.lit< tt } (Reads'.as-is 𝓤 H A (Mut.mslice (Referent.rtF (Referent.fInt Syntax.w32)) type·16 4)) Path'.refl tt) d22
 
           d24 : Typed.Typed 𝓤 H A 𝓣 E G35 b22 Δ0 (at24 bs)
-          d24 = Typed.g-pre 𝓤 H A W 𝓣 E G35 G36 b22 Δ0 (Typed.both (s34 bs)) (at23 bs) (Relend.g-back-sl 𝓤 H A W E (Referent.rtF (Referent.fInt Syntax.w32)) G35 17 5 4 9 type·15 type·8 (Row.lease (κs .1 .1 .1 .1 .0) (qs .1 .1 .1 .1 .0)) (λ x. x) (λ x. x) (Reads'.as-is 𝓤 H A (Mut.msleft (Referent.rtF (Referent.fInt Syntax.w32)) type·8)) (Reads'.as-is 𝓤 H A (Relend.mslice-owed (Referent.rtF (Referent.fInt Syntax.w32)) type·15 4 9 (Row.lease (κs .1 .1 .1 .1 .0) (qs .1 .1 .1 .1 .0)))) Path'.refl Path'.refl) d23
+          d24 = Typed.g-pre 𝓤 H A W 𝓣 E G35 G36 b22 Δ0 (Typed.both (s34 bs)) (at23 bs) (Relend.g-back-sl 𝓤 H A W E (Referent.rtF (Referent.fInt Syntax.w32)) G35 17 5 4 9 type·16 type·9 (Row.lease (κs .1 .1 .1 .1 .0) (qs .1 .1 .1 .1 .0)) (λ x. x) (λ x. x) (Reads'.as-is 𝓤 H A (Mut.msleft (Referent.rtF (Referent.fInt Syntax.w32)) type·9)) (Reads'.as-is 𝓤 H A (Relend.mslice-owed (Referent.rtF (Referent.fInt Syntax.w32)) type·16 4 9 (Row.lease (κs .1 .1 .1 .1 .0) (qs .1 .1 .1 .1 .0)))) Path'.refl Path'.refl) d23
 
           d25 : Typed.Typed 𝓤 H A 𝓣 E G34 b22 Δ0 (at25 bs)
           d25 = Typed.g-pre 𝓤 H A W 𝓣 E G34 G35 b22 Δ0 (λ Ψ. Ψ) (at24 bs) (Lifetime.g-end 𝓤 H A W E G34 9 Path'.refl) d24
 
           d26 : Typed.Typed 𝓤 H A 𝓣 E G33 b22 Δ0 (at26 bs)
-          d26 = Typed.g-pre 𝓤 H A W 𝓣 E G33 G34 b22 Δ0 (Typed.pass T33 T34 (s32 bs)) (at25 bs) (Scalar.g-room 𝓤 H A W E G33 9 type·3 (Local.room-whole 𝓤 H A W (Declared.row Begun.the-type) type·3 Path'.refl)) d25
+          d26 = Typed.g-pre 𝓤 H A W 𝓣 E G33 G34 b22 Δ0 (Typed.pass T33 T34 (s32 bs)) (at25 bs) (Scalar.g-room 𝓤 H A W E G33 9 type·4 (Local.room-whole 𝓤 H A W (Declared.row Begun.the-type) type·4 Path'.refl)) d25
 
           d27 : Typed.Typed 𝓤 H A 𝓣 E G32 b23 Δ0 (at27 bs)
-          d27 = Typed.s-seq 𝓤 H A W 𝓣 E G32 G33 b11 b22 Δ0 (Typed.both (s31 bs)) (at26 bs) (Plain.t-call-plain 𝓤 H A W 𝓣 7 ps·2 r·2 (claims· .4) (claims· .5) "arc_swap::make_passes" (known .2) E (λ pos β. β) G32 (record { pos = 1; ty = Syntax.tyRef (Syntax.named 0) Syntax.imm (Syntax.tyInt Syntax.w32); ref = λ x. x }, (record { pos = 2; ty = Syntax.tyRef (Syntax.named 1) Syntax.imm (Syntax.tyInt Syntax.w32); ref = λ x. x }, (record { pos = 3; ty = Syntax.tyRef (Syntax.named 2) Syntax.imm (Syntax.tyInt Syntax.w32); ref = λ x. x }, (record { pos = 4; ty = Syntax.tyRef (Syntax.named 3) Syntax.imm (Syntax.tyInt Syntax.w32); ref = λ x. x }, (record { pos = 17; ty = Syntax.tyRef Syntax.erased Syntax.mut (Syntax.tyInt Syntax.w32); ref = λ x. x }, (record { pos = 19; ty = Syntax.tyRef Syntax.erased Syntax.mut (Syntax.tyInt Syntax.w32); ref = λ x. x }, (record { pos = 9; st = List._∷_ (Syntax.field 1) List.[]; d = 8; at = λ x. Begun.struct .as-values x .1 .0 }, (Num.vFld 9 (List._∷_ (Syntax.field 0) List.[]) 0 λ x. Begun.struct .as-values x .0, (record { pos = 10; st = List.[]; d = 0; at = λ x. x }, (record { pos = 20; ty = Syntax.tyRef Syntax.erased Syntax.mut RunRecordTy.behind; ref = λ x. x }, tt)))))))))) 11 (List._∷_ 0 (List._∷_ 1 (List._∷_ 2 (List._∷_ 3 (List._∷_ 9 (List._∷_ 10 (List._∷_ 11 List.[]))))))) (Call.sub-id 𝓤 H A W (G32 .slots)) (ShrSlice.spares-sslice 𝓤 H A W (Referent.rtF (Referent.fInt Syntax.w32)) type·11 0, Shared.reads-sslice 𝓤 H A W (Referent.rtF (Referent.fInt Syntax.w32)) type·11 0, Path'.refl, (ShrSlice.spares-sslice 𝓤 H A W (Referent.rtF (Referent.fInt Syntax.w32)) type·12 1, Shared.reads-sslice 𝓤 H A W (Referent.rtF (Referent.fInt Syntax.w32)) type·12 1, Path'.refl, (ShrSlice.spares-sslice 𝓤 H A W (Referent.rtF (Referent.fInt Syntax.w32)) type·13 2, Shared.reads-sslice 𝓤 H A W (Referent.rtF (Referent.fInt Syntax.w32)) type·13 2, Path'.refl, (ShrSlice.spares-sslice 𝓤 H A W (Referent.rtF (Referent.fInt Syntax.w32)) type·14 3, Shared.reads-sslice 𝓤 H A W (Referent.rtF (Referent.fInt Syntax.w32)) type·14 3, Path'.refl, (Reads'.as-is 𝓤 H A (Mut.mslice (Referent.rtF (Referent.fInt Syntax.w32)) type·8 9), Mut.reads-mslice 𝓤 H A W (Referent.rtF (Referent.fInt Syntax.w32)) type·8 9, Path'.refl, (Reads'.as-is 𝓤 H A (Mut.mslice (Referent.rtF (Referent.fInt Syntax.w32)) type·8 10), Mut.reads-mslice 𝓤 H A W (Referent.rtF (Referent.fInt Syntax.w32)) type·8 10, Path'.refl, ((Yields'.yields-acc 𝓤 H A W (Rows.whole (Declared.row Begun.the-type)) (Declared.row Ceilings.the-type) 8 (λ x. Begun.struct .as-values x .1 .0) Path'.refl (Copies.cStruct Ceilings.the-type Laws'5.the-laws Laws'5.the-copy .copy 𝓤 H A W) (Yields'.acc-record 𝓤 H A W (Rows.whole (Declared.row Begun.the-type)) Ceilings.the-type 8 (λ x. Begun.struct .as-values x .1 .0) (Yields'.acc-part 𝓤 H A W (Rows.whole (Declared.row Begun.the-type)) (Declared.row Begun.the-type) (Struct.Struct (Declared.shape Ceilings.the-type)) 0 8 (λ x. x) (λ y. Ceilings.the-type .to (Begun.struct .as-values y .1 .0)) (Yields'.acc-whole 𝓤 H A W (Declared.row Begun.the-type)) λ y a. Behind.look-at 𝓤 H A W TreeShare.fullShare Begun.the-type Laws'.the-laws 1 8 Path'.refl Path'.refl a y (Begun.struct .as-values y) Path'.refl)), Path'.refl), ((Reads.reads-field 𝓤 H A W Begun.the-type Laws'.the-laws 0 (Syntax.tyInt Syntax.w64) 0 Path'.refl, Path'.refl), ((Yields.yields-copy 𝓤 H A W (λ ρ. Unit) (Declared.row Standing.the-type) Path'.refl (Copies.cStruct Standing.the-type Laws.the-laws Laws.the-copy .copy 𝓤 H A W) (Rows.whole (Declared.row Standing.the-type)) (λ x. x) (λ x. x) (λ ρ told. Local.mem-whole 𝓤 H A W (Declared.row Standing.the-type) ρ) λ ρ told. Local.whole-mem 𝓤 H A W (Declared.row Standing.the-type) ρ, Path'.refl), (Reads'.as-is 𝓤 H A (Rows.mref RunRecordTy.R type·7 11), Reads'.reads-mref 𝓤 H A W RunRecordTy.R type·7 11, Path'.refl, tt)))))))))) (Reads'.room-gone 𝓤 H A type·4) (tt, (tt, (tt, (tt, (tt, (tt, (tt, tt))))))) Path'.refl) d26
+          d27 = Typed.s-seq 𝓤 H A W 𝓣 E G32 G33 b11 b22 Δ0 (Typed.both (s31 bs)) (at26 bs) (Plain.t-call-plain 𝓤 H A W 𝓣 7 ps·2 r·2 (claims· .4) (claims· .5) "arc_swap::make_passes" (known .2) E (λ pos β. β) G32 (record { pos = 1; ty = Syntax.tyRef (Syntax.named 0) Syntax.imm (Syntax.tyInt Syntax.w32); ref = λ x. x }, (record { pos = 2; ty = Syntax.tyRef (Syntax.named 1) Syntax.imm (Syntax.tyInt Syntax.w32); ref = λ x. x }, (record { pos = 3; ty = Syntax.tyRef (Syntax.named 2) Syntax.imm (Syntax.tyInt Syntax.w32); ref = λ x. x }, (record { pos = 4; ty = Syntax.tyRef (Syntax.named 3) Syntax.imm (Syntax.tyInt Syntax.w32); ref = λ x. x }, (record { pos = 17; ty = Syntax.tyRef Syntax.erased Syntax.mut (Syntax.tyInt Syntax.w32); ref = λ x. x }, (record { pos = 19; ty = Syntax.tyRef Syntax.erased Syntax.mut (Syntax.tyInt Syntax.w32); ref = λ x. x }, (record { pos = 9; st = List._∷_ (Syntax.field 0) List.[]; d = 0; at = λ x. Begun.struct .as-values x .0 }, (record { pos = 10; st = List.[]; d = 0; at = λ x. x }, (record { pos = 20; ty = Syntax.tyRef Syntax.erased Syntax.mut RunRecordTy.behind; ref = λ x. x }, tt))))))))) 11 (List._∷_ 0 (List._∷_ 1 (List._∷_ 2 (List._∷_ 3 (List._∷_ 9 (List._∷_ 10 (List._∷_ 11 List.[]))))))) (Call.sub-id 𝓤 H A W (G32 .slots)) (ShrSlice.spares-sslice 𝓤 H A W (Referent.rtF (Referent.fInt Syntax.w32)) type·12 0, Shared.reads-sslice 𝓤 H A W (Referent.rtF (Referent.fInt Syntax.w32)) type·12 0, Path'.refl, (ShrSlice.spares-sslice 𝓤 H A W (Referent.rtF (Referent.fInt Syntax.w32)) type·13 1, Shared.reads-sslice 𝓤 H A W (Referent.rtF (Referent.fInt Syntax.w32)) type·13 1, Path'.refl, (ShrSlice.spares-sslice 𝓤 H A W (Referent.rtF (Referent.fInt Syntax.w32)) type·14 2, Shared.reads-sslice 𝓤 H A W (Referent.rtF (Referent.fInt Syntax.w32)) type·14 2, Path'.refl, (ShrSlice.spares-sslice 𝓤 H A W (Referent.rtF (Referent.fInt Syntax.w32)) type·15 3, Shared.reads-sslice 𝓤 H A W (Referent.rtF (Referent.fInt Syntax.w32)) type·15 3, Path'.refl, (Reads'.as-is 𝓤 H A (Mut.mslice (Referent.rtF (Referent.fInt Syntax.w32)) type·9 9), Mut.reads-mslice 𝓤 H A W (Referent.rtF (Referent.fInt Syntax.w32)) type·9 9, Path'.refl, (Reads'.as-is 𝓤 H A (Mut.mslice (Referent.rtF (Referent.fInt Syntax.w32)) type·9 10), Mut.reads-mslice 𝓤 H A W (Referent.rtF (Referent.fInt Syntax.w32)) type·9 10, Path'.refl, ((Yields'.yields-acc 𝓤 H A W (Rows.whole (Declared.row Begun.the-type)) (Declared.row Limits.the-type) 0 (λ x. Begun.struct .as-values x .0) Path'.refl (Copies.cStruct Limits.the-type Laws.the-laws Laws.the-copy .copy 𝓤 H A W) (Yields'.acc-record 𝓤 H A W (Rows.whole (Declared.row Begun.the-type)) Limits.the-type 0 (λ x. Begun.struct .as-values x .0) (Yields'.acc-part 𝓤 H A W (Rows.whole (Declared.row Begun.the-type)) (Declared.row Begun.the-type) (Struct.Struct (Declared.shape Limits.the-type)) 0 0 (λ x. x) (λ y. Limits.the-type .to (Begun.struct .as-values y .0)) (Yields'.acc-whole 𝓤 H A W (Declared.row Begun.the-type)) λ y a. Behind.look-at 𝓤 H A W TreeShare.fullShare Begun.the-type Laws''.the-laws 0 0 Path'.refl Path'.refl a y (Begun.struct .as-values y) Path'.refl)), Path'.refl), ((Yields.yields-copy 𝓤 H A W (λ ρ. Unit) (Declared.row Standing.the-type) Path'.refl (Copies.cStruct Standing.the-type Laws'.the-laws Laws'.the-copy .copy 𝓤 H A W) (Rows.whole (Declared.row Standing.the-type)) (λ x. x) (λ x. x) (λ ρ told. Local.mem-whole 𝓤 H A W (Declared.row Standing.the-type) ρ) λ ρ told. Local.whole-mem 𝓤 H A W (Declared.row Standing.the-type) ρ, Path'.refl), (Reads'.as-is 𝓤 H A (Rows.mref RunRecordTy.R type·8 11), Reads'.reads-mref 𝓤 H A W RunRecordTy.R type·8 11, Path'.refl, tt))))))))) (Reads'.room-gone 𝓤 H A type·5) (tt, (tt, (tt, (tt, (tt, (tt, (tt, tt))))))) Path'.refl) d26
 
           d28 : Typed.Typed 𝓤 H A 𝓣 E G31 b24 Δ0 (at28 bs)
-          d28 = Typed.s-seq 𝓤 H A W 𝓣 E G31 G32 b10 b23 Δ0 (Typed.give (s30 bs)) (at27 bs) (Reborrow.t-mref-relend 𝓤 H A W E 𝓣 G31 8 20 6 11 RunRecordTy.R RunRecordTy.by-value type·17 type·7 (Row.lease (κs .1 .1 .1 .1 .1 .1 .0) (qs .1 .1 .1 .1 .1 .1 .0)) (λ x. x) (Reads'.as-is 𝓤 H A (Rows.mref RunRecordTy.R type·17 6)) (Reads'.room-gone 𝓤 H A type·7) Path'.refl tt Path'.refl Path'.refl λ b o. tt) d27
+          d28 = Typed.s-seq 𝓤 H A W 𝓣 E G31 G32 b10 b23 Δ0 (Typed.give (s30 bs)) (at27 bs) (Reborrow.t-mref-relend 𝓤 H A W E 𝓣 G31 8 20 6 11 RunRecordTy.R RunRecordTy.by-value type·18 type·8 (Row.lease (κs .1 .1 .1 .1 .1 .1 .0) (qs .1 .1 .1 .1 .1 .1 .0)) (λ x. x) (Reads'.as-is 𝓤 H A (Rows.mref RunRecordTy.R type·18 6)) (Reads'.room-gone 𝓤 H A type·8) Path'.refl tt Path'.refl Path'.refl λ b o. tt) d27
 
           d29 : Typed.Typed 𝓤 H A 𝓣 E G30 b24 Δ0 (at29 bs)
           d29 = Typed.g-pre 𝓤 H A W 𝓣 E G30 G31 b24 Δ0 (λ Ψ. Ψ) (at28 bs) (Lifetime.g-begin 𝓤 H A W E G30 11 (tt, (tt, (tt, (tt, (tt, ((tt, tt), ((tt, tt), (tt, (tt, (tt, (tt, (tt, (tt, (tt, (tt, (tt, (tt, (tt, (tt, (tt, (tt, (tt, (tt, (tt, tt))))))))))))))))))))))))) d28
 
           d30 : Typed.Typed 𝓤 H A 𝓣 E G29 b25 Δ0 (at30 bs)
-          d30 = Typed.s-seq 𝓤 H A W 𝓣 E G29 G30 b9 b24 Δ0 (Typed.ask (s28 bs)) (at29 bs) (Relend.t-sl-aggregate 𝓤 H A W E (Referent.rtF (Referent.fInt Syntax.w32)) 𝓣 (Relend.asMut (Referent.rtF (Referent.fInt Syntax.w32))) G29 18 19 10 type·8 type·8 (λ x. x) (Scalar.oFld 6 (List._∷_ (Syntax.field 1) List.[]) (Syntax.tyInt Syntax.w64) 8 λ v. Shared.lenV (v .0)) (Reads'.as-is 𝓤 H A (Relend.msptr (Referent.rtF (Referent.fInt Syntax.w32)) type·8 10)) (Reads'.room-gone 𝓤 H A type·9) (Relend.reads-owed-len 𝓤 H A W (Referent.rtF (Referent.fInt Syntax.w32)) type·16 5 10 (Row.lease (κs .1 .1 .1 .1 .1 .0) (qs .1 .1 .1 .1 .1 .0)) 8 Path'.refl, Path'.refl) Path'.refl Path'.refl λ b o k. tt) d29
+          d30 = Typed.s-seq 𝓤 H A W 𝓣 E G29 G30 b9 b24 Δ0 (Typed.ask (s28 bs)) (at29 bs) (Relend.t-sl-aggregate 𝓤 H A W E (Referent.rtF (Referent.fInt Syntax.w32)) 𝓣 (Relend.asMut (Referent.rtF (Referent.fInt Syntax.w32))) G29 18 19 10 type·9 type·9 (λ x. x) (Scalar.oFld 6 (List._∷_ (Syntax.field 1) List.[]) (Syntax.tyInt Syntax.w64) 8 λ v. Shared.lenV (v .0)) (Reads'.as-is 𝓤 H A (Relend.msptr (Referent.rtF (Referent.fInt Syntax.w32)) type·9 10)) (Reads'.room-gone 𝓤 H A type·10) (Relend.reads-owed-len 𝓤 H A W (Referent.rtF (Referent.fInt Syntax.w32)) type·17 5 10 (Row.lease (κs .1 .1 .1 .1 .1 .0) (qs .1 .1 .1 .1 .1 .0)) 8 Path'.refl, Path'.refl) Path'.refl Path'.refl λ b o k. tt) d29
 
           d31 : Typed.Typed 𝓤 H A 𝓣 E G28 b26 Δ0 (at31 bs)
-          d31 = Typed.s-seq 𝓤 H A W 𝓣 E G28 G29 b8 b25 Δ0 (Typed.give (s27 bs)) (at30 bs) (Relend.t-sl-relend 𝓤 H A W E (Referent.rtF (Referent.fInt Syntax.w32)) 𝓣 G28 6 18 5 10 type·16 type·8 (Row.lease (κs .1 .1 .1 .1 .1 .0) (qs .1 .1 .1 .1 .1 .0)) 0 (λ x. x) (Reads'.as-is 𝓤 H A (Mut.mslice (Referent.rtF (Referent.fInt Syntax.w32)) type·16 5)) (Reads'.room-gone 𝓤 H A type·8) Path'.refl tt Path'.refl Path'.refl Path'.refl λ b o. tt) d30
+          d31 = Typed.s-seq 𝓤 H A W 𝓣 E G28 G29 b8 b25 Δ0 (Typed.give (s27 bs)) (at30 bs) (Relend.t-sl-relend 𝓤 H A W E (Referent.rtF (Referent.fInt Syntax.w32)) 𝓣 G28 6 18 5 10 type·17 type·9 (Row.lease (κs .1 .1 .1 .1 .1 .0) (qs .1 .1 .1 .1 .1 .0)) 0 (λ x. x) (Reads'.as-is 𝓤 H A (Mut.mslice (Referent.rtF (Referent.fInt Syntax.w32)) type·17 5)) (Reads'.room-gone 𝓤 H A type·9) Path'.refl tt Path'.refl Path'.refl Path'.refl λ b o. tt) d30
 
           d32 : Typed.Typed 𝓤 H A 𝓣 E G27 b26 Δ0 (at32 bs)
           d32 = Typed.g-pre 𝓤 H A W 𝓣 E G27 G28 b26 Δ0 (λ Ψ. Ψ) (at31 bs) (Lifetime.g-begin 𝓤 H A W E G27 10 (tt, (tt, (tt, (tt, (tt, ((tt, tt), (tt, (tt, (tt, (tt, (tt, (tt, (tt, (tt, (tt, (tt, (tt, (tt, (tt, (tt, (tt, (tt, (tt, (tt, tt))))))))))))))))))))))))) d31
 
           d33 : Typed.Typed 𝓤 H A 𝓣 E G26 b27 Δ0 (at33 bs)
-          d33 = Typed.s-seq 𝓤 H A W 𝓣 E G26 G27 b7 b26 Δ0 (Typed.ask (s25 bs)) (at32 bs) (Relend.t-sl-aggregate 𝓤 H A W E (Referent.rtF (Referent.fInt Syntax.w32)) 𝓣 (Relend.asMut (Referent.rtF (Referent.fInt Syntax.w32))) G26 16 17 9 type·8 type·8 (λ x. x) (Scalar.oFld 5 (List._∷_ (Syntax.field 1) List.[]) (Syntax.tyInt Syntax.w64) 8 λ v. Shared.lenV (v .0)) (Reads'.as-is 𝓤 H A (Relend.msptr (Referent.rtF (Referent.fInt Syntax.w32)) type·8 9)) (Reads'.room-gone 𝓤 H A type·9) (Relend.reads-owed-len 𝓤 H A W (Referent.rtF (Referent.fInt Syntax.w32)) type·15 4 9 (Row.lease (κs .1 .1 .1 .1 .0) (qs .1 .1 .1 .1 .0)) 8 Path'.refl, Path'.refl) Path'.refl Path'.refl λ b o k. tt) d32
+          d33 = Typed.s-seq 𝓤 H A W 𝓣 E G26 G27 b7 b26 Δ0 (Typed.ask (s25 bs)) (at32 bs) (Relend.t-sl-aggregate 𝓤 H A W E (Referent.rtF (Referent.fInt Syntax.w32)) 𝓣 (Relend.asMut (Referent.rtF (Referent.fInt Syntax.w32))) G26 16 17 9 type·9 type·9 (λ x. x) (Scalar.oFld 5 (List._∷_ (Syntax.field 1) List.[]) (Syntax.tyInt Syntax.w64) 8 λ v. Shared.lenV (v .0)) (Reads'.as-is 𝓤 H A (Relend.msptr (Referent.rtF (Referent.fInt Syntax.w32)) type·9 9)) (Reads'.room-gone 𝓤 H A type·10) (Relend.reads-owed-len 𝓤 H A W (Referent.rtF (Referent.fInt Syntax.w32)) type·16 4 9 (Row.lease (κs .1 .1 .1 .1 .0) (qs .1 .1 .1 .1 .0)) 8 Path'.refl, Path'.refl) Path'.refl Path'.refl λ b o k. tt) d32
 
           d34 : Typed.Typed 𝓤 H A 𝓣 E G25 b28 Δ0 (at34 bs)
-          d34 = Typed.s-seq 𝓤 H A W 𝓣 E G25 G26 b6 b27 Δ0 (Typed.give (s24 bs)) (at33 bs) (Relend.t-sl-relend 𝓤 H A W E (Referent.rtF (Referent.fInt Syntax.w32)) 𝓣 G25 5 16 4 9 type·15 type·8 (Row.lease (κs .1 .1 .1 .1 .0) (qs .1 .1 .1 .1 .0)) 0 (λ x. x) (Reads'.as-is 𝓤 H A (Mut.mslice (Referent.rtF (Referent.fInt Syntax.w32)) type·15 4)) (Reads'.room-gone 𝓤 H A type·8) Path'.refl tt Path'.refl Path'.refl Path'.refl λ b o. tt) d33
+          d34 = Typed.s-seq 𝓤 H A W 𝓣 E G25 G26 b6 b27 Δ0 (Typed.give (s24 bs)) (at33 bs) (Relend.t-sl-relend 𝓤 H A W E (Referent.rtF (Referent.fInt Syntax.w32)) 𝓣 G25 5 16 4 9 type·16 type·9 (Row.lease (κs .1 .1 .1 .1 .0) (qs .1 .1 .1 .1 .0)) 0 (λ x. x) (Reads'.as-is 𝓤 H A (Mut.mslice (Referent.rtF (Referent.fInt Syntax.w32)) type·16 4)) (Reads'.room-gone 𝓤 H A type·9) Path'.refl tt Path'.refl Path'.refl Path'.refl λ b o. tt) d33
 
           d35 : Typed.Typed 𝓤 H A 𝓣 E G24 b28 Δ0 (at35 bs)
           d35 = Typed.g-pre 𝓤 H A W 𝓣 E G24 G25 b28 Δ0 (λ Ψ. Ψ) (at34 bs) (Lifetime.g-begin 𝓤 H A W E G24 9 (tt, (tt, (tt, (tt, (tt, (tt, (tt, (tt, (tt, (tt, (tt, (tt, (tt, (tt, (tt, (tt, (tt, (tt, (tt, (tt, (tt, (tt, (tt, (tt, tt))))))))))))))))))))))))) d34
 
           d36 : Typed.Typed 𝓤 H A 𝓣 E G23 b29 Δ0 (at36 bs)
-          d36 = Typed.s-seq 𝓤 H A W 𝓣 E G23 G24 b5 b28 Δ0 (Typed.both (s22 bs)) (at35 bs) (WayStmt.t-way-copy-out 𝓤 H A W E 𝓣 (Declared.row Standing.the-type) Path'.refl (Copies.cStruct Standing.the-type Laws.the-laws Laws.the-copy .copy 𝓤 H A W) (λ ρ. Unit) G23 (Row.out 9 (G23 .locals)) (λ u. Row.drop 9 (G23 .locals) u) (G23 .slots) 9 (λ t. List._∷_ (Syntax.field 2) t) type·2 type·2 10 (Rows.whole (Declared.row Standing.the-type)) (λ x. x) (λ u. At.getAt (Begun.the-type .parts) 2 (Begun.struct .as-values (u .1 .1 .1 .1 .1 .1 .1 .1 .1 .0))) (λ u. (Row.hd 0 (Row.tl (Row.tl (Row.tl (Row.tl (Row.tl (Row.tl (Row.tl (Row.tl (Row.tl bs))))))))), Nat._+_ 0 136)) (λ T′. record { locals = Row.setRow 9 row·29 T′; slots = G23 .slots }) (λ u T′ m′. Row.set 9 row·29 (u .1 .1 .1 .1 .1 .1 .1 .1 .1 .0) T′ m′) (λ u. Unit) (λ x. Unit) (Own.told-none 𝓤 H A (G23 .slots)) (DerefMove.learns-nothing 𝓤 H A (Declared.row Standing.the-type)) (λ ρ told u asked. Way'.w-partˢ 𝓤 H A W E (Declared.row Begun.the-type) (Declared.row Standing.the-type) type·3 type·2 2 136 (u .1 .1 .1 .1 .1 .1 .1 .1 .1 .0) (At.getAt (Begun.the-type .parts) 2 (Begun.struct .as-values (u .1 .1 .1 .1 .1 .1 .1 .1 .1 .0))) (Row.hd 0 (Row.tl (Row.tl (Row.tl (Row.tl (Row.tl (Row.tl (Row.tl (Row.tl (Row.tl bs))))))))), 0) (Way.w-look 𝓤 H A W E (Way.w-local 𝓤 H A W E G23 ρ u (G23 .slots) 9 (Declared.row Begun.the-type) (Rows.whole (Declared.row Begun.the-type)) (λ x. x) (λ x. x) (u .1 .1 .1 .1 .1 .1 .1 .1 .1 .0) (Local.mem-whole 𝓤 H A W (Declared.row Begun.the-type) ρ (u .1 .1 .1 .1 .1 .1 .1 .1 .1 .0) (Row.hd 0 (Row.tl (Row.tl (Row.tl (Row.tl (Row.tl (Row.tl (Row.tl (Row.tl (Row.tl bs))))))))))) (Local.whole-mem 𝓤 H A W (Declared.row Begun.the-type) ρ (u .1 .1 .1 .1 .1 .1 .1 .1 .1 .0) (Row.hd 0 (Row.tl (Row.tl (Row.tl (Row.tl (Row.tl (Row.tl (Row.tl (Row.tl (Row.tl bs))))))))))))) Path'.refl λ q. Inner.cut-record 𝓤 H A q (Declared.row Begun.the-type) Standing.the-type 136 (u .1 .1 .1 .1 .1 .1 .1 .1 .1 .0) (u .1 .1 .1 .1 .1 .1 .1 .1 .1 .0) (At.getAt (Begun.the-type .parts) 2 (Begun.struct .as-values (u .1 .1 .1 .1 .1 .1 .1 .1 .1 .0))) (At.getAt (Begun.the-type .parts) 2 (Begun.struct .as-values (u .1 .1 .1 .1 .1 .1 .1 .1 .1 .0))) (Row.hd 0 (Row.tl (Row.tl (Row.tl (Row.tl (Row.tl (Row.tl (Row.tl (Row.tl (Row.tl bs))))))))), 0) (Behind.look-at 𝓤 H A W q Begun.the-type Laws'.the-laws 2 136 Path'.refl Path'.refl (Row.hd 0 (Row.tl (Row.tl (Row.tl (Row.tl (Row.tl (Row.tl (Row.tl (Row.tl (Row.tl bs))))))))), 0) (u .1 .1 .1 .1 .1 .1 .1 .1 .1 .0) (Begun.struct .as-values (u .1 .1 .1 .1 .1 .1 .1 .1 .1 .0)) Path'.refl)) (Reads'.room-gone 𝓤 H A type·2) (Yields.makes-mem 𝓤 H A W (λ ρ. Unit) (Declared.row Standing.the-type) Path'.refl (Rows.whole (Declared.row Standing.the-type)) (λ x. x) λ ρ told. Local.whole-mem 𝓤 H A W (Declared.row Standing.the-type) ρ) Path'.refl Path'.refl Path'.refl) d35
+          d36 = Typed.s-seq 𝓤 H A W 𝓣 E G23 G24 b5 b28 Δ0 (Typed.both (s22 bs)) (at35 bs) (WayStmt.t-way-copy-out 𝓤 H A W E 𝓣 (Declared.row Standing.the-type) Path'.refl (Copies.cStruct Standing.the-type Laws'.the-laws Laws'.the-copy .copy 𝓤 H A W) (λ ρ. Unit) G23 (Row.out 9 (G23 .locals)) (λ u. Row.drop 9 (G23 .locals) u) (G23 .slots) 9 (λ t. List._∷_ (Syntax.field 1) t) type·3 type·3 10 (Rows.whole (Declared.row Standing.the-type)) (λ x. x) (λ u. At.getAt (Begun.the-type .parts) 1 (Begun.struct .as-values (u .1 .1 .1 .1 .1 .1 .1 .1 .1 .0))) (λ u. (Row.hd 0 (Row.tl (Row.tl (Row.tl (Row.tl (Row.tl (Row.tl (Row.tl (Row.tl (Row.tl bs))))))))), Nat._+_ 0 136)) (λ T′. record { locals = Row.setRow 9 row·29 T′; slots = G23 .slots }) (λ u T′ m′. Row.set 9 row·29 (u .1 .1 .1 .1 .1 .1 .1 .1 .1 .0) T′ m′) (λ u. Unit) (λ x. Unit) (Own.told-none 𝓤 H A (G23 .slots)) (DerefMove.learns-nothing 𝓤 H A (Declared.row Standing.the-type)) (λ ρ told u asked. Way'.w-partˢ 𝓤 H A W E (Declared.row Begun.the-type) (Declared.row Standing.the-type) type·4 type·3 1 136 (u .1 .1 .1 .1 .1 .1 .1 .1 .1 .0) (At.getAt (Begun.the-type .parts) 1 (Begun.struct .as-values (u .1 .1 .1 .1 .1 .1 .1 .1 .1 .0))) (Row.hd 0 (Row.tl (Row.tl (Row.tl (Row.tl (Row.tl (Row.tl (Row.tl (Row.tl (Row.tl bs))))))))), 0) (Way.w-look 𝓤 H A W E (Way.w-local 𝓤 H A W E G23 ρ u (G23 .slots) 9 (Declared.row Begun.the-type) (Rows.whole (Declared.row Begun.the-type)) (λ x. x) (λ x. x) (u .1 .1 .1 .1 .1 .1 .1 .1 .1 .0) (Local.mem-whole 𝓤 H A W (Declared.row Begun.the-type) ρ (u .1 .1 .1 .1 .1 .1 .1 .1 .1 .0) (Row.hd 0 (Row.tl (Row.tl (Row.tl (Row.tl (Row.tl (Row.tl (Row.tl (Row.tl (Row.tl bs))))))))))) (Local.whole-mem 𝓤 H A W (Declared.row Begun.the-type) ρ (u .1 .1 .1 .1 .1 .1 .1 .1 .1 .0) (Row.hd 0 (Row.tl (Row.tl (Row.tl (Row.tl (Row.tl (Row.tl (Row.tl (Row.tl (Row.tl bs))))))))))))) Path'.refl λ q. Inner.cut-record 𝓤 H A q (Declared.row Begun.the-type) Standing.the-type 136 (u .1 .1 .1 .1 .1 .1 .1 .1 .1 .0) (u .1 .1 .1 .1 .1 .1 .1 .1 .1 .0) (At.getAt (Begun.the-type .parts) 1 (Begun.struct .as-values (u .1 .1 .1 .1 .1 .1 .1 .1 .1 .0))) (At.getAt (Begun.the-type .parts) 1 (Begun.struct .as-values (u .1 .1 .1 .1 .1 .1 .1 .1 .1 .0))) (Row.hd 0 (Row.tl (Row.tl (Row.tl (Row.tl (Row.tl (Row.tl (Row.tl (Row.tl (Row.tl bs))))))))), 0) (Behind.look-at 𝓤 H A W q Begun.the-type Laws''.the-laws 1 136 Path'.refl Path'.refl (Row.hd 0 (Row.tl (Row.tl (Row.tl (Row.tl (Row.tl (Row.tl (Row.tl (Row.tl (Row.tl bs))))))))), 0) (u .1 .1 .1 .1 .1 .1 .1 .1 .1 .0) (Begun.struct .as-values (u .1 .1 .1 .1 .1 .1 .1 .1 .1 .0)) Path'.refl)) (Reads'.room-gone 𝓤 H A type·3) (Yields.makes-mem 𝓤 H A W (λ ρ. Unit) (Declared.row Standing.the-type) Path'.refl (Rows.whole (Declared.row Standing.the-type)) (λ x. x) λ ρ told. Local.whole-mem 𝓤 H A W (Declared.row Standing.the-type) ρ) Path'.refl Path'.refl Path'.refl) d35
 
           d37 : Typed.Typed 𝓤 H A 𝓣 E G22 b29 Δ0 (at37 bs)
           d37 = Typed.g-pre 𝓤 H A W 𝓣 E G22 G23 b29 Δ0 (λ Ψ. Ψ) (at36 bs) (Lifetime.g-forget 𝓤 H A W E G22 8 Row.dead Path'.refl) d36
 
           d38 : Typed.Typed 𝓤 H A 𝓣 E G21 b29 Δ0 (at38 bs)
-          d38 = Typed.g-pre 𝓤 H A W 𝓣 E G21 G22 b29 Δ0 (Typed.ask (s20 bs)) (at37 bs) (Reborrow.g-back-mref 𝓤 H A W E G21 15 8 6 8 RunRecordTy.R type·17 type·7 (Row.lease (κs .1 .1 .1 .1 .1 .1 .0) (qs .1 .1 .1 .1 .1 .1 .0)) (λ x. x) (λ x. x) (Reads'.as-is 𝓤 H A (Rows.mleft RunRecordTy.R type·7)) (Reads'.as-is 𝓤 H A (Rows.mref-owed RunRecordTy.R type·17 6 8 (Row.lease (κs .1 .1 .1 .1 .1 .1 .0) (qs .1 .1 .1 .1 .1 .1 .0)))) Path'.refl Path'.refl) d37
+          d38 = Typed.g-pre 𝓤 H A W 𝓣 E G21 G22 b29 Δ0 (Typed.ask (s20 bs)) (at37 bs) (Reborrow.g-back-mref 𝓤 H A W E G21 15 8 6 8 RunRecordTy.R type·18 type·8 (Row.lease (κs .1 .1 .1 .1 .1 .1 .0) (qs .1 .1 .1 .1 .1 .1 .0)) (λ x. x) (λ x. x) (Reads'.as-is 𝓤 H A (Rows.mleft RunRecordTy.R type·8)) (Reads'.as-is 𝓤 H A (Rows.mref-owed RunRecordTy.R type·18 6 8 (Row.lease (κs .1 .1 .1 .1 .1 .1 .0) (qs .1 .1 .1 .1 .1 .1 .0)))) Path'.refl Path'.refl) d37
 
           d39 : Typed.Typed 𝓤 H A 𝓣 E G20 b29 Δ0 (at39 bs)
           d39 = Typed.g-pre 𝓤 H A W 𝓣 E G20 G21 b29 Δ0 (λ Ψ. Ψ) (at38 bs) (Lifetime.g-end 𝓤 H A W E G20 8 Path'.refl) d38
@@ -1376,10 +1379,10 @@ module _ (claims· : Claims) where
           d40 = Typed.g-pre 𝓤 H A W 𝓣 E G19 G20 b29 Δ0 (Typed.pass T19 T20 (s18 bs)) (at39 bs) (Scalar.g-room 𝓤 H A W E G19 14 Syntax.tyUnit (Scalar.room-sc 𝓤 H A W Row.sUnit)) d39
 
           d41 : Typed.Typed 𝓤 H A 𝓣 E G18 b30 Δ0 (at41 bs)
-          d41 = Typed.s-seq 𝓤 H A W 𝓣 E G18 G19 b4 b29 Δ0 (Typed.both (s17 bs)) (at40 bs) (Plain.t-call-plain 𝓤 H A W 𝓣 1 ps·1 r·1 (claims· .2) (claims· .3) "arc_swap::zero_run" (known .1) E (λ pos β. β) G18 (record { pos = 15; ty = Syntax.tyRef Syntax.erased Syntax.mut RunRecordTy.behind; ref = λ x. x }, tt) 14 (List._∷_ 8 List.[]) (Call.sub-id 𝓤 H A W (G18 .slots)) (Reads'.as-is 𝓤 H A (Rows.mref RunRecordTy.R type·7 8), Reads'.reads-mref 𝓤 H A W RunRecordTy.R type·7 8, Path'.refl, tt) (Reads'.room-gone 𝓤 H A Syntax.tyUnit) (tt, tt) Path'.refl) d40
+          d41 = Typed.s-seq 𝓤 H A W 𝓣 E G18 G19 b4 b29 Δ0 (Typed.both (s17 bs)) (at40 bs) (Plain.t-call-plain 𝓤 H A W 𝓣 1 ps·1 r·1 (claims· .2) (claims· .3) "arc_swap::zero_run" (known .1) E (λ pos β. β) G18 (record { pos = 15; ty = Syntax.tyRef Syntax.erased Syntax.mut RunRecordTy.behind; ref = λ x. x }, tt) 14 (List._∷_ 8 List.[]) (Call.sub-id 𝓤 H A W (G18 .slots)) (Reads'.as-is 𝓤 H A (Rows.mref RunRecordTy.R type·8 8), Reads'.reads-mref 𝓤 H A W RunRecordTy.R type·8 8, Path'.refl, tt) (Reads'.room-gone 𝓤 H A Syntax.tyUnit) (tt, tt) Path'.refl) d40
 
           d42 : Typed.Typed 𝓤 H A 𝓣 E G17 b31 Δ0 (at42 bs)
-          d42 = Typed.s-seq 𝓤 H A W 𝓣 E G17 G18 b3 b30 Δ0 (Typed.give (s16 bs)) (at41 bs) (Reborrow.t-mref-relend 𝓤 H A W E 𝓣 G17 8 15 6 8 RunRecordTy.R RunRecordTy.by-value type·17 type·7 (Row.lease (κs .1 .1 .1 .1 .1 .1 .0) (qs .1 .1 .1 .1 .1 .1 .0)) (λ x. x) (Reads'.as-is 𝓤 H A (Rows.mref RunRecordTy.R type·17 6)) (Reads'.room-gone 𝓤 H A type·7) Path'.refl tt Path'.refl Path'.refl λ b o. tt) d41
+          d42 = Typed.s-seq 𝓤 H A W 𝓣 E G17 G18 b3 b30 Δ0 (Typed.give (s16 bs)) (at41 bs) (Reborrow.t-mref-relend 𝓤 H A W E 𝓣 G17 8 15 6 8 RunRecordTy.R RunRecordTy.by-value type·18 type·8 (Row.lease (κs .1 .1 .1 .1 .1 .1 .0) (qs .1 .1 .1 .1 .1 .1 .0)) (λ x. x) (Reads'.as-is 𝓤 H A (Rows.mref RunRecordTy.R type·18 6)) (Reads'.room-gone 𝓤 H A type·8) Path'.refl tt Path'.refl Path'.refl λ b o. tt) d41
 
           d43 : Typed.Typed 𝓤 H A 𝓣 E G16 b31 Δ0 (at43 bs)
           d43 = Typed.g-pre 𝓤 H A W 𝓣 E G16 G17 b31 Δ0 (λ Ψ. Ψ) (at42 bs) (Lifetime.g-begin 𝓤 H A W E G16 8 (tt, (tt, (tt, (tt, (tt, (tt, (tt, (tt, (tt, (tt, (tt, (tt, (tt, (tt, (tt, (tt, (tt, (tt, (tt, (tt, (tt, (tt, (tt, (tt, tt))))))))))))))))))))))))) d42
@@ -1388,46 +1391,46 @@ module _ (claims· : Claims) where
           d44 = Typed.g-pre 𝓤 H A W 𝓣 E G15 G16 b31 Δ0 (λ Ψ. Ψ) (at43 bs) (Lifetime.g-forget 𝓤 H A W E G15 7 Row.dead Path'.refl) d43
 
           d45 : Typed.Typed 𝓤 H A 𝓣 E G14 b31 Δ0 (at45 bs)
-          d45 = Typed.g-pre 𝓤 H A W 𝓣 E G14 G15 b31 Δ0 (Typed.pass T13 T15 (s13 bs)) (at44 bs) (Reshare.g-back-sl-shr 𝓤 H A W E (Referent.rtF (Referent.fInt Syntax.w32)) G14 5 4 7 type·15 (Row.lease (κs .1 .1 .1 .1 .0) (qs .1 .1 .1 .1 .0)) (λ x. x) (Reads'.as-is 𝓤 H A (Reshare.mslice-owedS (Referent.rtF (Referent.fInt Syntax.w32)) type·15 4 7 (Row.lease (κs .1 .1 .1 .1 .0) (qs .1 .1 .1 .1 .0)))) Path'.refl Path'.refl) d44
+          d45 = Typed.g-pre 𝓤 H A W 𝓣 E G14 G15 b31 Δ0 (Typed.pass T13 T15 (s13 bs)) (at44 bs) (Reshare.g-back-sl-shr 𝓤 H A W E (Referent.rtF (Referent.fInt Syntax.w32)) G14 5 4 7 type·16 (Row.lease (κs .1 .1 .1 .1 .0) (qs .1 .1 .1 .1 .0)) (λ x. x) (Reads'.as-is 𝓤 H A (Reshare.mslice-owedS (Referent.rtF (Referent.fInt Syntax.w32)) type·16 4 7 (Row.lease (κs .1 .1 .1 .1 .0) (qs .1 .1 .1 .1 .0)))) Path'.refl Path'.refl) d44
 
           d46 : Typed.Typed 𝓤 H A 𝓣 E G13 b31 Δ0 (at46 bs)
           d46 = Typed.g-pre 𝓤 H A W 𝓣 E G13 G14 b31 Δ0 (λ Ψ. Ψ) (at45 bs) (Lifetime.g-end 𝓤 H A W E G13 7 Path'.refl) d45
 
           d47 : Typed.Typed 𝓤 H A 𝓣 E G12 b31 Δ0 (at47 bs)
-          d47 = Typed.g-pre 𝓤 H A W 𝓣 E G12 G13 b31 Δ0 (Typed.pass T12 T13 (s11 bs)) (at46 bs) (Scalar.g-room 𝓤 H A W E G12 7 type·19 (Local.room-whole 𝓤 H A W (Declared.row Settings.the-type) type·19 Path'.refl)) d46
+          d47 = Typed.g-pre 𝓤 H A W 𝓣 E G12 G13 b31 Δ0 (Typed.pass T12 T13 (s11 bs)) (at46 bs) (Scalar.g-room 𝓤 H A W E G12 7 type·20 (Local.room-whole 𝓤 H A W (Declared.row Settings.the-type) type·20 Path'.refl)) d46
 
           d48 : Typed.Typed 𝓤 H A 𝓣 E G11 b31 Δ0 (at48 bs)
-          d48 = Typed.g-pre 𝓤 H A W 𝓣 E G11 G12 b31 Δ0 (Typed.pass T11 T12 (s10 bs)) (at47 bs) (Scalar.g-room 𝓤 H A W E G11 13 type·6 (Shared.room-sslice 𝓤 H A W (Referent.rtF (Referent.fInt Syntax.w32)) type·5 7)) d47
+          d48 = Typed.g-pre 𝓤 H A W 𝓣 E G11 G12 b31 Δ0 (Typed.pass T11 T12 (s10 bs)) (at47 bs) (Scalar.g-room 𝓤 H A W E G11 13 type·7 (Shared.room-sslice 𝓤 H A W (Referent.rtF (Referent.fInt Syntax.w32)) type·6 7)) d47
 
           d49 : Typed.Typed 𝓤 H A 𝓣 E G10 b32 Δ0 (at49 bs)
-          d49 = Typed.s-seq 𝓤 H A W 𝓣 E G10 G11 b2 b31 Δ0 (Typed.both (s9 bs)) (at48 bs) (Plain.t-call-plain 𝓤 H A W 𝓣 5 ps·0 r·0 (claims· .0) (claims· .1) "arc_swap::steps::begin_run" (known .0) E (λ pos β. β) G10 (record { pos = 1; ty = Syntax.tyRef (Syntax.named 0) Syntax.imm (Syntax.tyInt Syntax.w32); ref = λ x. x }, (record { pos = 2; ty = Syntax.tyRef (Syntax.named 1) Syntax.imm (Syntax.tyInt Syntax.w32); ref = λ x. x }, (record { pos = 3; ty = Syntax.tyRef (Syntax.named 2) Syntax.imm (Syntax.tyInt Syntax.w32); ref = λ x. x }, (record { pos = 4; ty = Syntax.tyRef (Syntax.named 3) Syntax.imm (Syntax.tyInt Syntax.w32); ref = λ x. x }, (record { pos = 13; ty = Syntax.tyRef Syntax.erased Syntax.imm (Syntax.tyInt Syntax.w32); ref = λ x. x }, (record { pos = 7; st = List.[]; d = 0; at = λ x. x }, tt)))))) 9 (List._∷_ 0 (List._∷_ 1 (List._∷_ 2 (List._∷_ 3 (List._∷_ 7 List.[]))))) (Call.sub-id 𝓤 H A W (G10 .slots)) (ShrSlice.spares-sslice 𝓤 H A W (Referent.rtF (Referent.fInt Syntax.w32)) type·11 0, Shared.reads-sslice 𝓤 H A W (Referent.rtF (Referent.fInt Syntax.w32)) type·11 0, Path'.refl, (ShrSlice.spares-sslice 𝓤 H A W (Referent.rtF (Referent.fInt Syntax.w32)) type·12 1, Shared.reads-sslice 𝓤 H A W (Referent.rtF (Referent.fInt Syntax.w32)) type·12 1, Path'.refl, (ShrSlice.spares-sslice 𝓤 H A W (Referent.rtF (Referent.fInt Syntax.w32)) type·13 2, Shared.reads-sslice 𝓤 H A W (Referent.rtF (Referent.fInt Syntax.w32)) type·13 2, Path'.refl, (ShrSlice.spares-sslice 𝓤 H A W (Referent.rtF (Referent.fInt Syntax.w32)) type·14 3, Shared.reads-sslice 𝓤 H A W (Referent.rtF (Referent.fInt Syntax.w32)) type·14 3, Path'.refl, (ShrSlice.spares-sslice 𝓤 H A W (Referent.rtF (Referent.fInt Syntax.w32)) type·5 7, Shared.reads-sslice 𝓤 H A W (Referent.rtF (Referent.fInt Syntax.w32)) type·5 7, Path'.refl, ((Yields.yields-copy 𝓤 H A W (λ ρ. Unit) (Declared.row Settings.the-type) Path'.refl (Copies.cStruct Settings.the-type Laws'4.the-laws Laws'4.the-copy .copy 𝓤 H A W) (Rows.whole (Declared.row Settings.the-type)) (λ x. x) (λ x. x) (λ ρ told. Local.mem-whole 𝓤 H A W (Declared.row Settings.the-type) ρ) λ ρ told. Local.whole-mem 𝓤 H A W (Declared.row Settings.the-type) ρ, Path'.refl), tt)))))) (Reads'.room-gone 𝓤 H A type·3) (tt, (tt, (tt, (tt, (tt, tt))))) Path'.refl) d48
+          d49 = Typed.s-seq 𝓤 H A W 𝓣 E G10 G11 b2 b31 Δ0 (Typed.both (s9 bs)) (at48 bs) (Plain.t-call-plain 𝓤 H A W 𝓣 5 ps·0 r·0 (claims· .0) (claims· .1) "arc_swap::steps::begin_run" (known .0) E (λ pos β. β) G10 (record { pos = 1; ty = Syntax.tyRef (Syntax.named 0) Syntax.imm (Syntax.tyInt Syntax.w32); ref = λ x. x }, (record { pos = 2; ty = Syntax.tyRef (Syntax.named 1) Syntax.imm (Syntax.tyInt Syntax.w32); ref = λ x. x }, (record { pos = 3; ty = Syntax.tyRef (Syntax.named 2) Syntax.imm (Syntax.tyInt Syntax.w32); ref = λ x. x }, (record { pos = 4; ty = Syntax.tyRef (Syntax.named 3) Syntax.imm (Syntax.tyInt Syntax.w32); ref = λ x. x }, (record { pos = 13; ty = Syntax.tyRef Syntax.erased Syntax.imm (Syntax.tyInt Syntax.w32); ref = λ x. x }, (record { pos = 7; st = List.[]; d = 0; at = λ x. x }, tt)))))) 9 (List._∷_ 0 (List._∷_ 1 (List._∷_ 2 (List._∷_ 3 (List._∷_ 7 List.[]))))) (Call.sub-id 𝓤 H A W (G10 .slots)) (ShrSlice.spares-sslice 𝓤 H A W (Referent.rtF (Referent.fInt Syntax.w32)) type·12 0, Shared.reads-sslice 𝓤 H A W (Referent.rtF (Referent.fInt Syntax.w32)) type·12 0, Path'.refl, (ShrSlice.spares-sslice 𝓤 H A W (Referent.rtF (Referent.fInt Syntax.w32)) type·13 1, Shared.reads-sslice 𝓤 H A W (Referent.rtF (Referent.fInt Syntax.w32)) type·13 1, Path'.refl, (ShrSlice.spares-sslice 𝓤 H A W (Referent.rtF (Referent.fInt Syntax.w32)) type·14 2, Shared.reads-sslice 𝓤 H A W (Referent.rtF (Referent.fInt Syntax.w32)) type·14 2, Path'.refl, (ShrSlice.spares-sslice 𝓤 H A W (Referent.rtF (Referent.fInt Syntax.w32)) type·15 3, Shared.reads-sslice 𝓤 H A W (Referent.rtF (Referent.fInt Syntax.w32)) type·15 3, Path'.refl, (ShrSlice.spares-sslice 𝓤 H A W (Referent.rtF (Referent.fInt Syntax.w32)) type·6 7, Shared.reads-sslice 𝓤 H A W (Referent.rtF (Referent.fInt Syntax.w32)) type·6 7, Path'.refl, ((Yields.yields-copy 𝓤 H A W (λ ρ. Unit) (Declared.row Settings.the-type) Path'.refl (Copies.cStruct Settings.the-type Laws'5.the-laws Laws'5.the-copy .copy 𝓤 H A W) (Rows.whole (Declared.row Settings.the-type)) (λ x. x) (λ x. x) (λ ρ told. Local.mem-whole 𝓤 H A W (Declared.row Settings.the-type) ρ) λ ρ told. Local.whole-mem 𝓤 H A W (Declared.row Settings.the-type) ρ, Path'.refl), tt)))))) (Reads'.room-gone 𝓤 H A type·4) (tt, (tt, (tt, (tt, (tt, tt))))) Path'.refl) d48
 
           d50 : Typed.Typed 𝓤 H A 𝓣 E G9 b33 Δ0 (at50 bs)
-          d50 = Typed.s-seq 𝓤 H A W 𝓣 E G9 G10 b1 b32 Δ0 (Typed.ask (s8 bs)) (at49 bs) (Relend.t-sl-aggregate 𝓤 H A W E (Referent.rtF (Referent.fInt Syntax.w32)) 𝓣 (Relend.asShr (Referent.rtF (Referent.fInt Syntax.w32))) G9 12 13 7 type·5 type·5 (λ x. x) (Scalar.oFld 5 (List._∷_ (Syntax.field 1) List.[]) (Syntax.tyInt Syntax.w64) 8 λ v. Shared.lenV (v .0)) (Reads'.as-is 𝓤 H A (Relend.ssptr (Referent.rtF (Referent.fInt Syntax.w32)) type·5 7)) (Reads'.room-gone 𝓤 H A type·6) (Reshare.reads-owedS-len 𝓤 H A W (Referent.rtF (Referent.fInt Syntax.w32)) type·15 4 7 (Row.lease (κs .1 .1 .1 .1 .0) (qs .1 .1 .1 .1 .0)) 8 Path'.refl, Path'.refl) Path'.refl Path'.refl λ b o k. tt) d49
+          d50 = Typed.s-seq 𝓤 H A W 𝓣 E G9 G10 b1 b32 Δ0 (Typed.ask (s8 bs)) (at49 bs) (Relend.t-sl-aggregate 𝓤 H A W E (Referent.rtF (Referent.fInt Syntax.w32)) 𝓣 (Relend.asShr (Referent.rtF (Referent.fInt Syntax.w32))) G9 12 13 7 type·6 type·6 (λ x. x) (Scalar.oFld 5 (List._∷_ (Syntax.field 1) List.[]) (Syntax.tyInt Syntax.w64) 8 λ v. Shared.lenV (v .0)) (Reads'.as-is 𝓤 H A (Relend.ssptr (Referent.rtF (Referent.fInt Syntax.w32)) type·6 7)) (Reads'.room-gone 𝓤 H A type·7) (Reshare.reads-owedS-len 𝓤 H A W (Referent.rtF (Referent.fInt Syntax.w32)) type·16 4 7 (Row.lease (κs .1 .1 .1 .1 .0) (qs .1 .1 .1 .1 .0)) 8 Path'.refl, Path'.refl) Path'.refl Path'.refl λ b o k. tt) d49
 
           d51 : Typed.Typed 𝓤 H A 𝓣 E G8 b34 Δ0 (at51 bs)
-          d51 = Typed.s-seq 𝓤 H A W 𝓣 E G8 G9 b0 b33 Δ0 (Typed.give (s7 bs)) (at50 bs) (Reshare.t-sl-reshare 𝓤 H A W E (Referent.rtF (Referent.fInt Syntax.w32)) 𝓣 G8 5 12 4 7 type·15 type·5 (Row.lease (κs .1 .1 .1 .1 .0) (qs .1 .1 .1 .1 .0)) 0 (λ x. x) (Reads'.as-is 𝓤 H A (Mut.mslice (Referent.rtF (Referent.fInt Syntax.w32)) type·15 4)) (Reads'.room-gone 𝓤 H A type·5) Path'.refl tt Path'.refl Path'.refl Path'.refl λ b o. tt) d50
+          d51 = Typed.s-seq 𝓤 H A W 𝓣 E G8 G9 b0 b33 Δ0 (Typed.give (s7 bs)) (at50 bs) (Reshare.t-sl-reshare 𝓤 H A W E (Referent.rtF (Referent.fInt Syntax.w32)) 𝓣 G8 5 12 4 7 type·16 type·6 (Row.lease (κs .1 .1 .1 .1 .0) (qs .1 .1 .1 .1 .0)) 0 (λ x. x) (Reads'.as-is 𝓤 H A (Mut.mslice (Referent.rtF (Referent.fInt Syntax.w32)) type·16 4)) (Reads'.room-gone 𝓤 H A type·6) Path'.refl tt Path'.refl Path'.refl Path'.refl λ b o. tt) d50
 
           d52 : Typed.Typed 𝓤 H A 𝓣 E G7 b34 Δ0 (at52 bs)
           d52 = Typed.g-pre 𝓤 H A W 𝓣 E G7 G8 b34 Δ0 (λ Ψ. Ψ) (at51 bs) (Lifetime.g-begin 𝓤 H A W E G7 7 (tt, (tt, (tt, (tt, (tt, (tt, (tt, (tt, (tt, (tt, (tt, (tt, (tt, (tt, (tt, (tt, (tt, (tt, (tt, (tt, (tt, (tt, (tt, (tt, tt))))))))))))))))))))))))) d51
 
           d53 : Typed.Typed 𝓤 H A 𝓣 E G6 b34 Δ0 (at53 bs)
-          d53 = Typed.g-pre 𝓤 H A W 𝓣 E G6 G7 b34 Δ0 (Typed.give (s5 bs)) (at52 bs) (Know.g-sl-known 𝓤 H A W (Referent.fInt Syntax.w32) E G6 6 5 type·16 (Row.lease (κs .1 .1 .1 .1 .1 .0) (qs .1 .1 .1 .1 .1 .0)) 0 (λ x. x) record { fits = Dec'.lit< tt } (Reads'.as-is 𝓤 H A (Mut.mslice (Referent.rtF (Referent.fInt Syntax.w32)) type·16 5)) Path'.refl tt) d52
+          d53 = Typed.g-pre 𝓤 H A W 𝓣 E G6 G7 b34 Δ0 (Typed.give (s5 bs)) (at52 bs) (Know.g-sl-known 𝓤 H A W (Referent.fInt Syntax.w32) E G6 6 5 type·17 (Row.lease (κs .1 .1 .1 .1 .1 .0) (qs .1 .1 .1 .1 .1 .0)) 0 (λ x. x) record { fits = Dec'.lit< tt } (Reads'.as-is 𝓤 H A (Mut.mslice (Referent.rtF (Referent.fInt Syntax.w32)) type·17 5)) Path'.refl tt) d52
 
           d54 : Typed.Typed 𝓤 H A 𝓣 E G5 b34 Δ0 (at54 bs)
-          d54 = Typed.g-pre 𝓤 H A W 𝓣 E G5 G6 b34 Δ0 (Typed.give (s4 bs)) (at53 bs) (Know.g-sl-known 𝓤 H A W (Referent.fInt Syntax.w32) E G5 5 4 type·15 (Row.lease (κs .1 .1 .1 .1 .0) (qs .1 .1 .1 .1 .0)) 0 (λ x. x) record { fits = Dec'.lit< tt } (Reads'.as-is 𝓤 H A (Mut.mslice (Referent.rtF (Referent.fInt Syntax.w32)) type·15 4)) Path'.refl tt) d53
+          d54 = Typed.g-pre 𝓤 H A W 𝓣 E G5 G6 b34 Δ0 (Typed.give (s4 bs)) (at53 bs) (Know.g-sl-known 𝓤 H A W (Referent.fInt Syntax.w32) E G5 5 4 type·16 (Row.lease (κs .1 .1 .1 .1 .0) (qs .1 .1 .1 .1 .0)) 0 (λ x. x) record { fits = Dec'.lit< tt } (Reads'.as-is 𝓤 H A (Mut.mslice (Referent.rtF (Referent.fInt Syntax.w32)) type·16 4)) Path'.refl tt) d53
 
           d55 : Typed.Typed 𝓤 H A 𝓣 E G4 b34 Δ0 (at55 bs)
-          d55 = Typed.g-pre 𝓤 H A W 𝓣 E G4 G5 b34 Δ0 (Typed.give (s3 bs)) (at54 bs) (Know.g-shs-known 𝓤 H A W (Referent.fInt Syntax.w32) E G4 4 3 type·14 (Row.lease (κs .1 .1 .1 .0) (qs .1 .1 .1 .0)) 0 (λ x. x) record { fits = Dec'.lit< tt } (Reads'.as-is 𝓤 H A (Rows.sslice (Referent.rtF (Referent.fInt Syntax.w32)) type·14 3)) Path'.refl tt) d54
+          d55 = Typed.g-pre 𝓤 H A W 𝓣 E G4 G5 b34 Δ0 (Typed.give (s3 bs)) (at54 bs) (Know.g-shs-known 𝓤 H A W (Referent.fInt Syntax.w32) E G4 4 3 type·15 (Row.lease (κs .1 .1 .1 .0) (qs .1 .1 .1 .0)) 0 (λ x. x) record { fits = Dec'.lit< tt } (Reads'.as-is 𝓤 H A (Rows.sslice (Referent.rtF (Referent.fInt Syntax.w32)) type·15 3)) Path'.refl tt) d54
 
           d56 : Typed.Typed 𝓤 H A 𝓣 E G3 b34 Δ0 (at56 bs)
-          d56 = Typed.g-pre 𝓤 H A W 𝓣 E G3 G4 b34 Δ0 (Typed.give (s2 bs)) (at55 bs) (Know.g-shs-known 𝓤 H A W (Referent.fInt Syntax.w32) E G3 3 2 type·13 (Row.lease (κs .1 .1 .0) (qs .1 .1 .0)) 0 (λ x. x) record { fits = Dec'.lit< tt } (Reads'.as-is 𝓤 H A (Rows.sslice (Referent.rtF (Referent.fInt Syntax.w32)) type·13 2)) Path'.refl tt) d55
+          d56 = Typed.g-pre 𝓤 H A W 𝓣 E G3 G4 b34 Δ0 (Typed.give (s2 bs)) (at55 bs) (Know.g-shs-known 𝓤 H A W (Referent.fInt Syntax.w32) E G3 3 2 type·14 (Row.lease (κs .1 .1 .0) (qs .1 .1 .0)) 0 (λ x. x) record { fits = Dec'.lit< tt } (Reads'.as-is 𝓤 H A (Rows.sslice (Referent.rtF (Referent.fInt Syntax.w32)) type·14 2)) Path'.refl tt) d55
 
           d57 : Typed.Typed 𝓤 H A 𝓣 E G2 b34 Δ0 (at57 bs)
-          d57 = Typed.g-pre 𝓤 H A W 𝓣 E G2 G3 b34 Δ0 (Typed.give (s1 bs)) (at56 bs) (Know.g-shs-known 𝓤 H A W (Referent.fInt Syntax.w32) E G2 2 1 type·12 (Row.lease (κs .1 .0) (qs .1 .0)) 0 (λ x. x) record { fits = Dec'.lit< tt } (Reads'.as-is 𝓤 H A (Rows.sslice (Referent.rtF (Referent.fInt Syntax.w32)) type·12 1)) Path'.refl tt) d56
+          d57 = Typed.g-pre 𝓤 H A W 𝓣 E G2 G3 b34 Δ0 (Typed.give (s1 bs)) (at56 bs) (Know.g-shs-known 𝓤 H A W (Referent.fInt Syntax.w32) E G2 2 1 type·13 (Row.lease (κs .1 .0) (qs .1 .0)) 0 (λ x. x) record { fits = Dec'.lit< tt } (Reads'.as-is 𝓤 H A (Rows.sslice (Referent.rtF (Referent.fInt Syntax.w32)) type·13 1)) Path'.refl tt) d56
 
           d58 : Typed.Typed 𝓤 H A 𝓣 E G0 b34 Δ0 (at58 bs)
-          d58 = Typed.g-pre 𝓤 H A W 𝓣 E G0 G2 b34 Δ0 (Typed.give (s0 bs)) (at57 bs) (Know.g-shs-known 𝓤 H A W (Referent.fInt Syntax.w32) E G0 1 0 type·11 (Row.lease (κs .0) (qs .0)) 0 (λ x. x) record { fits = Dec'.lit< tt } (Reads'.as-is 𝓤 H A (Rows.sslice (Referent.rtF (Referent.fInt Syntax.w32)) type·11 0)) Path'.refl tt) d57
+          d58 = Typed.g-pre 𝓤 H A W 𝓣 E G0 G2 b34 Δ0 (Typed.give (s0 bs)) (at57 bs) (Know.g-shs-known 𝓤 H A W (Referent.fInt Syntax.w32) E G0 1 0 type·12 (Row.lease (κs .0) (qs .0)) 0 (λ x. x) record { fits = Dec'.lit< tt } (Reads'.as-is 𝓤 H A (Rows.sslice (Referent.rtF (Referent.fInt Syntax.w32)) type·12 0)) Path'.refl tt) d57
 
           pub typed : Typed.Typed 𝓤 H A 𝓣 E (Function.Γin 7 ps r xs m κs qs) b34 (Function.Δret 7 ps r xs m κs qs) (Φ bs)
           typed = d58
@@ -1440,7 +1443,7 @@ module _ (claims· : Claims) where
           pub weights : Kinds.Den {n = 7} κs (ShrSlice.pShrS (Referent.rtF (Referent.fInt Syntax.w32)) 3 tt)
           pub labels : Kinds.Den {n = 7} κs (MutSlice.pMutS (Referent.rtF (Referent.fInt Syntax.w32)) 4 tt)
           pub stack : Kinds.Den {n = 7} κs (MutSlice.pMutS (Referent.rtF (Referent.fInt Syntax.w32)) 5 tt)
-          pub settings : Kinds.Den {n = 7} κs (Value.pVal record { ty = Declared.row Settings.the-type; one = Path'.refl; val = Laws'6.val Settings.the-type Laws'4.the-laws; tells = Laws'6.tells Settings.the-type Laws'4.the-laws; still = Laws'6.still Settings.the-type Laws'4.the-copy Exit.yes; row = Rows.whole (Declared.row Settings.the-type); rd = λ x. x; mk = λ x. x } λ M 𝓤 H A W. record { copies = Laws'6.copy Settings.the-type Laws'4.the-copy 𝓤 H A W; lawful = Laws'6.lawful Settings.the-type Laws'4.the-laws 𝓤 H A W; makes = Laws'6.makes Settings.the-type Laws'4.the-plain 𝓤 H A; in-mem = Local.mem-whole 𝓤 H A W (Declared.row Settings.the-type); of-mem = Local.whole-mem 𝓤 H A W (Declared.row Settings.the-type) })
+          pub settings : Kinds.Den {n = 7} κs (Value.pVal record { ty = Declared.row Settings.the-type; one = Path'.refl; val = Laws'6.val Settings.the-type Laws'5.the-laws; tells = Laws'6.tells Settings.the-type Laws'5.the-laws; still = Laws'6.still Settings.the-type Laws'5.the-copy Exit.yes; row = Rows.whole (Declared.row Settings.the-type); rd = λ x. x; mk = λ x. x } λ M 𝓤 H A W. record { copies = Laws'6.copy Settings.the-type Laws'5.the-copy 𝓤 H A W; lawful = Laws'6.lawful Settings.the-type Laws'5.the-laws 𝓤 H A W; makes = Laws'6.makes Settings.the-type Laws'5.the-plain 𝓤 H A; in-mem = Local.mem-whole 𝓤 H A W (Declared.row Settings.the-type); of-mem = Local.whole-mem 𝓤 H A W (Declared.row Settings.the-type) })
           pub run : Kinds.Den {n = 7} κs (Kinds.pMut RunRecordTy.R 6 tt)
 
         abbrev pub dens : (a : Args) → Kinds.Dens κs ps
@@ -1657,14 +1660,14 @@ module _ (claims· : Claims) where
 
       module _ (before· : After-make-passes-arg3) where
         abbrev pub After-make-passes·own : Type 0
-        After-make-passes·own = Called.Called ps·2 r·2 (claims· .5) T32 (record { pos = 1; ty = Syntax.tyRef (Syntax.named 0) Syntax.imm (Syntax.tyInt Syntax.w32); ref = λ x. x }, (record { pos = 2; ty = Syntax.tyRef (Syntax.named 1) Syntax.imm (Syntax.tyInt Syntax.w32); ref = λ x. x }, (record { pos = 3; ty = Syntax.tyRef (Syntax.named 2) Syntax.imm (Syntax.tyInt Syntax.w32); ref = λ x. x }, (record { pos = 4; ty = Syntax.tyRef (Syntax.named 3) Syntax.imm (Syntax.tyInt Syntax.w32); ref = λ x. x }, (record { pos = 17; ty = Syntax.tyRef Syntax.erased Syntax.mut (Syntax.tyInt Syntax.w32); ref = λ x. x }, (record { pos = 19; ty = Syntax.tyRef Syntax.erased Syntax.mut (Syntax.tyInt Syntax.w32); ref = λ x. x }, (record { pos = 9; st = List._∷_ (Syntax.field 1) List.[]; d = 8; at = λ x. Begun.struct .as-values x .1 .0 }, (Num.vFld 9 (List._∷_ (Syntax.field 0) List.[]) 0 λ x. Begun.struct .as-values x .0, (record { pos = 10; st = List.[]; d = 0; at = λ x. x }, (record { pos = 20; ty = Syntax.tyRef Syntax.erased Syntax.mut RunRecordTy.behind; ref = λ x. x }, tt)))))))))) (m22 (before· .before) (before· .make-passes-arg3 .given))
+        After-make-passes·own = Called.Called ps·2 r·2 (claims· .5) T32 (record { pos = 1; ty = Syntax.tyRef (Syntax.named 0) Syntax.imm (Syntax.tyInt Syntax.w32); ref = λ x. x }, (record { pos = 2; ty = Syntax.tyRef (Syntax.named 1) Syntax.imm (Syntax.tyInt Syntax.w32); ref = λ x. x }, (record { pos = 3; ty = Syntax.tyRef (Syntax.named 2) Syntax.imm (Syntax.tyInt Syntax.w32); ref = λ x. x }, (record { pos = 4; ty = Syntax.tyRef (Syntax.named 3) Syntax.imm (Syntax.tyInt Syntax.w32); ref = λ x. x }, (record { pos = 17; ty = Syntax.tyRef Syntax.erased Syntax.mut (Syntax.tyInt Syntax.w32); ref = λ x. x }, (record { pos = 19; ty = Syntax.tyRef Syntax.erased Syntax.mut (Syntax.tyInt Syntax.w32); ref = λ x. x }, (record { pos = 9; st = List._∷_ (Syntax.field 0) List.[]; d = 0; at = λ x. Begun.struct .as-values x .0 }, (record { pos = 10; st = List.[]; d = 0; at = λ x. x }, (record { pos = 20; ty = Syntax.tyRef Syntax.erased Syntax.mut RunRecordTy.behind; ref = λ x. x }, tt))))))))) (m22 (before· .before) (before· .make-passes-arg3 .given))
 
       pub record After-make-passes : Type 0 where
         pub before : After-make-passes-arg3
         pub make-passes : After-make-passes·own before
 
       abbrev pub After-make-passes·gave : (c : After-make-passes) → s31 (c .before .before .before .before .before .before .before .before .before .before .before .before .before .before .before .blocks) .gives (m22 (c .before .before) (c .before .make-passes-arg3 .given))
-      After-make-passes·gave = λ c. Called.given ps·2 r·2 (claims· .5) T32 (record { pos = 1; ty = Syntax.tyRef (Syntax.named 0) Syntax.imm (Syntax.tyInt Syntax.w32); ref = λ x. x }, (record { pos = 2; ty = Syntax.tyRef (Syntax.named 1) Syntax.imm (Syntax.tyInt Syntax.w32); ref = λ x. x }, (record { pos = 3; ty = Syntax.tyRef (Syntax.named 2) Syntax.imm (Syntax.tyInt Syntax.w32); ref = λ x. x }, (record { pos = 4; ty = Syntax.tyRef (Syntax.named 3) Syntax.imm (Syntax.tyInt Syntax.w32); ref = λ x. x }, (record { pos = 17; ty = Syntax.tyRef Syntax.erased Syntax.mut (Syntax.tyInt Syntax.w32); ref = λ x. x }, (record { pos = 19; ty = Syntax.tyRef Syntax.erased Syntax.mut (Syntax.tyInt Syntax.w32); ref = λ x. x }, (record { pos = 9; st = List._∷_ (Syntax.field 1) List.[]; d = 8; at = λ x. Begun.struct .as-values x .1 .0 }, (Num.vFld 9 (List._∷_ (Syntax.field 0) List.[]) 0 λ x. Begun.struct .as-values x .0, (record { pos = 10; st = List.[]; d = 0; at = λ x. x }, (record { pos = 20; ty = Syntax.tyRef Syntax.erased Syntax.mut RunRecordTy.behind; ref = λ x. x }, tt)))))))))) (m22 (c .before .before) (c .before .make-passes-arg3 .given)) (c .make-passes)
+      After-make-passes·gave = λ c. Called.given ps·2 r·2 (claims· .5) T32 (record { pos = 1; ty = Syntax.tyRef (Syntax.named 0) Syntax.imm (Syntax.tyInt Syntax.w32); ref = λ x. x }, (record { pos = 2; ty = Syntax.tyRef (Syntax.named 1) Syntax.imm (Syntax.tyInt Syntax.w32); ref = λ x. x }, (record { pos = 3; ty = Syntax.tyRef (Syntax.named 2) Syntax.imm (Syntax.tyInt Syntax.w32); ref = λ x. x }, (record { pos = 4; ty = Syntax.tyRef (Syntax.named 3) Syntax.imm (Syntax.tyInt Syntax.w32); ref = λ x. x }, (record { pos = 17; ty = Syntax.tyRef Syntax.erased Syntax.mut (Syntax.tyInt Syntax.w32); ref = λ x. x }, (record { pos = 19; ty = Syntax.tyRef Syntax.erased Syntax.mut (Syntax.tyInt Syntax.w32); ref = λ x. x }, (record { pos = 9; st = List._∷_ (Syntax.field 0) List.[]; d = 0; at = λ x. Begun.struct .as-values x .0 }, (record { pos = 10; st = List.[]; d = 0; at = λ x. x }, (record { pos = 20; ty = Syntax.tyRef Syntax.erased Syntax.mut RunRecordTy.behind; ref = λ x. x }, tt))))))))) (m22 (c .before .before) (c .before .make-passes-arg3 .given)) (c .make-passes)
 
       abbrev pub m24 : (before : After-make-passes-arg3) → (given : s31 (before .before .before .before .before .before .before .before .before .before .before .before .before .before .before .blocks) .gives (m22 (before .before) (before .make-passes-arg3 .given))) → Typed.Mo T34
       m24 = λ before given. s32 (before .before .before .before .before .before .before .before .before .before .before .before .before .before .before .blocks) (m23 before given)
@@ -1821,7 +1824,7 @@ module _ (claims· : Claims) where
         lay3 = λ c. (Path'.refl, λ g. λ g'. (Path'.refl, λ g''. λ g'3. (Path'.refl, λ g'4. (Path'.refl, (clear-numbers-requires record { before = record { before = record { before = record { before = record { before = record { before = c .before; make-passes = c .make-passes }; labels = record { given = g } }; slice-known3 = record { given = g' } }; stack = record { given = g'' } }; slice-known4 = record { given = g'3 } }; clear-numbers-arg = record { given = g'4 } }, λ g'5. lay4 record { before = record { before = record { before = record { before = record { before = record { before = record { before = c .before; make-passes = c .make-passes }; labels = record { given = g } }; slice-known3 = record { given = g' } }; stack = record { given = g'' } }; slice-known4 = record { given = g'3 } }; clear-numbers-arg = record { given = g'4 } }; clear-numbers = Called.called ps·3 r·3 (claims· .7) T49 (record { pos = 22; ty = Syntax.tyRef Syntax.erased Syntax.mut (Syntax.tyInt Syntax.w32); ref = λ x. x }, (Num.vAt 23 λ x. x, tt)) (m32 record { before = record { before = record { before = record { before = record { before = c .before; make-passes = c .make-passes }; labels = record { given = g } }; slice-known3 = record { given = g' } }; stack = record { given = g'' } }; slice-known4 = record { given = g'3 } } g'4) g'5 })))))
 
         lay2 : (c : After-zero-run) → at40 (c .before .before .before .before .before .before .before .before .before .before .blocks) (W0 (c .before .before .before .before .before .before .before .before .before .before .κs) (c .before .before .before .before .before .before .before .before .before .before .args) (c .before .before .before .before .before .before .before .before .before .before .blocks)) (m14 (c .before) (After-zero-run·gave c))
-        lay2 = λ c. (Path'.refl, (tt, λ g. λ g'. (Path'.refl, λ g''. (Path'.refl, λ g'3. (make-passes-requires record { before = record { before = record { before = record { before = record { before = c .before; zero-run = c .zero-run }; st = record { given = g } }; make-passes-arg = record { given = g' } }; make-passes-arg2 = record { given = g'' } }; make-passes-arg3 = record { given = g'3 } }, λ g'4. lay3 record { before = record { before = record { before = record { before = record { before = record { before = c .before; zero-run = c .zero-run }; st = record { given = g } }; make-passes-arg = record { given = g' } }; make-passes-arg2 = record { given = g'' } }; make-passes-arg3 = record { given = g'3 } }; make-passes = Called.called ps·2 r·2 (claims· .5) T32 (record { pos = 1; ty = Syntax.tyRef (Syntax.named 0) Syntax.imm (Syntax.tyInt Syntax.w32); ref = λ x. x }, (record { pos = 2; ty = Syntax.tyRef (Syntax.named 1) Syntax.imm (Syntax.tyInt Syntax.w32); ref = λ x. x }, (record { pos = 3; ty = Syntax.tyRef (Syntax.named 2) Syntax.imm (Syntax.tyInt Syntax.w32); ref = λ x. x }, (record { pos = 4; ty = Syntax.tyRef (Syntax.named 3) Syntax.imm (Syntax.tyInt Syntax.w32); ref = λ x. x }, (record { pos = 17; ty = Syntax.tyRef Syntax.erased Syntax.mut (Syntax.tyInt Syntax.w32); ref = λ x. x }, (record { pos = 19; ty = Syntax.tyRef Syntax.erased Syntax.mut (Syntax.tyInt Syntax.w32); ref = λ x. x }, (record { pos = 9; st = List._∷_ (Syntax.field 1) List.[]; d = 8; at = λ x. Begun.struct .as-values x .1 .0 }, (Num.vFld 9 (List._∷_ (Syntax.field 0) List.[]) 0 λ x. Begun.struct .as-values x .0, (record { pos = 10; st = List.[]; d = 0; at = λ x. x }, (record { pos = 20; ty = Syntax.tyRef Syntax.erased Syntax.mut RunRecordTy.behind; ref = λ x. x }, tt)))))))))) (m22 record { before = record { before = record { before = record { before = c .before; zero-run = c .zero-run }; st = record { given = g } }; make-passes-arg = record { given = g' } }; make-passes-arg2 = record { given = g'' } } g'3) g'4 })))))
+        lay2 = λ c. (Path'.refl, (tt, λ g. λ g'. (Path'.refl, λ g''. (Path'.refl, λ g'3. (make-passes-requires record { before = record { before = record { before = record { before = record { before = c .before; zero-run = c .zero-run }; st = record { given = g } }; make-passes-arg = record { given = g' } }; make-passes-arg2 = record { given = g'' } }; make-passes-arg3 = record { given = g'3 } }, λ g'4. lay3 record { before = record { before = record { before = record { before = record { before = record { before = c .before; zero-run = c .zero-run }; st = record { given = g } }; make-passes-arg = record { given = g' } }; make-passes-arg2 = record { given = g'' } }; make-passes-arg3 = record { given = g'3 } }; make-passes = Called.called ps·2 r·2 (claims· .5) T32 (record { pos = 1; ty = Syntax.tyRef (Syntax.named 0) Syntax.imm (Syntax.tyInt Syntax.w32); ref = λ x. x }, (record { pos = 2; ty = Syntax.tyRef (Syntax.named 1) Syntax.imm (Syntax.tyInt Syntax.w32); ref = λ x. x }, (record { pos = 3; ty = Syntax.tyRef (Syntax.named 2) Syntax.imm (Syntax.tyInt Syntax.w32); ref = λ x. x }, (record { pos = 4; ty = Syntax.tyRef (Syntax.named 3) Syntax.imm (Syntax.tyInt Syntax.w32); ref = λ x. x }, (record { pos = 17; ty = Syntax.tyRef Syntax.erased Syntax.mut (Syntax.tyInt Syntax.w32); ref = λ x. x }, (record { pos = 19; ty = Syntax.tyRef Syntax.erased Syntax.mut (Syntax.tyInt Syntax.w32); ref = λ x. x }, (record { pos = 9; st = List._∷_ (Syntax.field 0) List.[]; d = 0; at = λ x. Begun.struct .as-values x .0 }, (record { pos = 10; st = List.[]; d = 0; at = λ x. x }, (record { pos = 20; ty = Syntax.tyRef Syntax.erased Syntax.mut RunRecordTy.behind; ref = λ x. x }, tt))))))))) (m22 record { before = record { before = record { before = record { before = c .before; zero-run = c .zero-run }; st = record { given = g } }; make-passes-arg = record { given = g' } }; make-passes-arg2 = record { given = g'' } } g'3) g'4 })))))
 
         lay1 : (c : After-begin-run) → at48 (c .before .before .before .before .before .before .before .before .blocks) (W0 (c .before .before .before .before .before .before .before .before .κs) (c .before .before .before .before .before .before .before .before .args) (c .before .before .before .before .before .before .before .before .blocks)) (m9 (c .before) (After-begin-run·gave c))
         lay1 = λ c. λ g. (zero-run-requires record { before = record { before = c .before; begin-run = c .begin-run }; zero-run-arg = record { given = g } }, λ g'. lay2 record { before = record { before = record { before = c .before; begin-run = c .begin-run }; zero-run-arg = record { given = g } }; zero-run = Called.called ps·1 r·1 (claims· .3) T18 (record { pos = 15; ty = Syntax.tyRef Syntax.erased Syntax.mut RunRecordTy.behind; ref = λ x. x }, tt) (m13 record { before = c .before; begin-run = c .begin-run } g) g' })

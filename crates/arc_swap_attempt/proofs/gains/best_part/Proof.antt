@@ -17,35 +17,27 @@ Inv-loop own parts at part₀ sum₀ t₀ part sum t = (t ≤ parts) × (_≡_ {
 abbrev μ-loop : tie.MeasureT-loop
 μ-loop own parts at part₀ sum₀ t₀ part sum t = parts - t
 
--- src/gains.rt:46:5
 loop-holds : tie.Need-loop-holds Inv-loop μ-loop
 loop-holds c = (search needs, none-passed (λ u. getD (c .before .args .sums .at) u 0) (c .before .args .own))
 
--- src/gains.rt:48:23
 mul-if2 : tie.Need-mul-if2 Inv-loop μ-loop
 mul-if2 c = search needs
 
--- src/gains.rt:48:23
 array-read-if2 : tie.Need-array-read-if2 Inv-loop μ-loop
 array-read-if2 c = search needs
 
--- src/gains.rt:50:23
 mul-sum : tie.Need-mul-sum Inv-loop μ-loop
 mul-sum c = search needs
 
--- src/gains.rt:50:23
 array-read-sum : tie.Need-array-read-sum Inv-loop μ-loop
 array-read-sum c = search needs
 
--- src/gains.rt:53:9
 add-t : tie.Need-add-t Inv-loop μ-loop
 add-t c = search needs
 
--- src/gains.rt:46:5
 loop-less : tie.Need-loop-less Inv-loop μ-loop
 loop-less c = search needs
 
--- src/gains.rt:46:5
 loop-again : tie.Need-loop-again Inv-loop μ-loop
 loop-again c =
     let given : tie.Start Inv-loop μ-loop = search needs in
@@ -60,7 +52,6 @@ loop-again c =
           (c .if1 .came),
     )
 
--- src/gains.rt:38:1
 returns : tie.Need-returns Inv-loop μ-loop
 returns c =
     let given : tie.Start Inv-loop μ-loop = search needs in

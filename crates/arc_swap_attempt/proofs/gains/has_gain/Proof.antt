@@ -5,22 +5,18 @@ use borrow.Author.Needs.{needs}
 use Rattle.arc_swap_attempt.proofs.gains.has_gain.Statement.{statement}
 use Rattle.arc_swap_attempt.proofs.gains.has_gain.Tie as tie
 
--- src/gains.rt:70:9
 index-at-requires : tie.Need-index-at-requires
 index-at-requires c κs = search needs
 
--- src/gains.rt:71:16
 sums-of-requires : tie.Need-sums-of-requires
 sums-of-requires c κs =
     let given : tie.Start = search needs in
     let ok = given .pre .0 in
     (ok .rows, λ u l. omega (arith, ok .named u l, ok .few), given .pre .1)
 
--- src/gains.rt:72:9
 best-part-requires : tie.Need-best-part-requires
 best-part-requires c κs = search needs
 
--- src/gains.rt:73:5
 mul-result : tie.Need-mul-result
 mul-result c =
     let given : tie.Start = search needs in
@@ -30,13 +26,11 @@ mul-result c =
           (c .best-part .ensures),
     )
 
--- src/gains.rt:73:5
 element-copy-out-result : tie.Need-element-copy-out-result
 element-copy-out-result c =
     let given : tie.Start = search needs in
     own-below _ _ _ _ (given .pre .0) (given .pre .1) _ _ _ (c .before .before .index-at .ensures) (c .before .sums-of .ensures) (c .best-part .ensures)
 
--- src/gains.rt:59:1
 returns : tie.Need-returns
 returns c =
     let after-sums-of : tie.After-sums-of = search needs in

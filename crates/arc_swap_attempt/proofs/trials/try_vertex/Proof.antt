@@ -8,22 +8,18 @@ use borrow.Author.Needs.{needs}
 use Rattle.arc_swap_attempt.proofs.trials.try_vertex.Statement.{statement}
 use Rattle.arc_swap_attempt.proofs.trials.try_vertex.Tie as tie
 
--- src/trials.rt:26:9
 index-at-requires : tie.Need-index-at-requires
 index-at-requires c κs = search needs
 
--- src/trials.rt:27:16
 sums-of-requires : tie.Need-sums-of-requires
 sums-of-requires c κs =
     let given : tie.Start = search needs in
     let ok = given .pre .ok in
     (ok .rows, λ u l. omega (arith, ok .named u l, ok .few), given .pre .here)
 
--- src/trials.rt:28:9
 best-part-requires : tie.Need-best-part-requires
 best-part-requires c κs = search needs
 
--- src/trials.rt:29:16
 mul-here : tie.Need-mul-here
 mul-here c =
     let given : tie.Start = search needs in
@@ -33,14 +29,12 @@ mul-here c =
           (c .before .sums-of .ensures) (c .best-part .ensures),
     )
 
--- src/trials.rt:29:16
 element-copy-out-here : tie.Need-element-copy-out-here
 element-copy-out-here c =
     let given : tie.Start = search needs in
     own-below _ _ _ _ (given .pre .ok) (given .pre .here) _ _ _ (c .before .before .index-at .ensures) (c .before .sums-of .ensures)
     (c .best-part .ensures)
 
--- src/trials.rt:31:9
 returns : tie.Need-returns
 returns c =
     let after-best-part : tie.After-best-part = search needs in
@@ -50,7 +44,6 @@ returns c =
     no-gain _ _ _ _ (given .pre .ok) (given .pre .here) _ _ _ (after-index-at .index-at .ensures) (after-sums-of .sums-of .ensures)
     (after-best-part .best-part .ensures) _ _ _ (given .pre) (c .if1 .taken)
 
--- src/trials.rt:34:16
 mul-load : tie.Need-mul-load
 mul-load c =
     let after-best-part : tie.After-best-part = search needs in
@@ -63,7 +56,6 @@ mul-load c =
           (after-sums-of .sums-of .ensures) (after-best-part .best-part .ensures) (c .if1 .left),
     )
 
--- src/trials.rt:34:16
 element-copy-out-load : tie.Need-element-copy-out-load
 element-copy-out-load c =
     let after-best-part : tie.After-best-part = search needs in
@@ -73,19 +65,15 @@ element-copy-out-load c =
     target-below _ _ _ _ (given .pre .ok) (given .pre .here) _ _ _ (after-index-at .index-at .ensures) (after-sums-of .sums-of .ensures)
     (after-best-part .best-part .ensures) (c .if1 .left)
 
--- src/trials.rt:34:42
 mul-wide : tie.Need-mul-wide
 mul-wide c = search needs
 
--- src/trials.rt:34:42
 shared-slice-read-wide : tie.Need-shared-slice-read-wide
 shared-slice-read-wide c = search needs
 
--- src/trials.rt:34:30
 wide-requires : tie.Need-wide-requires
 wide-requires c κs = search needs
 
--- src/trials.rt:34:16
 add-load : tie.Need-add-load
 add-load c =
     let else1 : tie.Else1 = search needs in
@@ -101,7 +89,6 @@ add-load c =
       c .before .shared-slice-known6 .given (given .args .v),
     )
 
--- src/trials.rt:35:8
 mul-if2 : tie.Need-mul-if2
 mul-if2 c =
     let else1 : tie.Else1 = search needs in
@@ -115,7 +102,6 @@ mul-if2 c =
           (after-sums-of .sums-of .ensures) (after-best-part .best-part .ensures) (else1 .if1 .left),
     )
 
--- src/trials.rt:35:8
 element-copy-out-if2 : tie.Need-element-copy-out-if2
 element-copy-out-if2 c =
     let else1 : tie.Else1 = search needs in
@@ -126,9 +112,9 @@ element-copy-out-if2 c =
     target-below _ _ _ _ (given .pre .ok) (given .pre .here) _ _ _ (after-index-at .index-at .ensures) (after-sums-of .sums-of .ensures)
     (after-best-part .best-part .ensures) (else1 .if1 .left)
 
--- src/trials.rt:36:9
 returns-2 : tie.Need-returns-2
 returns-2 c =
+    let after-wide : tie.After-wide = search needs in
     let else1 : tie.Else1 = search needs in
     let after-best-part : tie.After-best-part = search needs in
     let after-sums-of : tie.After-sums-of = search needs in
@@ -136,12 +122,11 @@ returns-2 c =
     let given : tie.Start = search needs in
     heavy _ _ _ _ (given .pre .ok) (given .pre .here) _ _ _ (after-index-at .index-at .ensures) (after-sums-of .sums-of .ensures)
     (after-best-part .best-part .ensures) _ _ _ (given .pre) (else1 .if1 .left) _
-    (ap (λ (x : ℕ). getD (given .args .t6 .at) (after-best-part .best-part .result .part) 0 + x) (c .before .before .wide .ensures))
+    (ap (λ (x : ℕ). getD (given .args .t6 .at) (after-best-part .best-part .result .part) 0 + x) (after-wide .wide .ensures))
     (c .if2 .taken)
 
--- src/trials.rt:38:17
-cast-t29 : tie.Need-cast-t29
-cast-t29 c =
+cast-t28 : tie.Need-cast-t28
+cast-t28 c =
     let else1 : tie.Else1 = search needs in
     let after-best-part : tie.After-best-part = search needs in
     let after-sums-of : tie.After-sums-of = search needs in
@@ -153,15 +138,13 @@ cast-t29 c =
           (after-sums-of .sums-of .ensures) (after-best-part .best-part .ensures) (else1 .if1 .left),
     )
 
--- src/trials.rt:38:27
-sub-t26 : tie.Need-sub-t26
-sub-t26 c = search needs
+sub-t25 : tie.Need-sub-t25
+sub-t25 c = search needs
 
 -- the stations that lie far back, each from a nearer one
 abbrev start-of : tie.After-index-at → tie.Start
 start-of c = search needs
 
--- src/trials.rt:12:1
 returns-3 : tie.Need-returns-3
 returns-3 c =
     let after-wide : tie.After-wide = search needs in
@@ -194,6 +177,6 @@ try-vertex-spec =
     mul-if2
     element-copy-out-if2
     returns-2
-    cast-t29
-    sub-t26
+    cast-t28
+    sub-t25
     returns-3)

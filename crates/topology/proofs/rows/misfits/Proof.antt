@@ -8,21 +8,17 @@ use borrow.Author.Needs.{needs}
 use Rattle.topology.proofs.rows.misfits.Statement.{statement}
 use Rattle.topology.proofs.rows.misfits.Tie as tie
 
--- src/rows.rt:16:9
 returns : tie.Need-returns
 unfolding misfit
 returns c = rw (ne-eqb (length (c .before .args .starts .now)) (c .before .args .n + 1) (λ e. omega arith))
 
--- src/rows.rt:18:8
 sub-if2 : tie.Need-sub-if2
 sub-if2 c = search needs
 
--- src/rows.rt:19:9
 returns-2 : tie.Need-returns-2
 unfolding misfit
 returns-2 c = rw (ne-eqb (length (c .before .before .args .starts .now)) (c .before .before .args .n + 1) (λ e. c .if2 .taken (omega arith)))
 
--- src/rows.rt:12:1
 returns-3 : tie.Need-returns-3
 unfolding misfit
 returns-3 c = rw (eq-eqb (length (c .before .before .args .starts .now)) (c .before .before .args .n + 1) (let e = c .if2 .left in omega (arith, c .before .if1 .left)))

@@ -4,12 +4,10 @@ use Rattle.topology.specs.Rule.{oversize}
 use Rattle.topology.proofs.rows.oversized.Statement.{statement}
 use Rattle.topology.proofs.rows.oversized.Tie as tie
 
--- src/rows.rt:29:9
 returns : tie.Need-returns
 unfolding oversize
 returns c = rw (lt-ltb _ _ (c .if1 .taken))
 
--- src/rows.rt:25:1
 returns-2 : tie.Need-returns-2
 unfolding oversize
 returns-2 c = rw (le-ltb _ _ (c .if1 .left))
