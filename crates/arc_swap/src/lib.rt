@@ -8,7 +8,7 @@ ghost use Rattle.imbalance.specs.Limit.{mostWeight};
 ghost use Rattle.topology.specs.Cut.{cut};
 ghost use Rattle.topology.specs.Graph.{inRows};
 ghost use Rattle.arc_swap.specs.Run.{noted, drain, sweep, Summed};
-ghost use Rattle.arc_swap.specs.Entry.{number, noCounts, Refined};
+ghost use Rattle.arc_swap.specs.Entry.{noCounts, Refined};
 ghost use Rattle.arc_swap.specs.inner.Steps.{termsBy, standing, most, Asked, TurnAsked, Done, PassesDone, Ready, Ran};
 
 mod answers;

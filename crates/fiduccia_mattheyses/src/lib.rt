@@ -3,7 +3,6 @@ mod answers;
 mod number;
 mod steps;
 
-ghost use Prim.Native.Nat.{_-_, _<_};
 ghost use Rattle.fiduccia_mattheyses_pass.specs.inner.Steps.{termsBy};
 ghost use Rattle.fiduccia_mattheyses.specs.Entry.{Refined};
 ghost use Rattle.fiduccia_mattheyses.specs.inner.Steps.{PassesAsked, PassesDone, Ready, Ran};

@@ -1,6 +1,6 @@
 // Words of a file, little-endian: read, stored and summed. Document 01, "Plan blocks".
 ghost use mathlib.Core.Path.{_≡_};
-ghost use Prim.Native.Nat.{_+_, _*_, _/_, _%_, _≤_};
+ghost use Prim.Native.Nat.{_+_, _*_, _%_, _≤_};
 ghost use lib.ListN.{length};
 ghost use Rattle.lists.specs.Sum.{sum};
 ghost use Rattle.plan_blocks.specs.Word.{wrap, word, putWord};

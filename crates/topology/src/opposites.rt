@@ -4,7 +4,7 @@ ghost use mathlib.Core.Bool.{true};
 ghost use Prim.Native.Nat.{_+_, _<_};
 ghost use lib.ListN.{length, getD};
 ghost use Rattle.lists.specs.All.{allFrom};
-ghost use Rattle.topology.specs.Graph.{inRows, weight};
+ghost use Rattle.topology.specs.Graph.{inRows};
 ghost use Rattle.topology.specs.Rule.{rowsOk, hasArc, answered, Rows};
 ghost use Rattle.topology.specs.inner.Lookup.{Rises, Halved, Answerable};
 
