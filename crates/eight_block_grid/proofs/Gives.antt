@@ -11,7 +11,7 @@ use borrow.Author.Tests.{ltb-true, ltb-false}
 use Rattle.lists.specs.Sum.{sum, total}
 use Rattle.lists.specs.All.{all, allFrom, any, anyFrom}
 use Rattle.lists.specs.Fill.{written, table}
-use Rattle.imbalance.specs.Limit.{heavy, labelAbove}
+use Rattle.imbalance.specs.Limit.{mostWeight, heavy, labelAbove}
 use Rattle.imbalance.specs.Load.{part, load}
 use Rattle.imbalance.proofs.Limits.{label-most}
 use Rattle.topology.specs.Rule.{misfit, oversize, startsOk, arcOk, rowsOk, hasArc, answered, rowsNumber, graphNumber, Rows}
@@ -86,7 +86,7 @@ pub totals-called : (e : Float) (r : FMReport.Report) (k : Lists) → e ≡ zero
 totals-called e r k q h = subst (λ (z : Float). RefinedWith 8 (totalsPlan z) totalsLists r k) q h .answered
 
 -- each total is within its limit, and each e is legal
-pub ceiling-asked : (r : FMReport.Report) → r ≡ totals → (getD (r .loads .at) 0 0 ≤ 2147483647) × (getD (r .loads .at) 1 0 ≤ 2147483647)
+pub ceiling-asked : (r : FMReport.Report) → r ≡ totals → (getD (r .loads .at) 0 0 ≤ mostWeight) × (getD (r .loads .at) 1 0 ≤ mostWeight)
 ceiling-asked r e = rw (e, totals-are) (omega arith)
 
 pub legal-imbalances : T (legalE sixTenths) × T (legalE twoTwentyEight) × T (legalE two)

@@ -17,6 +17,7 @@ use Rattle.lists.proofs.Totals.{sum-ext, sum-grows}
 use Rattle.lists.proofs.Alls.{all-more, all-fails, from-fails, from-more}
 use Rattle.lists.proofs.Tables.{table-at, table-ext, written-over}
 use Rattle.lists.proofs.Fills.{written-none, written-more}
+use Rattle.imbalance.specs.Limit.{mostVertices, mostArcs}
 use Rattle.plan_blocks.specs.declared.header.Header.{Header}
 use Rattle.plan_blocks.specs.Word.{wrap, word}
 use Rattle.plan_blocks.specs.Block.{opening, checks, laidOut, blocksFor, blocksOf, kindAt, countAt}
@@ -67,8 +68,8 @@ module _ (s : List ℕ) (b second kind count : ℕ) where
 -- what an accepted file's numbers are
 pub record Fine (s : List ℕ) : Type 0 where
   pub sized : length s ≡ 512 * (1 + (word s 1 + 62) / 63 + (word s 2 + 62) / 63)
-  pub few : word s 1 ≤ 4096
-  pub fewArcs : word s 2 ≤ 65535
+  pub few : word s 1 ≤ mostVertices
+  pub fewArcs : word s 2 ≤ mostArcs
   pub rows : sum (word s 1) (degreeAt s) ≡ word s 2
 
 pub fine : (s : List ℕ) → fileNumber s ≡ 0 → Fine s
@@ -264,7 +265,7 @@ module _ (s labels₀ weights₀ starts₀ : List ℕ) (n : ℕ) where
 
 module _ (s labels₀ weights₀ starts₀ : List ℕ) (n : ℕ) (labels weights starts : List ℕ) (row v : ℕ) (h : VerticesTo s labels₀ weights₀ starts₀ n labels weights starts row v) where
   -- a row's start and its degree are at most a
-  pub row-most : v < n → (x at : ℕ) → at ≡ vertexAt v → x ≡ word s (at + 1) → row + x / 65536 ≤ 65535
+  pub row-most : v < n → (x at : ℕ) → at ≡ vertexAt v → x ≡ word s (at + 1) → row + x / 65536 ≤ mostArcs
   row-most l x at p e =
       let d : x / 65536 ≡ degreeAt s v = ap (λ (y : ℕ). y / 65536) (e ∙ ap (λ (y : ℕ). word s (y + 1)) p) in
       let m = sum-more v (degreeAt s) in

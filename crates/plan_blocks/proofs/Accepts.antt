@@ -30,8 +30,8 @@ pub record Accepted (s : List ℕ) (n a k choice value : ℕ) : Type 0 where
 -- the numbers in range
 pub record InRange (n a k : ℕ) : Type 0 where
   pub some : 0 < n
-  pub few : n ≤ 4096
-  pub fewArcs : a ≤ 65535
+  pub few : n ≤ mostVertices
+  pub fewArcs : a ≤ mostArcs
   pub two : 2 ≤ k
   pub most : k ≤ 16
 
@@ -45,8 +45,8 @@ in-range n a k h =
     let z = eqb-false n 0 (p .0) in
     record {
       some = omega (arith, z);
-      few = ltb-false 4096 n (q .0);
-      fewArcs = ltb-false 65535 a (r .0);
+      few = ltb-false mostVertices n (q .0);
+      fewArcs = ltb-false mostArcs a (r .0);
       two = ltb-false k 2 (t .0);
       most = ltb-false 16 k (t .1);
     }

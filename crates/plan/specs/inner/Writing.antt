@@ -1,7 +1,7 @@
 -- What the writer's inner functions ask and promise: lists that can be written, and words put at their places, step by step.
 use mathlib.Core.Path.{_≡_}
 use mathlib.Core.List.{List}
-use Prim.Native.Nat.{ℕ, zero, suc, _+_, _*_, _/_, _%_, _≤_, _<_}
+use Prim.Native.Nat.{ℕ, zero, suc, _+_, _*_, _/_, _%_, _^_, _≤_, _<_}
 use lib.ListN.{length, getD}
 use Rattle.lists.specs.Fill.{filled}
 use Rattle.imbalance.specs.Limit.{mostVertices, mostArcs}
@@ -18,7 +18,7 @@ pub record VerticesFit (labels weights starts : List ℕ) : Type 0 where
   pub started : length starts ≡ length labels + 1
   pub rises : (v : ℕ) → v < length labels → getD starts v 0 ≤ getD starts (v + 1) 0
   pub within : (v : ℕ) → v < length labels → getD starts (v + 1) 0 ≤ mostArcs
-  pub named : (v : ℕ) → v < length labels → getD labels v 0 < 65536
+  pub named : (v : ℕ) → v < length labels → getD labels v 0 < 2 ^ 16
 
 -- What the arcs' records ask of the lists: their counts.
 pub record ArcsFit (neighbours arcWeights : List ℕ) : Type 0 where
