@@ -100,8 +100,8 @@ module _ (g : Graph) (k : ℕ) (p : List ℕ) (v : ℕ) (s₀ : List ℕ) (n : �
             }
 
         -- this one does not fit: none is pushed
-        pub no-room : top ≡ length s₀ → PushDone (pushedBy g k p v) s₀ n s false n
-        no-room h =
+        pub no-place : top ≡ length s₀ → PushDone (pushedBy g k p v) s₀ n s false n
+        no-place h =
             let x = inv .top-is in
             let z : suc (length (news g k p v i)) ≤ length (pushedBy g k p v) = grown in
             record {

@@ -12,7 +12,7 @@ use Rattle.imbalance.specs.Load.{part}
 use Rattle.fiduccia_mattheyses_pass.specs.Choice.{Terms, withMoveLimit, other, flip, member, worth, after, fits, allowed, better, choice}
 use Rattle.fiduccia_mattheyses_pass.specs.Pass.{State, start, moveOn, next, walk, flips, pass}
 use Rattle.fiduccia_mattheyses_pass.proofs.Chosen.{allowed-is, chosen}
-use Rattle.fiduccia_mattheyses_pass.proofs.Moved.{count-few, count-more, count-room}
+use Rattle.fiduccia_mattheyses_pass.proofs.Moved.{count-few, count-more, count-leaves-one}
 use Rattle.fiduccia_mattheyses_pass.proofs.Walks.{walk-stop, walk-step}
 use Rattle.fiduccia_mattheyses_pass.proofs.Keeps.{next-moves, walk-keeps}
 
@@ -60,7 +60,7 @@ none-left : (s : Terms) (n : ℕ) (st t : State) → Counted n st → n ≤ leng
 none-left s n st t h l e =
     let m = next-moves s st t e in
     let f = choice-free s n st (m .0) (m .1) h in
-    let r = count-room (m .0) (st .moved) n (f .0) (f .1) (h .once) in
+    let r = count-leaves-one (m .0) (st .moved) n (f .0) (f .1) (h .once) in
     omega arith
 
 -- two walks that may each move all the vertices left end in the same state

@@ -79,8 +79,8 @@ module _ (v : ℕ) (l : List ℕ) where
       omega arith
 
   -- a vertex not counted yet leaves room for it
-  pub count-room : (n : ℕ) → v < n → member v l ≡ false → sum n (λ x. weigh (member x l) 1) ≡ length l → length l + 1 ≤ n
-  count-room n lv m e =
+  pub count-leaves-one : (n : ℕ) → v < n → member v l ≡ false → sum n (λ x. weigh (member x l) 1) ≡ length l → length l + 1 ≤ n
+  count-leaves-one n lv m e =
       let F : ℕ → ℕ = λ x. weigh (member x l) 1 in
       let O : ℕ → ℕ = λ x. 1 in
       let a = sum-apart n v F lv in

@@ -40,8 +40,8 @@ module _ (s : Terms) (p : List ℕ) (gains₀ : List ℤ) (moves₀ : List Move)
   n = length p
 
   -- the cut is far from the end of its type
-  pub cut-room : cut₀ ≤ mostCut
-  cut-room = rw (a .cut-is) (cut-small (s .graph) p (light (a .fixed)) (a .fixed .rows .few))
+  pub cut-most : cut₀ ≤ mostCut
+  cut-most = rw (a .cut-is) (cut-small (s .graph) p (light (a .fixed)) (a .fixed .rows .few))
 
   -- what the walk asks, after fresh gains
   pub walk-asked : (gains : List ℤ) (first : Standing) → gains ≡ freshGains (s .graph) p gains₀ → first ≡ firstStanding loads cut₀ → WalkAsked s p gains moves₀ first

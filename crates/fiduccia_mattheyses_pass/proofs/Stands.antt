@@ -33,7 +33,7 @@ use Rattle.fiduccia_mattheyses_pass.specs.declared.Pick.the-variants.{No
 use Rattle.fiduccia_mattheyses_pass.specs.declared.Next.{Next}
 use Rattle.fiduccia_mattheyses_pass.specs.declared.Next.the-variants.{Stop, Go}
 use Rattle.fiduccia_mattheyses_pass.specs.declared.Standing.{Standing}
-use Rattle.fiduccia_mattheyses_pass.proofs.Moved.{at-more, apart-more, count-more, count-room}
+use Rattle.fiduccia_mattheyses_pass.proofs.Moved.{at-more, apart-more, count-more, count-leaves-one}
 use Rattle.fiduccia_mattheyses_pass.proofs.Worths.{Light, arcs-small, worth-small, gains-move}
 use Rattle.fiduccia_mattheyses_pass.proofs.Chosen.{allowed-is, chosen}
 use Rattle.fiduccia_mattheyses_pass.proofs.Choices.{pick-choice}
@@ -183,7 +183,7 @@ module _ (s : Terms) (n : ℕ) (f : Fixed s n) (st : State) (labels : List ℕ) 
 
     -- there is room for the move's record
     pub places-left : length (st .moved) + 1 ≤ n
-    places-left = count-room v (st .moved) n in-n (go .new) (on .counted)
+    places-left = count-leaves-one v (st .moved) n in-n (go .new) (on .counted)
 
     few′ : length labels ≤ mostVertices
     few′ = let a = on .long in let b = f .rows .few in omega arith

@@ -129,8 +129,8 @@ module _ (s : Terms) (limit : ℕ) (p : List ℕ) (moves₀ : List Move) where
       pub move-asked : Moveable (s .graph) gains labels (s .weights) st v g
       move-asked = moveable s (length p) f (w .state) labels gains st (w .stands) v g b going
 
-      pub move-room : (v < length labels) × (v ≤ mostVertices) × (made < length moves)
-      move-room =
+      pub move-places : (v < length labels) × (v ≤ mostVertices) × (made < length moves)
+      move-places =
           let a = going .here in
           let long = w .stands .long in
           let few = f .rows .few in

@@ -28,8 +28,8 @@ use Rattle.plan.proofs.Puts.{length-puts, after, puts-over, after-is}
 -- zeros are the bytes of words that are zero
 cleared : (m : ℕ) (s : List ℕ) → 4 * m ≤ length s → filled 0 (4 * m) s ≡ over (bytes m (λ w. 0)) s
 unfolding bytes byteOf
-cleared m s room =
-    written-over (λ i. 0) (4 * m) s room
+cleared m s places =
+    written-over (λ i. 0) (4 * m) s places
     ∙ ap (λ (t : List ℕ). over t s) (table-ext (4 * m) (λ i. 0) (byteIn (λ w. 0)) (λ i l. sym (ap (λ (x : ℕ). x % 256) (zero-div _))))
 
 module _ (p : Plan) where
@@ -103,7 +103,7 @@ pub length-laid : (n a : ℕ) (s : List ℕ) → length (laidDown n a s) ≡ len
 length-laid n a s =
     length-puts (λ b. 128 * b) (openingWord n a) (blocksOf n a) (filled 0 (512 * blocksOf n a) s) ∙ length-written (λ i. 0) (512 * blocksOf n a) s
 
-module _ (p : Plan) (s : List ℕ) (room : sizeOf (p .n) (p .a) ≤ length s) where
+module _ (p : Plan) (s : List ℕ) (places : sizeOf (p .n) (p .a) ≤ length s) where
   -- the words that each step puts among those before it
   abbrev opened : ℕ → ℕ
   opened = after (λ b. 128 * b) (openingWord (p .n) (p .a)) (blocksOf (p .n) (p .a)) (λ w. 0)
@@ -191,5 +191,5 @@ pub steps-write : (labels weights starts neighbours arcWeights : List ℕ) (k ch
     → whole ≡ sealed (blocksOf (header .n) (header .a)) joined
     → whole ≡ over (encode (planWith labels weights starts neighbours arcWeights k choice value)) s
 unfolding planWith vertexWord arcWord
-steps-write labels weights starts neighbours arcWeights k choice value header s laid headed labelled joined whole e room el eh ex ej ew =
-    rw (ew, ej, ex, eh, el, e) (steps-encode (planWith labels weights starts neighbours arcWeights k choice value) s room)
+steps-write labels weights starts neighbours arcWeights k choice value header s laid headed labelled joined whole e places el eh ex ej ew =
+    rw (ew, ej, ex, eh, el, e) (steps-encode (planWith labels weights starts neighbours arcWeights k choice value) s places)

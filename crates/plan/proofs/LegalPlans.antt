@@ -85,9 +85,9 @@ telescope starts n (suc m) h l =
     rw (← add-one m) (omega arith)
 
 -- A PLAN THAT THE WRITER TAKES is legal
-pub legal-given : (g : Given) (room : ℕ) → Typed g → Fits g room → Legal (planFrom g)
+pub legal-given : (g : Given) (places : ℕ) → Typed g → Fits g places → Legal (planFrom g)
 unfolding planWith
-legal-given g room t f =
+legal-given g places t f =
     let n = vertices g in
     let d : ℕ → ℕ = λ v. getD (g .starts) (v + 1) 0 - getD (g .starts) v 0 in
     let z = start-first n (rowsIn g) (f .ordered) in
@@ -216,8 +216,8 @@ module _ (p : Plan) (h : Legal p) where
       small true e = fit-whole (p .choice) (p .value) (h .fit) (eqb-true (p .choice) 1 e)
       small false e = omega arith
 
-  pub fits-given : (room : ℕ) → sizeOf (p .n) (p .a) ≤ room → Fits (givenOf p) room
-  fits-given room r =
+  pub fits-given : (places : ℕ) → sizeOf (p .n) (p .a) ≤ places → Fits (givenOf p) places
+  fits-given places r =
       let en = h .labelled in
       let ea = h .joined in
       let ranged : outOfRange (length (p .labels)) (length (p .neighbours)) (p .k) ≡ false = rw (en, ea) (h .ranged) in
@@ -240,9 +240,9 @@ module _ (p : Plan) (h : Legal p) where
       }
 
 -- where all fits, the number is 0
-pub fits-number : (g : Given) (room : ℕ) → Fits g room → writeNumber g room ≡ 0
+pub fits-number : (g : Given) (places : ℕ) → Fits g places → writeNumber g places ≡ 0
 unfolding writeNumber unfit miscounted badStarts badLabels
-fits-number g room f =
+fits-number g places f =
     simp (
       f .numbers,
       f .fit,

@@ -72,10 +72,10 @@ module _ (at x f : ℕ → ℕ) where
   -- a file that begins with words begins with those that were put among them
   pub puts-over : (n : ℕ) (s : List ℕ) → 4 * n ≤ length s → (m : ℕ) → ((i : ℕ) → i < m → at i < n) → putWords at x m (over (bytes n f) s) ≡ over (bytes n (after at x m f)) s
   unfolding putWords after
-  puts-over n s room zero l = refl
-  puts-over n s room (suc m) l =
-      ap (λ (t : List ℕ). putWord t (at m) (x m)) (puts-over n s room m (λ i k. l i (omega arith)))
-      ∙ put-over n (after at x m f) (after at x (suc m) f) (at m) (x m) s room (l m (omega arith))
+  puts-over n s places zero l = refl
+  puts-over n s places (suc m) l =
+      ap (λ (t : List ℕ). putWord t (at m) (x m)) (puts-over n s places m (λ i k. l i (omega arith)))
+      ∙ put-over n (after at x m f) (after at x (suc m) f) (at m) (x m) s places (l m (omega arith))
       (rw (eq-eqb (at m) (at m) refl))
       (λ v ne. rw (ne-eqb v (at m) ne))
 

@@ -186,7 +186,7 @@ unfolding frameNumber
 whole-blocks s m e z = not-given (badLength s) 9 _ (omega arith) (sym e ∙ z) .0
 
 -- where the reader's number is 0, the file is accepted and the targets are long enough
-pub record Room (s : List ℕ) (l w t n a : ℕ) : Type 0 where
+pub record AcceptedPlaces (s : List ℕ) (l w t n a : ℕ) : Type 0 where
   pub accepted : fileNumber s ≡ 0
   pub labels : word s 1 ≤ l
   pub weights : word s 1 ≤ w
@@ -195,11 +195,11 @@ pub record Room (s : List ℕ) (l w t n a : ℕ) : Type 0 where
   pub arcWeights : word s 2 ≤ a
 
 module _ (s : List ℕ) (l w t n a : ℕ) where
-  pub room : numberFor s l w t n a ≡ 0 → Room s l w t n a
+  pub accepted-places : numberFor s l w t n a ≡ 0 → AcceptedPlaces s l w t n a
   unfolding numberFor planOf short
-  room h = go (fileNumber s) refl h
+  accepted-places h = go (fileNumber s) refl h
     where
-      fits : (b : Bool) → b ≡ (ltb l (word s 1) || (ltb w (word s 1) || (ltb t (word s 1 + 1) || (ltb n (word s 2) || ltb a (word s 2))))) → _≡_ {A = ℕ} (cond b 15 0) 0 → fileNumber s ≡ 0 → Room s l w t n a
+      fits : (b : Bool) → b ≡ (ltb l (word s 1) || (ltb w (word s 1) || (ltb t (word s 1 + 1) || (ltb n (word s 2) || ltb a (word s 2))))) → _≡_ {A = ℕ} (cond b 15 0) 0 → fileNumber s ≡ 0 → AcceptedPlaces s l w t n a
       fits true e z f = absurd (omega arith)
       fits false e z f =
           let p = or-false (ltb l (word s 1)) (ltb w (word s 1) || (ltb t (word s 1 + 1) || (ltb n (word s 2) || ltb a (word s 2)))) (sym e) in
@@ -215,14 +215,14 @@ module _ (s : List ℕ) (l w t n a : ℕ) where
             arcWeights = ltb-false a (word s 2) (u .1);
           }
 
-      go : (m : ℕ) → fileNumber s ≡ m → orElse m (cond (ltb l (word s 1) || (ltb w (word s 1) || (ltb t (word s 1 + 1) || (ltb n (word s 2) || ltb a (word s 2))))) 15 0) ≡ 0 → Room s l w t n a
+      go : (m : ℕ) → fileNumber s ≡ m → orElse m (cond (ltb l (word s 1) || (ltb w (word s 1) || (ltb t (word s 1 + 1) || (ltb n (word s 2) || ltb a (word s 2))))) 15 0) ≡ 0 → AcceptedPlaces s l w t n a
       go zero e z = fits _ refl z e
       go (suc m) e z = absurd (omega arith)
 
 -- the same, by the reader's two numbers
 module _ (s : List ℕ) (l w t n a m k : ℕ) (header : Header) (decoded : header ≡ headerAt s) (framed : m ≡ frameNumber s) (planned : k ≡ planNumber header s l w t n a) where
-  pub opened : m ≡ 0 → k ≡ 0 → Room s l w t n a
-  opened y z = room s l w t n a (sym (by-plan s l w t n a m k header framed y decoded planned) ∙ z)
+  pub opened : m ≡ 0 → k ≡ 0 → AcceptedPlaces s l w t n a
+  opened y z = accepted-places s l w t n a (sym (by-plan s l w t n a m k header framed y decoded planned) ∙ z)
 
   pub ranged : k ≡ 0 → badNumbers header ≡ false
   unfolding planNumber

@@ -30,7 +30,7 @@ use Rattle.plan.specs.declared.ReadAnswer.{ReadAnswer}
 use Rattle.plan.specs.declared.WriteAnswer.{WriteAnswer}
 use Rattle.plan.specs.Read.{Targets, short, numberFor, readNumber, startsOf, headerOf, refusalOf, handed, readAnswer, readLeft, Read}
 use Rattle.plan.specs.Write.{Given, planWith, planFrom, vertices, arcs, sizeOf, writeNumber, writeAnswer, writeLeft, Written}
-use Rattle.plan.proofs.ReadLaws.{room as file-room}
+use Rattle.plan.proofs.ReadLaws.{accepted-places}
 use Rattle.plan.proofs.ReadEntry.{same-targets}
 use Rattle.plan.proofs.WriteEntry.{rowsIn, Fits, fits}
 use Rattle.plan.proofs.LegalPlans.{Typed, givenOf, legal-given, plan-given, typed-given, fits-given, fits-number, telescope, ceilingIn}
@@ -94,8 +94,8 @@ module _ (s : List ℕ) (h : Bytes s) (z : fileNumber s ≡ 0) where
       (table-below wrap (word s 2) (λ e. word s (arcAt (word s 1) e)) (omega arith) (λ e. word-below s h (arcAt (word s 1) e)))
       (table-below wrap (word s 2) (λ e. word s (arcAt (word s 1) e + 1)) (omega arith) (λ e. word-below s h (arcAt (word s 1) e + 1)))
 
-  number-places : (room : ℕ) → length s ≤ room → writeNumber (givenOf (planOf s)) room ≡ 0
-  number-places room l = let e = size-is in fits-number (givenOf (planOf s)) room (fits-given (planOf s) legal room (omega arith))
+  number-places : (places : ℕ) → length s ≤ places → writeNumber (givenOf (planOf s)) places ≡ 0
+  number-places places l = let e = size-is in fits-number (givenOf (planOf s)) places (fits-given (planOf s) legal places (omega arith))
 
   bytes-places : encode (planFrom (givenOf (planOf s))) ≡ s
   bytes-places = ap encode (plan-given (planOf s) legal) ∙ same-bytes s h (accepts s z)
@@ -104,9 +104,9 @@ module _ (s : List ℕ) (h : Bytes s) (z : fileNumber s ≡ 0) where
 pub accepted-writable : (s : List ℕ) → Bytes s → fileNumber s ≡ 0 → (g : Given) × Typed g × (writeNumber g (length s) ≡ 0) × (encode (planFrom g) ≡ s)
 accepted-writable s h z = (givenOf (planOf s), typed-places s h z, number-places s h z (length s) (omega arith), bytes-places s h z)
 
-pub writable-accepted : (g : Given) (room : ℕ) → Typed g → writeNumber g room ≡ 0 → Bytes (encode (planFrom g)) × (fileNumber (encode (planFrom g)) ≡ 0)
+pub writable-accepted : (g : Given) (places : ℕ) → Typed g → writeNumber g places ≡ 0 → Bytes (encode (planFrom g)) × (fileNumber (encode (planFrom g)) ≡ 0)
 unfolding encode
-writable-accepted g room t z = (bytes-below _ _, same-number (planFrom g) (legal-given g room t (fits g room z)))
+writable-accepted g places t z = (bytes-below _ _, same-number (planFrom g) (legal-given g places t (fits g places z)))
 
 -- what a reader's answer and targets hold of the plan, as the writer takes it
 abbrev pub givenBy : ReadAnswer → Targets → Given
@@ -140,13 +140,13 @@ given-handed p l t =
 -- AN ACCEPTED FILE READ AND REWRITTEN is the same bytes
 pub read-then-written : (s : List ℕ) (t u : Targets) (r : ReadAnswer) (b c : List ℕ) (q : WriteAnswer) → Bytes s → Read s t r u → r .number ≡ 0 → length s ≤ length b → Written (givenBy r u) b q c
     → (q .number ≡ 0) × (q .length ≡ length s) × (c ≡ over s b)
-read-then-written s t u r b c q h read z room wrote =
+read-then-written s t u r b c q h read z places wrote =
     let m = read-zero s t u r read z in
-    let f = file-room s _ _ _ _ _ m .accepted in
+    let f = accepted-places s _ _ _ _ _ m .accepted in
     let l = legal s h f in
     let e : givenBy r u ≡ givenOf (planOf s) = ap₂ givenBy (read-header s t u r read m) (read-lists s t u r read m) ∙ given-handed (planOf s) l t in
     let w : Written (givenOf (planOf s)) b q c = subst (λ (g : Given). Written g b q c) e wrote in
-    let n = number-places s h f (length b) room in (
+    let n = number-places s h f (length b) places in (
       write-number (givenOf (planOf s)) b c q w ∙ n,
       write-length (givenOf (planOf s)) b c q w n ∙ ap₂ sizeOf (l .labelled) (l .joined) ∙ size-is s h f,
       write-bytes (givenOf (planOf s)) b c q w n ∙ ap (λ (x : List ℕ). over x b) (bytes-places s h f),
@@ -175,7 +175,7 @@ listsGiven g t =
       arcWeights = over (g .arcWeights) (t .arcWeights);
     }
 
-module _ (g : Given) (room : ℕ) (typed : Typed g) (fit : Fits g room) where
+module _ (g : Given) (places : ℕ) (typed : Typed g) (fit : Fits g places) where
   header-given : headerOf (planFrom g) ≡ headerGiven g
   unfolding headerOf planWith valueOf
   header-given =
@@ -262,5 +262,5 @@ pub one-word-changed : (s s′ : List ℕ) (w : ℕ) (t u t′ u′ : Targets) (
     → Read s t r u → r .number ≡ 0 → Read s′ t′ r′ u′ → (r′ ≡ refusalOf 10) × (u′ ≡ t′)
 one-word-changed s s′ w t u t′ u′ r r′ h h′ long rest differ read z read′ =
     let m = read-zero s t u r read z in
-    let f = file-room s _ _ _ _ _ m .accepted in
+    let f = accepted-places s _ _ _ _ _ m .accepted in
     read-ten s′ t′ u′ r′ read′ (refused-ten s s′ w h h′ long rest differ f)

@@ -28,9 +28,9 @@ same-value a b same = rw (← same .choices) (go (eqb (a .choice) 1) refl (eqb (
     go false p false q = refl
 
 module _ (g : Given) (target : List ℕ) (asked : Ceiling) (same : SameUsed (g .ceiling) asked) where
-  same-number : (room : ℕ) → writeNumber g room ≡ writeNumber (withCeiling g asked) room
+  same-number : (places : ℕ) → writeNumber g places ≡ writeNumber (withCeiling g asked) places
   unfolding writeNumber unfit miscounted badStarts
-  same-number room = rw (same-fit (g .ceiling) asked same)
+  same-number places = rw (same-fit (g .ceiling) asked same)
 
   same-plan : planFrom g ≡ planFrom (withCeiling g asked)
   same-plan =

@@ -28,7 +28,7 @@ abbrev pub rowsIn : Given → Graph
 rowsIn g = inRows (g .starts) (g .neighbours) (g .arcWeights)
 
 -- what number 0 says of what is given and of the target's length
-pub record Fits (g : Given) (room : ℕ) : Type 0 where
+pub record Fits (g : Given) (places : ℕ) : Type 0 where
   pub numbers : outOfRange (vertices g) (arcs g) (g .k) ≡ false
   pub ranged : InRange (vertices g) (arcs g) (g .k)
   pub fit : unfitChoice (g .ceiling) ≡ false
@@ -37,10 +37,10 @@ pub record Fits (g : Given) (room : ℕ) : Type 0 where
   pub paired : arcs g ≡ length (g .arcWeights)
   pub ordered : startsOk (vertices g) (rowsIn g) ≡ true
   pub named : (v : ℕ) → v < vertices g → getD (g .labels) v 0 < g .k
-  pub roomy : sizeOf (vertices g) (arcs g) ≤ room
+  pub roomy : sizeOf (vertices g) (arcs g) ≤ places
 
-module _ (g : Given) (room : ℕ) where
-  pub fits : writeNumber g room ≡ 0 → Fits g room
+module _ (g : Given) (places : ℕ) where
+  pub fits : writeNumber g places ≡ 0 → Fits g places
   unfolding writeNumber unfit miscounted badStarts badLabels
   fits h =
       let n = vertices g in
@@ -49,7 +49,7 @@ module _ (g : Given) (room : ℕ) where
       let q = not-given (miscounted g) 1 _ (omega arith) (p .1) in
       let r = not-given (badStarts g) 3 _ (omega arith) (q .1) in
       let t = not-given (badLabels (g .k) (g .labels)) 14 _ (omega arith) (r .1) in
-      let u = not-given (ltb room (sizeOf n a)) 15 0 (omega arith) (t .1) in
+      let u = not-given (ltb places (sizeOf n a)) 15 0 (omega arith) (t .1) in
       let numbers = or-false (outOfRange n a (g .k)) (unfitChoice (g .ceiling)) (p .0) in
       let x = or-false (not (eqb (length (g .weights)) n)) (not (eqb (length (g .starts)) (n + 1)) || not (eqb a (length (g .arcWeights)))) (q .0) in
       let y = or-false (not (eqb (length (g .starts)) (n + 1))) (not (eqb a (length (g .arcWeights)))) (x .1) in
@@ -62,11 +62,11 @@ module _ (g : Given) (room : ℕ) where
         paired = eqb-true a (length (g .arcWeights)) (not-false _ (y .1));
         ordered = not-false (startsOk n (rowsIn g)) (r .0);
         named = λ v l. ltb-true (getD (g .labels) v 0) (g .k) (all-at n v (λ v. ltb (getD (g .labels) v 0) (g .k)) (not-false _ (t .0)) l);
-        roomy = ltb-false room (sizeOf n a) (u .0);
+        roomy = ltb-false places (sizeOf n a) (u .0);
       }
 
 -- what the records ask is fit then
-module _ (g : Given) (room : ℕ) (f : Fits g room) where
+module _ (g : Given) (places : ℕ) (f : Fits g places) where
   vertices-fit : VerticesFit (g .labels) (g .weights) (g .starts)
   vertices-fit =
       let i = f .ranged in
@@ -87,16 +87,16 @@ abbrev headerWith : Given → ℕ → Header
 headerWith g value = record { n = vertices g; a = arcs g; k = g .k; choice = g .ceiling .choice; value = value }
 
 -- what the writer's steps ask of that header and of the length of the target, which is kept
-module _ (g : Given) (room : ℕ) (f : Fits g room) (header : Header) (value : ℕ) (e : header ≡ headerWith g value) (kept : ℕ) (same : kept ≡ room) where
+module _ (g : Given) (places : ℕ) (f : Fits g places) (header : Header) (value : ℕ) (e : header ≡ headerWith g value) (kept : ℕ) (same : kept ≡ places) where
   pub blocks-asked : (header .n ≤ mostVertices) × (header .a ≤ mostArcs) × (sizeOf (header .n) (header .a) ≤ kept)
   blocks-asked = let i = f .ranged in rw (e, same) (i .few, i .fewArcs, f .roomy)
 
   pub vertices-asked : VerticesFit (g .labels) (g .weights) (g .starts) × (512 * (1 + blocksFor (vertices g)) ≤ kept)
   unfolding sizeOf blocksOf
-  vertices-asked = let r = f .roomy in (vertices-fit g room f, omega arith)
+  vertices-asked = let r = f .roomy in (vertices-fit g places f, omega arith)
 
   pub arcs-asked : ArcsFit (g .neighbours) (g .arcWeights) × (header .n ≤ mostVertices) × (sizeOf (header .n) (arcs g) ≤ kept)
-  arcs-asked = let i = f .ranged in rw (e, same) (arcs-fit g room f, i .few, f .roomy)
+  arcs-asked = let i = f .ranged in rw (e, same) (arcs-fit g places f, i .few, f .roomy)
 
 module _ (g : Given) (t u : List ℕ) (m : ℕ) (e : m ≡ writeNumber g (length t)) where
   pub write-refused : (m ≡ 0 → ⊥) → u ≡ t → Written g t (record { number = m; length = 0 }) u

@@ -45,31 +45,31 @@ labels-below k labels l =
     either x false e = let m = ltb-false x k e in lt-ltb (k - 1) x (omega arith)
 
 -- each way out, by the tests that led there
-module _ (g : Given) (room : ℕ) where
-  pub by-twelve : unfit g ≡ true → 12 ≡ writeNumber g room
+module _ (g : Given) (places : ℕ) where
+  pub by-twelve : unfit g ≡ true → 12 ≡ writeNumber g places
   unfolding writeNumber
   by-twelve u = rw u
 
   module _ (u : unfit g ≡ false) where
-    pub by-one : miscounted g ≡ true → 1 ≡ writeNumber g room
+    pub by-one : miscounted g ≡ true → 1 ≡ writeNumber g places
     unfolding writeNumber
     by-one m = rw (u, m)
 
     module _ (m : miscounted g ≡ false) where
-      pub by-three : badStarts g ≡ true → 3 ≡ writeNumber g room
+      pub by-three : badStarts g ≡ true → 3 ≡ writeNumber g places
       unfolding writeNumber
       by-three s = rw (u, m, s)
 
       module _ (s : badStarts g ≡ false) where
-        pub by-fourteen : badLabels (g .k) (g .labels) ≡ true → 14 ≡ writeNumber g room
+        pub by-fourteen : badLabels (g .k) (g .labels) ≡ true → 14 ≡ writeNumber g places
         unfolding writeNumber
         by-fourteen l = rw (u, m, s, l)
 
         module _ (l : badLabels (g .k) (g .labels) ≡ false) (size : ℕ) (e : size ≡ sizeOf (vertices g) (arcs g)) where
-          pub by-fifteen : room < size → 15 ≡ writeNumber g room
+          pub by-fifteen : places < size → 15 ≡ writeNumber g places
           unfolding writeNumber
-          by-fifteen r = rw (u, m, s, l, lt-ltb room (sizeOf (vertices g) (arcs g)) (rw e at r))
+          by-fifteen r = rw (u, m, s, l, lt-ltb places (sizeOf (vertices g) (arcs g)) (rw e at r))
 
-          pub by-none : size ≤ room → 0 ≡ writeNumber g room
+          pub by-none : size ≤ places → 0 ≡ writeNumber g places
           unfolding writeNumber
-          by-none r = rw (u, m, s, l, le-ltb room (sizeOf (vertices g) (arcs g)) (rw e at r))
+          by-none r = rw (u, m, s, l, le-ltb places (sizeOf (vertices g) (arcs g)) (rw e at r))

@@ -79,12 +79,12 @@ sizeOf n a = 512 * blocksOf n a
 
 -- "The writer refuses by 12, 1, 3 (starts only), 14, 15, in that order": of what is given, and the target's length
 unfoldable pub writeNumber : Given → ℕ → ℕ
-writeNumber g room =
+writeNumber g places =
     cond (unfit g) 12
     (cond (miscounted g) 1
     (cond (badStarts g) 3
     (cond (badLabels (g .k) (g .labels)) 14
-    (cond (ltb room (sizeOf (vertices g) (arcs g))) 15 0))))
+    (cond (ltb places (sizeOf (vertices g) (arcs g))) 15 0))))
 
 -- THE ANSWER: the number, and the length that was written, 0 on a refusal
 unfoldable pub writeAnswer : Given → List ℕ → WriteAnswer

@@ -51,11 +51,11 @@ pub(crate) fn write_number(
     arc_weights: &[u32],
     k: u32,
     asked: Ceiling,
-    room: usize,
+    places: usize,
 ) -> u32
     ensures { λ r. ⌜ r ≡ writeNumber
         (record { labels = now (labels .entry); weights = now (weights .entry); starts = now (starts .entry); neighbours = now (neighbours .entry); arcWeights = now («arc_weights» .entry); k = k; ceiling = asked })
-        room ⌝ }
+        places ⌝ }
 {
     let n = labels.len();
     let a = neighbours.len();
@@ -71,7 +71,7 @@ pub(crate) fn write_number(
     if imbalance::label_above(labels, k - 1) {
         return 14;
     }
-    if room < 512 * layout::blocks_of(n, a) {
+    if places < 512 * layout::blocks_of(n, a) {
         return 15;
     }
     0

@@ -190,15 +190,15 @@ unfolding bytes
 written-bytes m f s h = written-over (byteIn f) (4 * m) s h
 
 -- words that a file begins with
-module _ (m : ℕ) (f : ℕ → ℕ) (s : List ℕ) (room : 4 * m ≤ length s) where
+module _ (m : ℕ) (f : ℕ → ℕ) (s : List ℕ) (long : 4 * m ≤ length s) where
   over-below : (i : ℕ) → i < 4 * m → getD (over (bytes m f) s) i 0 ≡ byteIn f i
-  over-below i l = ap (λ (t : List ℕ). getD t i 0) (sym (written-bytes m f s room)) ∙ written-below (byteIn f) 0 (4 * m) s room i l
+  over-below i l = ap (λ (t : List ℕ). getD t i 0) (sym (written-bytes m f s long)) ∙ written-below (byteIn f) 0 (4 * m) s long i l
 
   over-past : (i : ℕ) → 4 * m ≤ i → getD (over (bytes m f) s) i 0 ≡ getD s i 0
-  over-past i l = ap (λ (t : List ℕ). getD t i 0) (sym (written-bytes m f s room)) ∙ written-past (byteIn f) 0 (4 * m) s i l
+  over-past i l = ap (λ (t : List ℕ). getD t i 0) (sym (written-bytes m f s long)) ∙ written-past (byteIn f) 0 (4 * m) s i l
 
   length-over : length (over (bytes m f) s) ≡ length s
-  length-over = ap length (sym (written-bytes m f s room)) ∙ length-written (byteIn f) (4 * m) s
+  length-over = ap length (sym (written-bytes m f s long)) ∙ length-written (byteIn f) (4 * m) s
 
   -- what is stored of a number that is too large for a word is its lower 32 bits
   pub word-over : (w : ℕ) → w < m → word (over (bytes m f) s) w ≡ f w % wrap
@@ -207,8 +207,8 @@ module _ (m : ℕ) (f : ℕ → ℕ) (s : List ℕ) (room : 4 * m ≤ length s) 
 -- one of the words that a file begins with, stored anew
 pub put-over : (m : ℕ) (f g : ℕ → ℕ) (w x : ℕ) (s : List ℕ) → 4 * m ≤ length s → w < m → g w ≡ x → ((v : ℕ) → (v ≡ w → ⊥) → g v ≡ f v)
     → putWord (over (bytes m f) s) w x ≡ over (bytes m g) s
-put-over m f g w x s room l here there =
-    ext-getD 0 (putWord k w x) (over (bytes m g) s) (length-put k w x ∙ length-over m f s room ∙ sym (length-over m g s room)) (λ i _. at i (eqb (i / 4) w) refl)
+put-over m f g w x s long l here there =
+    ext-getD 0 (putWord k w x) (over (bytes m g) s) (length-put k w x ∙ length-over m f s long ∙ sym (length-over m g s long)) (λ i _. at i (eqb (i / 4) w) refl)
   where
     k : List ℕ
     k = over (bytes m f) s
@@ -216,20 +216,20 @@ put-over m f g w x s room l here there =
     past : (i : ℕ) (t : Bool) → ltb i (4 * m) ≡ t → (i / 4 ≡ w → ⊥) → getD k i 0 ≡ getD (over (bytes m g) s) i 0
     past i true e ne =
         let b = ltb-true i (4 * m) e in
-        over-below m f s room i b ∙ ap (λ (y : ℕ). byteOf y (i % 4)) (sym (there (i / 4) ne)) ∙ sym (over-below m g s room i b)
+        over-below m f s long i b ∙ ap (λ (y : ℕ). byteOf y (i % 4)) (sym (there (i / 4) ne)) ∙ sym (over-below m g s long i b)
     past i false e ne =
         let b = ltb-false i (4 * m) e in
-        over-past m f s room i b ∙ sym (over-past m g s room i b)
+        over-past m f s long i b ∙ sym (over-past m g s long i b)
 
     at : (i : ℕ) (t : Bool) → eqb (i / 4) w ≡ t → getD (putWord k w x) i 0 ≡ getD (over (bytes m g) s) i 0
     at i true e =
         let q = eqb-true (i / 4) w e in
         let r : i ≡ 4 * w + i % 4 = omega arith in
-        let n = length-over m f s room in
+        let n = length-over m f s long in
         ap (λ (j : ℕ). getD (putWord k w x) j 0) r
         ∙ put-byte k w x (omega arith) (i % 4) (omega arith)
         ∙ ap (λ (y : ℕ). byteOf y (i % 4)) (sym (ap g q ∙ here))
-        ∙ sym (over-below m g s room i (omega arith))
+        ∙ sym (over-below m g s long i (omega arith))
     at i false e =
         let ne = eqb-false (i / 4) w e in
         put-other k w x i ne ∙ past i (ltb i (4 * m)) refl ne

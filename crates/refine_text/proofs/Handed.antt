@@ -18,7 +18,7 @@ use Rattle.plan_blocks.specs.Decode.{labelAt, labelled, planOf, fileNumber}
 use Rattle.plan_blocks.proofs.Accepts.{accepts, in-range}
 use Rattle.plan.specs.declared.ReadAnswer.{ReadAnswer}
 use Rattle.plan.specs.Read.{Targets, numberFor, readNumber, startsOf, headerOf, refusalOf, handed, readAnswer, readLeft, Read}
-use Rattle.plan.proofs.ReadLaws.{room}
+use Rattle.plan.proofs.ReadLaws.{accepted-places}
 use Rattle.refine_words.specs.inner.Steps.{Put}
 use Rattle.refine_words.specs.Line.{refusal}
 use Rattle.refine_words.proofs.Texts.{pasted-first}
@@ -87,7 +87,7 @@ module _ {s : List ℕ} {t u : Targets} {r : ReadAnswer} (z : Sized t) (p : Read
     pub had : Had s r u
     unfolding headerOf handed planOf startsOf
     had =
-        let g = room s planVertices planVertices (planVertices + 1) planArcs planArcs (sym number-read ∙ done) in
+        let g = accepted-places s planVertices planVertices (planVertices + 1) planArcs planArcs (sym number-read ∙ done) in
         let h = header-read in
         let n : r .n ≡ word s 1 = ap (λ (x : ReadAnswer). x .n) h in
         let a : r .a ≡ word s 2 = ap (λ (x : ReadAnswer). x .a) h in

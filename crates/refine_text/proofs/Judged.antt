@@ -13,7 +13,7 @@ use Rattle.lists.proofs.Bools.{and-false, or-true, or-false}
 use Rattle.plan_blocks.specs.Word.{word}
 use Rattle.plan_blocks.specs.Decode.{badLength, planOf, fileNumber}
 use Rattle.plan.specs.Read.{short, numberFor}
-use Rattle.plan.proofs.ReadLaws.{long-enough, room}
+use Rattle.plan.proofs.ReadLaws.{long-enough, accepted-places}
 use Rattle.refine_text.specs.Refine.{planVertices, planArcs, inputBytes, beyond, ranked, inputNumber}
 
 -- "12 unread for an input above 22,016 bytes"
@@ -64,9 +64,9 @@ fifteen : (b : Bool) (x : ℕ) → x ≡ cond b 15 0 → (x ≡ 15) ⊎ (x ≡ 0
 fifteen true x q = inl q
 fifteen false x q = inr q
 
-file-or-room : (f m : ℕ) (b : Bool) → m ≡ orElse f (cond b 15 0) → (f ≡ 0) ⊎ (m ≡ f)
-file-or-room zero m b o = inl refl
-file-or-room (suc g) m b o = inr o
+file-or-places : (f m : ℕ) (b : Bool) → m ≡ orElse f (cond b 15 0) → (f ≡ 0) ⊎ (m ≡ f)
+file-or-places zero m b o = inl refl
+file-or-places (suc g) m b o = inr o
 
 or-zero : (f m : ℕ) → m ≡ orElse f 0 → m ≡ f
 or-zero zero m o = o
@@ -100,13 +100,13 @@ module _ (s : List ℕ) (m : ℕ) (few : length s ≤ inputBytes) (e : m ≡ num
     whole-header = go (badLength s) refl
       where
         go : (b : Bool) → badLength s ≡ b → 512 ≤ length s
-        go true q = let n = nine s q in ⊎-elim (λ z. absurd (omega arith)) (λ z. absurd (omega arith)) (file-or-room (fileNumber s) m (short (planOf s .n) (planOf s .a) planVertices planVertices (planVertices + 1) planArcs planArcs) by-file)
+        go true q = let n = nine s q in ⊎-elim (λ z. absurd (omega arith)) (λ z. absurd (omega arith)) (file-or-places (fileNumber s) m (short (planOf s .n) (planOf s .a) planVertices planVertices (planVertices + 1) planArcs planArcs) by-file)
         go false q = long-enough s q
 
     -- 12 ahead of 13 and 14, and in place of 15
     pub judged-beyond : beyond (planOf s) ≡ true → 12 ≡ inputNumber s
     judged-beyond b =
-        sym (is-ranked ∙ ap (λ (t : Bool). ranked (fileNumber s) t) b ∙ ranked-high (fileNumber s) (⊎-elim (λ z. inl z) (λ (z : m ≡ fileNumber s). inr (omega arith)) (file-or-room (fileNumber s) m (short (planOf s .n) (planOf s .a) planVertices planVertices (planVertices + 1) planArcs planArcs) by-file)))
+        sym (is-ranked ∙ ap (λ (t : Bool). ranked (fileNumber s) t) b ∙ ranked-high (fileNumber s) (⊎-elim (λ z. inl z) (λ (z : m ≡ fileNumber s). inr (omega arith)) (file-or-places (fileNumber s) m (short (planOf s .n) (planOf s .a) planVertices planVertices (planVertices + 1) planArcs planArcs) by-file)))
 
     -- 13 and 14 of a header within the limits
     pub judged-within : (x y : ℕ) → x ≡ word s 1 → x ≤ planVertices → y ≡ word s 2 → y ≤ planArcs → m ≡ inputNumber s
@@ -117,7 +117,7 @@ module _ (s : List ℕ) (m : ℕ) (few : length s ≤ inputBytes) (e : m ≡ num
 
   pub judged-zero : m ≡ 0 → inputNumber s ≡ 0
   judged-zero z =
-      let r = room s planVertices planVertices (planVertices + 1) planArcs planArcs (sym e ∙ z) in
+      let r = accepted-places s planVertices planVertices (planVertices + 1) planArcs planArcs (sym e ∙ z) in
       is-ranked ∙ ap (λ (f : ℕ). ranked f (beyond (planOf s))) (r .accepted) ∙ ap (λ (t : Bool). ranked 0 t) (few-enough s (r .labels) (r .neighbours)) ∙ ranked-within 0
 
   -- a refusal's number is not 0

@@ -14,12 +14,12 @@ use Rattle.fiduccia_mattheyses_pass.specs.Choice.{Terms}
 use Rattle.fiduccia_mattheyses_pass.specs.Pass.{pass}
 use Rattle.fiduccia_mattheyses.specs.declared.Report.{Report as TwoReport}
 use Rattle.fiduccia_mattheyses.specs.Run.{Run, run}
-use Rattle.fiduccia_mattheyses.specs.Entry.{Given as TwoPlan, Lent as TwoLent, number as twoNumber, reportOf as twoReportOf, refused as twoRefused, empty as twoEmpty, answer as twoAnswer}
+use Rattle.fiduccia_mattheyses.specs.Entry.{Given as TwoGiven, Lent as TwoLent, number as twoNumber, reportOf as twoReportOf, refused as twoRefused, empty as twoEmpty, answer as twoAnswer}
 use Rattle.fiduccia_mattheyses.proofs.Running.{run-more, run-last}
 use Rattle.fiduccia_mattheyses_records.specs.Own.{Lists, lentWith, RefinedWith}
 use Rattle.arc_swap.specs.declared.RunRecord.{RunRecord}
 use Rattle.arc_swap.specs.declared.Report.{Report as ManyReport}
-use Rattle.arc_swap.specs.Entry.{Given as ManyPlan, Lent as ManyLent, number as manyNumber, reportOf as manyReportOf, refused as manyRefused, empty as manyEmpty, answer as manyAnswer, partsOf, Refined}
+use Rattle.arc_swap.specs.Entry.{Given as ManyGiven, Lent as ManyLent, number as manyNumber, reportOf as manyReportOf, refused as manyRefused, empty as manyEmpty, answer as manyAnswer, partsOf, Refined}
 use Rattle.plan.specs.declared.ReadAnswer.{ReadAnswer}
 use Rattle.refine_words.specs.inner.Steps.{Put}
 use Rattle.refine_words.specs.Line.{refusal, opening, passLines, countsLine, labelsLine}
@@ -37,7 +37,7 @@ module _ (r : TwoReport) (made rewound labels : List ℕ) (i : ℕ) {before one 
       → Put (passLines i made rewound) (47 * i) s one two t → Put (labelsLine labels) (7 + 21 * length labels) t two after end
       → Put (twoLines r made rewound labels) textBytes 0 before after end
   unfolding twoLines
-  put-two-lines room few passes long e a b d =
+  put-two-lines enough few passes long e a b d =
       let l = parts-long 2 (r .loads .at) (omega arith) long in
       let o = opening (r .end) (r .first) (r .last) (take 2 (r .loads .at)) (r .passes) in
       put-as (ap (λ (k : ℕ). o ++ passLines k made rewound ++ labelsLine labels) e) (omega arith) (put-then (omega arith) (put-then (omega arith) a b) d)
@@ -48,7 +48,7 @@ module _ (k : ℕ) (r : ManyReport) (run : RunRecord) (labels : List ℕ) {befor
       → Put (countsLine (run .attempts) (run .moves) (run .«no_gain») (run .«bad_balance»)) 91 s one two t → Put (labelsLine labels) (7 + 21 * length labels) t two after end
       → Put (manyLines k r run labels) textBytes 0 before after end
   unfolding manyLines
-  put-many-lines room few parts long a b d =
+  put-many-lines enough few parts long a b d =
       let l = parts-long k (r .loads .at) parts long in
       put-as refl (omega arith) (put-then (omega arith) (put-then (omega arith) a b) d)
 
@@ -63,7 +63,7 @@ rows-most s (suc k) p = go (ltb (pass s p .least) (cut (s .graph) p)) refl (rows
     go false e ih = rw (ap (λ (x : Run). length (x .rows)) (run-last s k p e)) (omega arith)
 
 -- FM's report: its passes are within its limit, and its loads are sixteen
-module _ (p : TwoPlan) (l : TwoLent) where
+module _ (p : TwoGiven) (l : TwoLent) where
   two-by : (a b : Bool) → (cond a twoEmpty (cond b (twoReportOf p l) (twoRefused (twoNumber p l))) .passes ≤ p .settings .passes) × (length (cond a twoEmpty (cond b (twoReportOf p l) (twoRefused (twoNumber p l))) .loads .at) ≡ 16)
   unfolding twoReportOf
   two-by true b = (omega arith, length-table 16 _)
@@ -74,7 +74,7 @@ module _ (p : TwoPlan) (l : TwoLent) where
   unfolding twoAnswer
   two-report = two-by (eqb (length (l .labels)) 0) (eqb (twoNumber p l) 0)
 
-module _ (p : ManyPlan) (l : ManyLent) where
+module _ (p : ManyGiven) (l : ManyLent) where
   many-by : (a b : Bool) → length (cond a manyEmpty (cond b (manyReportOf p l) (manyRefused (manyNumber p (l .labels)))) .loads .at) ≡ 16
   unfolding manyReportOf
   many-by true b = length-table 16 _
@@ -86,7 +86,7 @@ module _ (p : ManyPlan) (l : ManyLent) where
   many-report = many-by (eqb (length (l .labels)) 0) (eqb (manyNumber p (l .labels)) 0)
 
 -- what a call of FM leaves, as the text
-module _ {p : TwoPlan} {labels : List ℕ} {r : TwoReport} {k : Lists} (h : RefinedWith planVertices p (twoLists labels) r k) where
+module _ {p : TwoGiven} {labels : List ℕ} {r : TwoReport} {k : Lists} (h : RefinedWith planVertices p (twoLists labels) r k) where
   pub two-few : p .settings .passes ≡ 64 → r .passes ≤ 64
   two-few e = let q = two-report p (lentWith planVertices (twoLists labels)) .0 in let a = ap (λ (x : TwoReport). x .passes) (h .answered) in omega arith
 
@@ -102,7 +102,7 @@ module _ {p : TwoPlan} {labels : List ℕ} {r : TwoReport} {k : Lists} (h : Refi
   two-done z = rw (h .made, h .rewound, h .labels, ← h .answered, eq-eqb (r .number) 0 z)
 
 -- and of arc-swap
-module _ {p : ManyPlan} {labels : List ℕ} {r : ManyReport} {k : ManyLent} (h : Refined p (manyLent labels) r k) where
+module _ {p : ManyGiven} {labels : List ℕ} {r : ManyReport} {k : ManyLent} (h : Refined p (manyLent labels) r k) where
   pub many-loads : length (r .loads .at) ≡ 16
   many-loads = ap (λ (x : ManyReport). length (x .loads .at)) (h .answered) ∙ many-report p _
 

@@ -13,11 +13,11 @@ use Rattle.plan_blocks.specs.Decode.{planOf, fileNumber}
 use Rattle.plan.specs.declared.ReadAnswer.{ReadAnswer}
 use Rattle.plan.specs.Read.{startsOf, headerOf}
 use Rattle.fiduccia_mattheyses.specs.declared.Report.{Report as TwoReport}
-use Rattle.fiduccia_mattheyses.specs.Entry.{Given as TwoPlan, Lent as TwoLent, answer as twoAnswer, left as twoLeft}
+use Rattle.fiduccia_mattheyses.specs.Entry.{Given as TwoGiven, Lent as TwoLent, answer as twoAnswer, left as twoLeft}
 use Rattle.fiduccia_mattheyses_records.specs.Own.{Lists, lentWith}
 use Rattle.arc_swap.specs.declared.RunRecord.{RunRecord}
 use Rattle.arc_swap.specs.declared.Report.{Report as ManyReport}
-use Rattle.arc_swap.specs.Entry.{Given as ManyPlan, Lent as ManyLent, answer as manyAnswer, left as manyLeft, partsOf, noCounts}
+use Rattle.arc_swap.specs.Entry.{Given as ManyGiven, Lent as ManyLent, answer as manyAnswer, left as manyLeft, partsOf, noCounts}
 use Rattle.refine_words.specs.Line.{refusal, opening, passLines, countsLine, labelsLine}
 
 -- "The refine program reads a plan of at most 512 vertices and 2,048 arcs"
@@ -65,7 +65,7 @@ unfoldable pub twoShown : TwoReport → TwoLent → List ℕ
 twoShown r k = cond (eqb (r .number) 0) (twoLines r (k .made) (k .rewound) (k .labels)) (refusal (r .number))
 
 -- FM's text for what it reads and the labels
-unfoldable pub twoText : TwoPlan → List ℕ → List ℕ
+unfoldable pub twoText : TwoGiven → List ℕ → List ℕ
 twoText p labels = twoShown (twoAnswer p (twoLent labels)) (twoLeft p (twoLent labels))
 
 -- what arc-swap is lent: the labels, a "stack 4,096", and the run record
@@ -84,11 +84,11 @@ unfoldable pub manyShown : ℕ → ManyReport → ManyLent → List ℕ
 manyShown k r left = cond (eqb (r .number) 0) (manyLines k r (left .run) (left .labels)) (refusal (r .number))
 
 -- arc-swap's text for what it reads and the labels
-unfoldable pub manyText : ManyPlan → List ℕ → List ℕ
+unfoldable pub manyText : ManyGiven → List ℕ → List ℕ
 manyText p labels = manyShown (partsOf labels) (manyAnswer p (manyLent labels)) (manyLeft p (manyLent labels))
 
 -- "header k = 2 runs FM with P 64, move limit n, bad limit 0"
-abbrev pub twoPlan : ReadAnswer → List ℕ → List ℕ → List ℕ → List ℕ → TwoPlan
+abbrev pub twoPlan : ReadAnswer → List ℕ → List ℕ → List ℕ → List ℕ → TwoGiven
 twoPlan h starts neighbours arcs weights =
     record {
       starts = starts;
@@ -99,7 +99,7 @@ twoPlan h starts neighbours arcs weights =
     }
 
 -- "above 2 it runs arc-swap"
-abbrev pub manyPlan : ReadAnswer → List ℕ → List ℕ → List ℕ → List ℕ → ManyPlan
+abbrev pub manyPlan : ReadAnswer → List ℕ → List ℕ → List ℕ → List ℕ → ManyGiven
 manyPlan h starts neighbours arcs weights =
     record {
       starts = starts;

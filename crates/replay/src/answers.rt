@@ -1,4 +1,4 @@
-// One function an algorithm: calls the library, and holds its answer to the rest of the line.
+// One function an algorithm: calls the library, and holds its answer to the rest of the line. Document 01, its opening: coupe decides labels and counts.
 use crate::text;
 use crate::text::Place;
 

@@ -1,4 +1,4 @@
-// Replays the oracle's answers: reads cases from standard input, calls the library on each, and prints how many agree.
+// Replays the oracle's answers: reads cases from standard input, calls the library on each, and prints how many agree. Document 01, its opening: coupe decides labels and counts.
 //
 // One case a line, decimal numbers with one blank between them; a line that begins with '#' is passed over:
 //
@@ -203,7 +203,7 @@ fn main() {
     let mut differed = [0u64; tally::CODES];
     let mut here = text::beginning();
     let mut line: u64 = 0;
-    while line < 1099511627776 {
+    while line < text::MOST_READ {
         let next = text::look(&mut buffer, here);
         here = next.place;
         if next.byte == text::THE_END {

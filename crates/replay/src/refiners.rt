@@ -1,4 +1,4 @@
-// One function a refiner: reads its settings, calls the library, and holds its report and the labels that it leaves to the rest of the line.
+// One function a refiner: reads its settings, calls the library, and holds its report and the labels that it leaves to the rest of the line. Document 01, its opening: coupe decides labels and counts.
 use crate::text;
 use crate::text::Place;
 use arc_swap::RunRecord;
@@ -14,7 +14,7 @@ struct Word {
 fn read_setting(buffer: &mut [u8; text::BUFFER], place: Place) -> Word {
     let read = text::read_number(buffer, place);
     let value = read.value;
-    if 4294967295 < value {
+    if text::MOST_WORD < value {
         let after = text::only_if(false, read.place);
         return Word {
             value: 0,
@@ -271,8 +271,8 @@ fn arc_swap(
     labels: &mut [u32],
 ) -> Place {
     let asked = read_ceiling(buffer, place);
-    let room = text::read_count(buffer, asked.place, imbalance::MOST_ARCS);
-    let length = room.value;
+    let places = text::read_count(buffer, asked.place, imbalance::MOST_ARCS);
+    let length = places.value;
     let ceiling = asked.ceiling;
     let settings = arc_swap::Settings { ceiling };
     let mut stack = [7u32; imbalance::MOST_ARCS];
@@ -288,7 +288,7 @@ fn arc_swap(
     let r = answer.report;
     let told = expect_report(
         buffer,
-        room.place,
+        places.place,
         r.number,
         r.end,
         r.passes,

@@ -1,4 +1,4 @@
-// How many cases of each algorithm agree and how many differ, and what is printed of it. A place of a list is an algorithm's code.
+// How many cases of each algorithm agree and how many differ, and what is printed of it. A place of a list is an algorithm's code. Document 01, its opening: coupe decides labels and counts.
 
 // The codes of the algorithms are 1, 2, .. up to, not including, this; 0 stands for a line that names none.
 pub const CODES: usize = 7;

@@ -1,9 +1,18 @@
-// Numbers read out of standard input, through a buffer that is filled again as it runs out.
+// Numbers read out of standard input, through a buffer that is filled again as it runs out. Document 01, its opening: coupe decides labels and counts.
 // What is not as it should be is noted in the place that is handed on, so that the functions that read stay free of branches.
 ghost use Prim.Native.Nat.{_≤_};
 
 // The bytes of the buffer.
 pub const BUFFER: usize = 65536;
+
+// The lines of a text, or the bytes of a line, that are read at most: 2^40, more than any has, so that every loop over them ends.
+pub const MOST_READ: u64 = 1099511627776;
+
+// The largest number that a list of the library holds.
+pub const MOST_WORD: u64 = 4294967295;
+
+// A number above this has no digit more that fits a u64.
+const MOST_TENS: u64 = 1844674407370955160;
 
 const NEWLINE: u32 = 10;
 
@@ -121,7 +130,7 @@ fn read_digits(buffer: &mut [u8; BUFFER], place: Place) -> Number {
         if 9 < d {
             break;
         }
-        if 1844674407370955160 < value {
+        if MOST_TENS < value {
             count = 0;
             break;
         }
@@ -187,7 +196,7 @@ pub fn read_list(buffer: &mut [u8; BUFFER], place: Place, list: &mut [u32], coun
         if list.len() <= i {
             return only_if(false, here);
         }
-        if 4294967295 < value {
+        if MOST_WORD < value {
             return only_if(false, here);
         }
         list[i] = value as u32;
@@ -209,11 +218,11 @@ pub fn expect_end(buffer: &mut [u8; BUFFER], place: Place) -> Place {
     only_if(byte == NEWLINE || byte == THE_END, next.place)
 }
 
-// The beginning of the next line. No line is longer than 2^40 bytes.
+// The beginning of the next line.
 pub fn next_line(buffer: &mut [u8; BUFFER], place: Place) -> Place {
     let mut here = place;
     let mut passed: u64 = 0;
-    while passed < 1099511627776 {
+    while passed < MOST_READ {
         let next = look(buffer, here);
         here = next.place;
         if next.byte == THE_END {

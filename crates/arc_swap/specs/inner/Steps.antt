@@ -112,7 +112,7 @@ pub record FirstDone (g : Graph) (labels stack : List ℕ) (v : ℕ) (c : Standi
   pub full : onCut g labels v ≡ true → length stack ≡ 0 → (stack′ ≡ stack) × (r ≡ record { fits = false; top = c .top; cut = c .cut; loads = c .loads })
   pub alone : onCut g labels v ≡ true → (length stack ≡ 0 → ⊥) → (stack′ ≡ set stack 0 v) × (r ≡ record { fits = c .fits; top = 1; cut = c .cut; loads = c .loads })
 
--- What a pass asks: the stack empty, and room for `more` first pushes in the counts.
+-- What a pass asks: the stack empty, and the counts leave place for `more` first pushes.
 pub record TurnAsked (s : Terms) (labels stack : List ℕ) (st : Standing) (counts : RunRecord) (more : ℕ) : Type 0 where
   pub asked : Asked s labels stack (st .top) (st .cut) (st .loads .at) counts more
   pub empty : st .top ≡ 0

@@ -62,7 +62,7 @@ pub record RowDone (rows-made rows-rewound : List ℕ) (passes made kept : ℕ) 
 unfoldable pub endBy : ℕ → ℕ → ℕ
 endBy before after = cond (leb before after) 1 0
 
--- What the passes ask besides: room for a row a pass.
+-- What the passes ask besides: a place for a row a pass.
 pub record PassesAsked (s : Terms) (limit : ℕ) (labels : List ℕ) (gains : List ℤ) (moves : List Move) (made rewound loads : List ℕ) (cut₀ : ℕ) : Type 0 where
   pub begun : PassAsked s labels gains moves loads cut₀
   pub in-made : limit ≤ length made

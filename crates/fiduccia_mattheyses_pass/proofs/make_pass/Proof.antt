@@ -1,7 +1,7 @@
 -- `fiduccia_mattheyses_pass::make_pass` meets its contract: each call's answer is handed on by a law of `Passing`. Assumes nothing.
 mod Tie
 use mathlib.Core.Path.{sym, _∙_}
-use Rattle.fiduccia_mattheyses_pass.proofs.Passing.{cut-room, walk-asked, rewind-asked, least-read, least-plain, pass-done}
+use Rattle.fiduccia_mattheyses_pass.proofs.Passing.{cut-most, walk-asked, rewind-asked, least-read, least-plain, pass-done}
 use borrow.Author.Needs.{needs}
 use Rattle.fiduccia_mattheyses_pass.proofs.make_pass.Statement.{statement}
 use Rattle.fiduccia_mattheyses_pass.proofs.make_pass.Proof.Tie as tie
@@ -14,7 +14,7 @@ fresh-gains-requires c κs =
 first-standing-requires : tie.Need-first-standing-requires
 first-standing-requires c κs =
     let given : tie.Start = search needs in
-    cut-room _ _ _ _ _ _ (given .pre)
+    cut-most _ _ _ _ _ _ (given .pre)
 
 walk-moves-requires : tie.Need-walk-moves-requires
 walk-moves-requires c κs =

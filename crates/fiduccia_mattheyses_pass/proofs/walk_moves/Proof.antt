@@ -6,7 +6,7 @@ use native.Mathlib.Omega.{arith}
 use borrow.Author.Needs.{needs}
 use Rattle.fiduccia_mattheyses_pass.proofs.Updates.{back}
 use Rattle.fiduccia_mattheyses_pass.specs.inner.Steps.{termsBy}
-use Rattle.fiduccia_mattheyses_pass.proofs.Walking.{Walking, answer, walking-start, scanned, walking-stop, walking-full, move-room, move-asked, walking-move, moves-long}
+use Rattle.fiduccia_mattheyses_pass.proofs.Walking.{Walking, answer, walking-start, scanned, walking-stop, walking-full, move-places, move-asked, walking-move, moves-long}
 use Rattle.fiduccia_mattheyses_pass.proofs.walk_moves.Statement.{statement}
 use Rattle.fiduccia_mattheyses_pass.proofs.walk_moves.Proof.Tie as tie
 
@@ -64,7 +64,7 @@ narrow-requires c κs =
     let after-next-move : tie.After-next-move Inv-loop μ-loop = search needs in
     let entered : tie.At-loop Inv-loop μ-loop = search needs in
     let given : tie.Start Inv-loop μ-loop = search needs in
-    let v = move-room _ _ _ _ (given .pre .fixed) (given .pre .places) _ _ _ _ _ (entered .loop .inv) _ _ _ _ (after-next-move .next-move .ensures)
+    let v = move-places _ _ _ _ (given .pre .fixed) (given .pre .places) _ _ _ _ _ (entered .loop .inv) _ _ _ _ (after-next-move .next-move .ensures)
     (c .before .before .next .given .1) .1 in
     omega arith
 
@@ -75,7 +75,7 @@ mul-put-move c =
     let after-next-move : tie.After-next-move Inv-loop μ-loop = search needs in
     let entered : tie.At-loop Inv-loop μ-loop = search needs in
     let given : tie.Start Inv-loop μ-loop = search needs in
-    let v = move-room _ _ _ _ (given .pre .fixed) (given .pre .places) _ _ _ _ _ (entered .loop .inv) _ _ _ _
+    let v = move-places _ _ _ _ (given .pre .fixed) (given .pre .places) _ _ _ _ _ (entered .loop .inv) _ _ _ _
     (after-next-move .next-move .ensures) (after-next .next .given .1) .1 in
     record { fits = omega arith }
 
@@ -86,7 +86,7 @@ slice-read-put-move c =
     let after-next-move : tie.After-next-move Inv-loop μ-loop = search needs in
     let entered : tie.At-loop Inv-loop μ-loop = search needs in
     let given : tie.Start Inv-loop μ-loop = search needs in
-    move-room _ _ _ _ (given .pre .fixed) (given .pre .places) _ _ _ _ _ (entered .loop .inv) _ _ _ _ (after-next-move .next-move .ensures)
+    move-places _ _ _ _ (given .pre .fixed) (given .pre .places) _ _ _ _ _ (entered .loop .inv) _ _ _ _ (after-next-move .next-move .ensures)
     (after-next .next .given .1) .0
 
 put-move-requires : tie.Need-put-move-requires Inv-loop μ-loop
@@ -96,7 +96,7 @@ put-move-requires c κs =
     let after-next-move : tie.After-next-move Inv-loop μ-loop = search needs in
     let entered : tie.At-loop Inv-loop μ-loop = search needs in
     let given : tie.Start Inv-loop μ-loop = search needs in
-    move-room _ _ _ _ (given .pre .fixed) (given .pre .places) _ _ _ _ _ (entered .loop .inv) _ _ _ _ (after-next-move .next-move .ensures)
+    move-places _ _ _ _ (given .pre .fixed) (given .pre .places) _ _ _ _ _ (entered .loop .inv) _ _ _ _ (after-next-move .next-move .ensures)
     (after-next .next .given .1) .2
 
 add-made : tie.Need-add-made Inv-loop μ-loop

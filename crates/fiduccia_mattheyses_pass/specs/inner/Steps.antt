@@ -39,7 +39,7 @@ records p (v ∷ vs) = record { vertex = v; part = part p v } ∷ records (flip 
 abbrev pub recorded : List ℕ → List ℕ → List Move → List Move
 recorded p vs moves = records p vs ++ drop (length vs) moves
 
--- What the walk asks: all in order, the code standing at the pass's start, room for a record a vertex.
+-- What the walk asks: all in order, the code standing at the pass's start, a place for a record a vertex.
 pub record WalkAsked (s : Terms) (labels : List ℕ) (gains : List ℤ) (moves : List Move) (first : Standing) : Type 0 where
   pub fixed : Fixed s (length labels)
   pub stands : Stands s (length labels) (start s labels) labels gains first
@@ -91,7 +91,7 @@ pub record RewindAsked (weights labels : List ℕ) (moves : List Move) (loads : 
   pub apart : Apart vs
   pub inside : (i : ℕ) → i < length vs → getD vs i 0 < length p
 
--- What a pass asks: all in order, the cut and the loads of the labels, room for the gains and the records.
+-- What a pass asks: all in order, the cut and the loads of the labels, places for the gains and the records.
 pub record PassAsked (s : Terms) (labels : List ℕ) (gains : List ℤ) (moves : List Move) (loads : List ℕ) (cut₀ : ℕ) : Type 0 where
   pub fixed : Fixed s (length labels)
   pub two-labels : (x : ℕ) → part labels x < 2

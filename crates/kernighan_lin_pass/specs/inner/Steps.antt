@@ -94,7 +94,7 @@ counted w after =
     let lower = eqb (w .made) 0 || ltb after (w .least) in
     record { made = w .made + 1; kept = cond lower (w .made + 1) (w .kept); least = cond lower after (w .least) }
 
--- What the swaps of a pass start from: gains and locks at 0, room for the swaps, and the cut.
+-- What the swaps of a pass start from: gains and locks at 0, places for the swaps, and the cut.
 pub record WalkAsked (s : Terms) (p : List ℕ) (gains : List ℤ) (locks : List ℕ) (places limit before : ℕ) : Type 0 where
   pub fit : Fit (length p) (s .graph)
   pub gains-are : gains ≡ table (length p) (λ u. pos 0)

@@ -7,7 +7,7 @@ use borrow.Fn.Kinds.{In}
 use borrow.Fn.PlainCycle.{Measures, is, falls, and}
 use Rattle.refine_words.proofs.put_decimal.Reads as put-decimal
 use Rattle.refine_words.proofs.put_decimal.Kinds as put-decimal-kinds
-use Rattle.refine_words.proofs.+put_decimal.Lts-put_decimal as put-decimal-lts
+use Rattle.refine_words.proofs.+put_decimal.Lts-put_decimal as lts
 use Rattle.refine_words.proofs.digit.Reads as digit-reads
 use Rattle.refine_words.proofs.put_byte.Reads as put-byte-reads
 use Rattle.refine_words.proofs.+put_decimal.{statement}
@@ -24,98 +24,9 @@ abbrev put-decimal-below : ℕ → In 1 put-decimal-kinds.ps
 put-decimal-below t =
     and 1 put-decimal-kinds.ps (falls 1 put-decimal-kinds.ps _<_ μ-put-decimal t) put-decimal.Pre
 
-put-decimal-digit-requires : (t : ℕ) → put-decimal-lts.Need-digit-requires (
-  digit-reads.Asked,
-  digit-reads.Learnt,
-  put-byte-reads.Asked,
-  put-byte-reads.Learnt,
-  put-decimal-below t,
-  put-decimal.Post,
-) (put-decimal-at t) put-decimal.Post
-put-decimal-digit-requires t c κs = search needs
-
-put-decimal-put-byte-requires : (t : ℕ) → put-decimal-lts.Need-put-byte-requires (
-  digit-reads.Asked,
-  digit-reads.Learnt,
-  put-byte-reads.Asked,
-  put-byte-reads.Learnt,
-  put-decimal-below t,
-  put-decimal.Post,
-) (put-decimal-at t) put-decimal.Post
-put-decimal-put-byte-requires t c κs = let l = one-long (c .before .before .before .before .args .x) (c .before .before .if1 .taken) in omega (arith, c .before .before .before .before .pre .1)
-
-put-decimal-same-length : (t : ℕ) → put-decimal-lts.Need-same-length (
-  digit-reads.Asked,
-  digit-reads.Learnt,
-  put-byte-reads.Asked,
-  put-byte-reads.Learnt,
-  put-decimal-below t,
-  put-decimal.Post,
-) (put-decimal-at t) put-decimal.Post
-put-decimal-same-length t c = search needs
-
-put-decimal-returns : (t : ℕ) → put-decimal-lts.Need-returns (
-  digit-reads.Asked,
-  digit-reads.Learnt,
-  put-byte-reads.Asked,
-  put-byte-reads.Learnt,
-  put-decimal-below t,
-  put-decimal.Post,
-) (put-decimal-at t) put-decimal.Post
-put-decimal-returns t c = put-digit (c .before .before .before .before .before .if1 .taken) (c .before .before .before .digit .ensures) (c .before .before .put-byte .ensures)
-
-put-decimal-put-decimal-requires : (t : ℕ) → put-decimal-lts.Need-put-decimal-requires (
-  digit-reads.Asked,
-  digit-reads.Learnt,
-  put-byte-reads.Asked,
-  put-byte-reads.Learnt,
-  put-decimal-below t,
-  put-decimal.Post,
-) (put-decimal-at t) put-decimal.Post
-put-decimal-put-decimal-requires t c κs = (omega (arith, c .before .before .before .pre .0), let l = more-long (c .before .before .before .args .x) (c .before .if1 .left) in omega (arith, c .before .before .before .pre .1))
-
-put-decimal-digit-requires-2 : (t : ℕ) → put-decimal-lts.Need-digit-requires-2 (
-  digit-reads.Asked,
-  digit-reads.Learnt,
-  put-byte-reads.Asked,
-  put-byte-reads.Learnt,
-  put-decimal-below t,
-  put-decimal.Post,
-) (put-decimal-at t) put-decimal.Post
-put-decimal-digit-requires-2 t c κs = omega arith
-
-put-decimal-put-byte-requires-2 : (t : ℕ) → put-decimal-lts.Need-put-byte-requires-2 (
-  digit-reads.Asked,
-  digit-reads.Learnt,
-  put-byte-reads.Asked,
-  put-byte-reads.Learnt,
-  put-decimal-below t,
-  put-decimal.Post,
-) (put-decimal-at t) put-decimal.Post
-put-decimal-put-byte-requires-2 t c κs = let l = more-long (c .before .before .before .before .before .before .before .before .args .x) (c .before .before .before .before .before .before .if1 .left) in omega (arith, c .before .before .before .before .before .before .before .before .pre .1, c .before .before .before .before .put-decimal .ensures .ends, c .before .before .before .before .put-decimal .kept .0)
-
-put-decimal-same-length-2 : (t : ℕ) → put-decimal-lts.Need-same-length-2 (
-  digit-reads.Asked,
-  digit-reads.Learnt,
-  put-byte-reads.Asked,
-  put-byte-reads.Learnt,
-  put-decimal-below t,
-  put-decimal.Post,
-) (put-decimal-at t) put-decimal.Post
-put-decimal-same-length-2 t c = search needs
-
-put-decimal-returns-2 : (t : ℕ) → put-decimal-lts.Need-returns-2 (
-  digit-reads.Asked,
-  digit-reads.Learnt,
-  put-byte-reads.Asked,
-  put-byte-reads.Learnt,
-  put-decimal-below t,
-  put-decimal.Post,
-) (put-decimal-at t) put-decimal.Post
-put-decimal-returns-2 t c = put-last (c .before .before .before .before .before .before .before .before .before .if1 .left) (c .before .before .before .before .before .before .before .before .before .before .before .pre .1) (c .before .before .before .before .before .before .before .put-decimal .ensures) (c .before .before .before .digit2 .ensures) (c .before .before .put-byte2 .ensures)
-
-pub +put-decimal-spec : {M : Type 1} → statement M
-+put-decimal-spec = close μ-put-decimal λ t. put-decimal-lts.spec (
+-- what the calls ask and promise: the call of put_decimal itself for a number that is less
+abbrev Calls : ℕ → lts.Claims
+Calls t = (
   digit-reads.Asked,
   digit-reads.Learnt,
   put-byte-reads.Asked,
@@ -123,14 +34,92 @@ pub +put-decimal-spec : {M : Type 1} → statement M
   put-decimal-below t,
   put-decimal.Post,
 )
+
+-- the stations: a measure and a claim more than those of a function that does not call itself
+abbrev Start : ℕ → Type 0
+Start t = lts.Start (Calls t) (put-decimal-at t) put-decimal.Post
+
+abbrev Then : ℕ → Type 0
+Then t = lts.Then1 (Calls t) (put-decimal-at t) put-decimal.Post
+
+abbrev Else : ℕ → Type 0
+Else t = lts.Else1 (Calls t) (put-decimal-at t) put-decimal.Post
+
+abbrev After-digit : ℕ → Type 0
+After-digit t = lts.After-digit (Calls t) (put-decimal-at t) put-decimal.Post
+
+abbrev After-put-byte : ℕ → Type 0
+After-put-byte t = lts.After-put-byte (Calls t) (put-decimal-at t) put-decimal.Post
+
+abbrev After-put-decimal : ℕ → Type 0
+After-put-decimal t = lts.After-put-decimal (Calls t) (put-decimal-at t) put-decimal.Post
+
+abbrev After-digit2 : ℕ → Type 0
+After-digit2 t = lts.After-digit2 (Calls t) (put-decimal-at t) put-decimal.Post
+
+abbrev After-put-byte2 : ℕ → Type 0
+After-put-byte2 t = lts.After-put-byte2 (Calls t) (put-decimal-at t) put-decimal.Post
+
+digit-requires : (t : ℕ) → lts.Need-digit-requires (Calls t) (put-decimal-at t) put-decimal.Post
+digit-requires t c κs = search needs
+
+put-byte-requires : (t : ℕ) → lts.Need-put-byte-requires (Calls t) (put-decimal-at t) put-decimal.Post
+put-byte-requires t c κs =
+    let given : Start t = search needs in
+    let small : Then t = search needs in
+    let l = one-long (given .args .x) (small .if1 .taken) in
+    omega (arith, given .pre .1)
+
+same-length : (t : ℕ) → lts.Need-same-length (Calls t) (put-decimal-at t) put-decimal.Post
+same-length t c = search needs
+
+returns : (t : ℕ) → lts.Need-returns (Calls t) (put-decimal-at t) put-decimal.Post
+returns t c =
+    let small : Then t = search needs in
+    let made : After-digit t = search needs in
+    let put : After-put-byte t = search needs in
+    put-digit (small .if1 .taken) (made .digit .ensures) (put .put-byte .ensures)
+
+put-decimal-requires : (t : ℕ) → lts.Need-put-decimal-requires (Calls t) (put-decimal-at t) put-decimal.Post
+put-decimal-requires t c κs =
+    let given : Start t = search needs in
+    let large : Else t = search needs in
+    let l = more-long (given .args .x) (large .if1 .left) in
+    (omega (arith, given .pre .0), omega (arith, given .pre .1))
+
+digit-requires-2 : (t : ℕ) → lts.Need-digit-requires-2 (Calls t) (put-decimal-at t) put-decimal.Post
+digit-requires-2 t c κs = omega arith
+
+put-byte-requires-2 : (t : ℕ) → lts.Need-put-byte-requires-2 (Calls t) (put-decimal-at t) put-decimal.Post
+put-byte-requires-2 t c κs =
+    let given : Start t = search needs in
+    let large : Else t = search needs in
+    let tens : After-put-decimal t = search needs in
+    let l = more-long (given .args .x) (large .if1 .left) in
+    omega (arith, given .pre .1, tens .put-decimal .ensures .ends, tens .put-decimal .kept .0)
+
+same-length-2 : (t : ℕ) → lts.Need-same-length-2 (Calls t) (put-decimal-at t) put-decimal.Post
+same-length-2 t c = search needs
+
+returns-2 : (t : ℕ) → lts.Need-returns-2 (Calls t) (put-decimal-at t) put-decimal.Post
+returns-2 t c =
+    let given : Start t = search needs in
+    let large : Else t = search needs in
+    let tens : After-put-decimal t = search needs in
+    let made : After-digit2 t = search needs in
+    let put : After-put-byte2 t = search needs in
+    put-last (large .if1 .left) (given .pre .1) (tens .put-decimal .ensures) (made .digit2 .ensures) (put .put-byte2 .ensures)
+
+pub +put-decimal-spec : {M : Type 1} → statement M
++put-decimal-spec = close μ-put-decimal λ t. lts.spec (Calls t)
     (put-decimal-at t)
     put-decimal.Post
-    (put-decimal-digit-requires t)
-    (put-decimal-put-byte-requires t)
-    (put-decimal-same-length t)
-    (put-decimal-returns t)
-    (put-decimal-put-decimal-requires t)
-    (put-decimal-digit-requires-2 t)
-    (put-decimal-put-byte-requires-2 t)
-    (put-decimal-same-length-2 t)
-    (put-decimal-returns-2 t)
+    (digit-requires t)
+    (put-byte-requires t)
+    (same-length t)
+    (returns t)
+    (put-decimal-requires t)
+    (digit-requires-2 t)
+    (put-byte-requires-2 t)
+    (same-length-2 t)
+    (returns-2 t)

@@ -1,5 +1,5 @@
 -- `replay::main` is safe and ends: nothing says that the input does, so the lines are counted.
-use Prim.Native.Nat.{_-_}
+use Prim.Native.Nat.{_-_, _^_}
 use borrow.Author.Needs.{needs}
 use Rattle.replay.proofs.main.Statement.{statement}
 use Rattle.replay.proofs.main.Tie as tie
@@ -8,7 +8,7 @@ abbrev Inv-loop : tie.InvT-loop
 Inv-loop buffer₀ weights₀ starts₀ neighbours₀ arc-weights₀ labels₀ agreed₀ differed₀ here₀ line₀ buffer weights starts neighbours arc-weights labels agreed differed here line = Unit
 
 abbrev μ-loop : tie.MeasureT-loop
-μ-loop buffer₀ weights₀ starts₀ neighbours₀ arc-weights₀ labels₀ agreed₀ differed₀ here₀ line₀ buffer weights starts neighbours arc-weights labels agreed differed here line = 1099511627776 - line
+μ-loop buffer₀ weights₀ starts₀ neighbours₀ arc-weights₀ labels₀ agreed₀ differed₀ here₀ line₀ buffer weights starts neighbours arc-weights labels agreed differed here line = 2 ^ 40 - line
 
 large-buffer-requires : tie.Need-large-buffer-requires Inv-loop μ-loop
 large-buffer-requires c κs = search needs

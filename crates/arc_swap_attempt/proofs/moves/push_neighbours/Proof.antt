@@ -4,7 +4,7 @@ use mathlib.Core.Logic.{⊎-elim}
 use Prim.Native.Nat.{_-_}
 use native.Mathlib.Omega.{arith}
 use Rattle.topology.specs.Graph.{inRows}
-use Rattle.arc_swap_attempt.proofs.Pushes.{Pushing, begins, passed-by, pushes-one, no-room, all-fit}
+use Rattle.arc_swap_attempt.proofs.Pushes.{Pushing, begins, passed-by, pushes-one, no-place, all-fit}
 use borrow.Author.Needs.{needs}
 use Rattle.arc_swap_attempt.proofs.moves.push_neighbours.Statement.{statement}
 use Rattle.arc_swap_attempt.proofs.moves.push_neighbours.Tie as tie
@@ -51,7 +51,7 @@ returns c =
     let after-index : tie.After-index Inv-loop μ-loop = search needs in
     let turn : tie.In-loop Inv-loop μ-loop = search needs in
     let given : tie.Start Inv-loop μ-loop = search needs in
-    no-room _ _ _ _ _ _ (given .pre .2) _ _ _ _ (turn .before .loop .inv) (turn .loop-test .taken) _ refl _
+    no-place _ _ _ _ _ _ (given .pre .2) _ _ _ _ (turn .before .loop .inv) (turn .loop-test .taken) _ refl _
     (rw (after-index .index .ensures) at (c .before .before .has-gain .ensures)) (c .before .if1 .taken)
     (c .if2 .taken ∙ turn .before .loop .inv .long)
 

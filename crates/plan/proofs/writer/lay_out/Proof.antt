@@ -39,7 +39,7 @@ clear-bytes-requires : tie.Need-clear-bytes-requires Inv-loop μ-loop
 unfolding sizeOf
 clear-bytes-requires c κs =
     let given : tie.Start Inv-loop μ-loop = search needs in
-    let room = given .pre .2 in
+    let places = given .pre .2 in
     let blocks : tie.After-blocks-of Inv-loop μ-loop = search needs in
     let e = blocks .blocks-of .ensures in
     omega arith
@@ -109,7 +109,7 @@ put-word-requires c κs =
     let given : tie.Start Inv-loop μ-loop = search needs in
     let entered : tie.In-loop Inv-loop μ-loop = search needs in
     let cleared : tie.After-clear-bytes Inv-loop μ-loop = search needs in
-    let room = given .pre .2 in
+    let places = given .pre .2 in
     let put = entered .before .loop .inv in
     let below = entered .loop-test .taken in
     let e = before-turn entered .blocks-of .ensures in

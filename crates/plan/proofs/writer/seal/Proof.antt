@@ -41,7 +41,7 @@ words-sum-requires c κs =
     let entered : tie.In-loop Inv-loop μ-loop = search needs in
     let put = entered .before .loop .inv in
     let below = entered .loop-test .taken in
-    let room = given .pre .2 in
+    let places = given .pre .2 in
     let e = counted .blocks-of .ensures in
     omega arith
 
@@ -76,7 +76,7 @@ put-word-requires c κs =
     let entered : tie.In-loop Inv-loop μ-loop = search needs in
     let put = entered .before .loop .inv in
     let below = entered .loop-test .taken in
-    let room = given .pre .2 in
+    let places = given .pre .2 in
     let e = counted .blocks-of .ensures in
     omega arith
 

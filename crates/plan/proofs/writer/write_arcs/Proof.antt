@@ -55,7 +55,7 @@ put-word-requires c κs =
     let so-far : tie.At-loop Inv-loop μ-loop = search needs in
     let put = so-far .loop .inv in
     let at = placed .place .ensures in
-    let room = given .pre .2 in
+    let places = given .pre .2 in
     omega arith
 
 add-put-word : tie.Need-add-put-word Inv-loop μ-loop
@@ -88,7 +88,7 @@ put-word-requires-2 c κs =
     let so-far : tie.At-loop Inv-loop μ-loop = search needs in
     let put = so-far .loop .inv in
     let at = placed .place .ensures in
-    let room = given .pre .2 in
+    let places = given .pre .2 in
     omega arith
 
 add-e : tie.Need-add-e Inv-loop μ-loop

@@ -73,7 +73,7 @@ put-word-requires c κs =
     let so-far : tie.At-loop Inv-loop μ-loop = search needs in
     let put = so-far .loop .inv in
     let at = placed .place .ensures in
-    let room = given .pre .1 in
+    let places = given .pre .1 in
     omega arith
 
 add-put-word : tie.Need-add-put-word Inv-loop μ-loop
@@ -113,7 +113,7 @@ put-word-requires-2 c κs =
     let so-far : tie.At-loop Inv-loop μ-loop = search needs in
     let put = so-far .loop .inv in
     let at = placed .place .ensures in
-    let room = given .pre .1 in
+    let places = given .pre .1 in
     omega arith
 
 add-v : tie.Need-add-v Inv-loop μ-loop

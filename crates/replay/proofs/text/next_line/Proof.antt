@@ -1,5 +1,5 @@
 -- `replay::text::next_line` is safe and ends: nothing says that the input does, so the bytes passed are counted.
-use Prim.Native.Nat.{_-_}
+use Prim.Native.Nat.{_-_, _^_}
 use borrow.Author.Needs.{needs}
 use Rattle.replay.proofs.text.next_line.Statement.{statement}
 use Rattle.replay.proofs.text.next_line.Tie as tie
@@ -8,7 +8,7 @@ abbrev Inv-loop : tie.InvT-loop
 Inv-loop buffer₀ here₀ passed₀ buffer here passed = Unit
 
 abbrev μ-loop : tie.MeasureT-loop
-μ-loop buffer₀ here₀ passed₀ buffer here passed = 1099511627776 - passed
+μ-loop buffer₀ here₀ passed₀ buffer here passed = 2 ^ 40 - passed
 
 loop-holds : tie.Need-loop-holds Inv-loop μ-loop
 loop-holds c = search needs
