@@ -24,7 +24,7 @@ use Rattle.plan.specs.declared.ReadAnswer.{ReadAnswer}
 use Rattle.refine_words.specs.inner.Steps.{Put}
 use Rattle.refine_words.specs.Line.{refusal, opening, passLines, countsLine, labelsLine}
 use Rattle.refine_words.proofs.Texts.{put-as, put-then}
-use Rattle.refine_text.specs.Refine.{planVertices, textBytes, twoLists, twoLines, twoShown, twoText, manyLent, manyLines, manyShown, manyText, twoPlan, manyPlan, runText}
+use Rattle.refine_text.specs.Refine.{planVertices, textBytes, twoLists, twoLines, twoShown, twoText, manyLent, manyLines, manyShown, manyText, twoGivenBy, manyGivenBy, runText}
 
 -- the loads of the first k of sixteen parts
 pub parts-long : (k : ℕ) (loads : List ℕ) → k ≤ 16 → length loads ≡ 16 → length (take k loads) ≡ k
@@ -116,10 +116,10 @@ module _ {p : ManyGiven} {labels : List ℕ} {r : ManyReport} {k : ManyLent} (h 
 
 -- the run that the header asks for
 module _ (h : ReadAnswer) (starts neighbours arcs weights labels : List ℕ) where
-  pub runs-two : h .k ≡ 2 → twoText (twoPlan h starts neighbours arcs weights) labels ≡ runText h starts neighbours arcs weights labels
+  pub runs-two : h .k ≡ 2 → twoText (twoGivenBy h starts neighbours arcs weights) labels ≡ runText h starts neighbours arcs weights labels
   unfolding runText
   runs-two e = rw (eq-eqb (h .k) 2 e)
 
-  pub runs-many : (h .k ≡ 2 → ⊥) → manyText (manyPlan h starts neighbours arcs weights) labels ≡ runText h starts neighbours arcs weights labels
+  pub runs-many : (h .k ≡ 2 → ⊥) → manyText (manyGivenBy h starts neighbours arcs weights) labels ≡ runText h starts neighbours arcs weights labels
   unfolding runText
   runs-many ne = rw (ne-eqb (h .k) 2 ne)

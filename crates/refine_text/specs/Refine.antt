@@ -88,8 +88,8 @@ unfoldable pub manyText : ManyGiven → List ℕ → List ℕ
 manyText p labels = manyShown (partsOf labels) (manyAnswer p (manyLent labels)) (manyLeft p (manyLent labels))
 
 -- "header k = 2 runs FM with P 64, move limit n, bad limit 0"
-abbrev pub twoPlan : ReadAnswer → List ℕ → List ℕ → List ℕ → List ℕ → TwoGiven
-twoPlan h starts neighbours arcs weights =
+abbrev pub twoGivenBy : ReadAnswer → List ℕ → List ℕ → List ℕ → List ℕ → TwoGiven
+twoGivenBy h starts neighbours arcs weights =
     record {
       starts = starts;
       neighbours = neighbours;
@@ -99,8 +99,8 @@ twoPlan h starts neighbours arcs weights =
     }
 
 -- "above 2 it runs arc-swap"
-abbrev pub manyPlan : ReadAnswer → List ℕ → List ℕ → List ℕ → List ℕ → ManyGiven
-manyPlan h starts neighbours arcs weights =
+abbrev pub manyGivenBy : ReadAnswer → List ℕ → List ℕ → List ℕ → List ℕ → ManyGiven
+manyGivenBy h starts neighbours arcs weights =
     record {
       starts = starts;
       neighbours = neighbours;
@@ -112,8 +112,8 @@ manyPlan h starts neighbours arcs weights =
 -- the text of a header and its lists
 unfoldable pub runText : ReadAnswer → List ℕ → List ℕ → List ℕ → List ℕ → List ℕ → List ℕ
 runText h starts neighbours arcs weights labels =
-    cond (eqb (h .k) 2) (twoText (twoPlan h starts neighbours arcs weights) labels)
-    (manyText (manyPlan h starts neighbours arcs weights) labels)
+    cond (eqb (h .k) 2) (twoText (twoGivenBy h starts neighbours arcs weights) labels)
+    (manyText (manyGivenBy h starts neighbours arcs weights) labels)
 
 -- the text of a plan, with the header as the reader hands it over
 unfoldable pub planText : Plan → List ℕ
