@@ -58,13 +58,13 @@ module _ (s : Terms) (p₀ : List ℕ) (symmetric : Symmetric (length p₀) (s .
       let f = falls p v t x e l g in
       let a = k .lower in
       let n = k .counted in
-      let fall = gain-is-the-fall-of-the-cut (s .graph) p v t (rw e symmetric) (rw e l) in
+      let falls-by = gain-is-the-fall-of-the-cut (s .graph) p v t (rw e symmetric) (rw e l) in
       record {
         lower = omega arith;
         sums =
             D.same (cut (s .graph) p₀) (cut (s .graph) (set p v t)) (cut (s .graph) p + cut (s .graph) p₀) (cut (s .graph) (set p v t) + cut (s .graph) p) (omega arith)
             ∙ sym (D.add (cut (s .graph) p) (cut (s .graph) (set p v t)) (cut (s .graph) p₀) (cut (s .graph) p))
-            ∙ ap₂ (λ (a b : ℤ). a +ℤ b) (sym fall) (k .sums);
+            ∙ ap₂ (λ (a b : ℤ). a +ℤ b) (sym falls-by) (k .sums);
         summed = noted-summed (Goes t x) c (k .summed);
         counted = omega arith;
         loads = λ u. at u (eqb t u) refl (load-move (s .weights) p v t u (rw e l));

@@ -6,9 +6,10 @@ use Prim.Native.Nat.{ℕ, suc, _<_}
 use native.Mathlib.Omega.{arith}
 use lib.Dec.{ltb, eqb}
 use lib.ListN.{length, getD, set, length-set, take, drop, take-append-drop}
-use lib.Seq.{getD-set-same, getD-set-other, set-set, set-comm, set-getD, set-out}
+use lib.Seq.{getD-set-same, getD-set-other, set-comm, set-out}
 use borrow.Author.Tests.{eqb-true, eqb-false, ltb-true, ltb-false}
 use Rattle.imbalance.specs.Load.{part}
+use Rattle.topology.proofs.TwoMoves.{moved-back}
 use Rattle.fiduccia_mattheyses_pass.specs.Choice.{other, flip}
 use Rattle.fiduccia_mattheyses_pass.specs.Pass.{flips}
 
@@ -24,7 +25,7 @@ flip-flip p v two-labels = go (ltb v (length p)) refl
         let h = getD-set-same p v (other (part p v)) 0 (ltb-true v (length p) e) in
         let t = two-labels v in
         let q : other (other (part p v)) ≡ part p v = omega arith in
-        rw (h, set-set p v (other (part p v)) (other (other (part p v))), q) (set-getD p v 0)
+        rw (h, q) (moved-back p v (other (part p v)))
     go false e =
         let l = ltb-false v (length p) e in
         rw (set-out p v (other (part p v)) l) (set-out p v (other (part p v)) l)

@@ -10,6 +10,7 @@ pub mod Chosen
 pub mod Choices
 pub mod Stands
 pub mod Backs
+pub mod FlipsAsSums
 pub mod Walks
 pub mod Keeps
 pub mod MoveLimits

@@ -1,61 +1,17 @@
 -- Swaps undone. Assumes nothing.
 use mathlib.Core.Path.{_≡_, refl, ap, _∙_}
-use mathlib.Core.Bool.{Bool, true, false}
 use mathlib.Core.List.{List}
 use Prim.Native.Nat.{ℕ, zero, suc, _+_, _-_, _≤_, _<_}
 use native.Mathlib.Omega.{arith}
-use lib.ListN.{length, getD, set, length-set}
-use lib.Seq.{getD-set-same, getD-set-other, ext-getD}
-use lib.Dec.{eqb}
-use borrow.Author.Tests.{eqb-true, eqb-false}
-use Rattle.imbalance.specs.Load.{part}
+use lib.ListN.{length, getD}
+use Rattle.topology.proofs.Exchanges.{exchange-twice}
 use Rattle.kernighan_lin_pass.specs.Pass.{Swap, swapped}
 use Rattle.kernighan_lin_pass.specs.inner.Steps.{codeBase, codeOf, swapOf, back}
-use Rattle.kernighan_lin_pass.proofs.Swaps.{length-swapped}
-
--- who has which label after a swap
-module _ (p : List ℕ) (t : Swap) (one : t .one < length p) (two : t .two < length p) where
-  pub at-two : part (swapped p t) (t .two) ≡ part p (t .one)
-  unfolding swapped
-  at-two = getD-set-same (set p (t .one) (part p (t .two))) (t .two) (part p (t .one)) 0 (rw (length-set p (t .one) (part p (t .two))) two)
-
-  pub at-one : part (swapped p t) (t .one) ≡ part p (t .two)
-  unfolding swapped
-  at-one = go (eqb (t .one) (t .two)) refl
-    where
-      go : (b : Bool) → eqb (t .one) (t .two) ≡ b → part (set (set p (t .one) (part p (t .two))) (t .two) (part p (t .one))) (t .one) ≡ part p (t .two)
-      go true e =
-          let q = eqb-true (t .one) (t .two) e in
-          ap (part (set (set p (t .one) (part p (t .two))) (t .two) (part p (t .one)))) q
-          ∙ getD-set-same (set p (t .one) (part p (t .two))) (t .two) (part p (t .one)) 0 (rw (length-set p (t .one) (part p (t .two))) two)
-          ∙ ap (part p) q
-      go false e =
-          getD-set-other (set p (t .one) (part p (t .two))) (t .two) (t .one) (part p (t .one)) 0 (eqb-false (t .one) (t .two) e)
-          ∙ getD-set-same p (t .one) (part p (t .two)) 0 one
-
-  pub at-other : (x : ℕ) → (x ≡ t .one → ⊥) → (x ≡ t .two → ⊥) → part (swapped p t) x ≡ part p x
-  unfolding swapped
-  at-other x a b = getD-set-other (set p (t .one) (part p (t .two))) (t .two) x (part p (t .one)) 0 b ∙ getD-set-other p (t .one) x (part p (t .two)) 0 a
 
 -- a swap made twice changes nothing
 pub swap-twice : (p : List ℕ) (t : Swap) → t .one < length p → t .two < length p → swapped (swapped p t) t ≡ p
-swap-twice p t one two =
-    let q = length-swapped p t in
-    let r = length-swapped (swapped p t) t in
-    ext-getD 0 (swapped (swapped p t) t) p (r ∙ q) (λ i l. go i (eqb i (t .one)) refl (eqb i (t .two)) refl)
-  where
-    one′ : t .one < length (swapped p t)
-    one′ = rw (length-swapped p t) one
-
-    two′ : t .two < length (swapped p t)
-    two′ = rw (length-swapped p t) two
-
-    go : (i : ℕ) (a : Bool) → eqb i (t .one) ≡ a → (b : Bool) → eqb i (t .two) ≡ b → part (swapped (swapped p t) t) i ≡ part p i
-    go i true e b f = rw (eqb-true i (t .one) e) (at-one (swapped p t) t one′ two′ ∙ at-two p t one two)
-    go i false e true f = rw (eqb-true i (t .two) f) (at-two (swapped p t) t one′ two′ ∙ at-one p t one two)
-    go i false e false f =
-        at-other (swapped p t) t one′ two′ i (eqb-false i (t .one) e) (eqb-false i (t .two) f)
-        ∙ at-other p t one two i (eqb-false i (t .one) e) (eqb-false i (t .two) f)
+unfolding swapped
+swap-twice p t one two = exchange-twice p (t .one) (t .two) one two
 
 -- the numbers of a noted swap read back
 pub read-back : (v w : ℕ) → w < codeBase → (swapOf (codeOf (record { one = v; two = w })) .one ≡ v) × (swapOf (codeOf (record { one = v; two = w })) .two ≡ w)

@@ -9,11 +9,11 @@ use lib.IntN.{ℤ, pos, subℕ, _-ℤ_}
 use lib.Signed.{mag, leZ}
 use borrow.Author.Tests.{le-leb}
 use Rattle.lists.proofs.Differences.{by-sign, mag-sub, pos-minus}
-use Rattle.imbalance.specs.Load.{part}
 use Rattle.imbalance.specs.Limit.{mostVertices, mostWeight}
 use Rattle.topology.specs.Graph.{Graph, gain}
-use Rattle.topology.specs.Cut.{cut}
+use Rattle.topology.specs.Cut.{cut, fall}
 use Rattle.topology.proofs.Moves.{gain-is-the-fall-of-the-cut}
+use Rattle.topology.proofs.Exchanges.{length-exchange}
 use Rattle.kernighan_lin_pass.specs.Pass.{Swap, swapped}
 use Rattle.kernighan_lin_pass.specs.inner.Steps.{Fit, mostGain}
 use Rattle.kernighan_lin_pass.proofs.Sizes.{cut-small}
@@ -27,8 +27,8 @@ sub-le a b = by-sign (λ (z : ℤ). leZ z (pos a) ≡ true) a b (λ h. le-leb _ 
 
 -- v goes to part t
 module _ (g : Graph) (p : List ℕ) (fit : Fit (length p) g) (v t : ℕ) (below : v < length p) where
-  abbrev fall : gain g p v t ≡ subℕ (cut g p) (cut g (set p v t))
-  fall = gain-is-the-fall-of-the-cut g p v t (fit .symmetric) below
+  abbrev falls-by : gain g p v t ≡ fall g p (set p v t)
+  falls-by = gain-is-the-fall-of-the-cut g p v t (fit .symmetric) below
 
   -- b is the cut and z the gain: what the subtraction asks, and its result
   module _ (b : ℕ) (z : ℤ) (now : b ≡ cut g p) (by : z ≡ gain g p v t) where
@@ -36,14 +36,14 @@ module _ (g : Graph) (p : List ℕ) (fit : Fit (length p) g) (v t : ℕ) (below 
     fall-asks =
         let a : cut g p ≤ mostVertices * mostWeight = cut-small (length p) g fit p refl in
         let c : cut g (set p v t) ≤ mostVertices * mostWeight = cut-small (length p) g fit (set p v t) (length-set p v t) in
-        rw (now, by, fall) (omega arith, omega (arith, mag-sub (cut g p) (cut g (set p v t))), sub-le (cut g p) (cut g (set p v t)))
+        rw (now, by, falls-by) (omega arith, omega (arith, mag-sub (cut g p) (cut g (set p v t))), sub-le (cut g p) (cut g (set p v t)))
 
     pub fall-gives : (r : ℕ) → pos r ≡ pos b -ℤ z → r ≡ cut g (set p v t)
     fall-gives r e =
         pos-same r (cut g (set p v t))
-        (e ∙ ap₂ (λ (x : ℕ) (y : ℤ). pos x -ℤ y) now (by ∙ fall) ∙ pos-minus (cut g p) (cut g p) (cut g (set p v t)) (cut g (set p v t)) (omega arith))
+        (e ∙ ap₂ (λ (x : ℕ) (y : ℤ). pos x -ℤ y) now (by ∙ falls-by) ∙ pos-minus (cut g p) (cut g p) (cut g (set p v t)) (cut g (set p v t)) (omega arith))
 
 -- swapping keeps the count of labels
 pub length-swapped : (p : List ℕ) (t : Swap) → length (swapped p t) ≡ length p
 unfolding swapped
-length-swapped p t = length-set (set p (t .one) (part p (t .two))) (t .two) (part p (t .one)) ∙ length-set p (t .one) (part p (t .two))
+length-swapped p t = length-exchange p (t .one) (t .two)

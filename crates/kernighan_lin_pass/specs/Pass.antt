@@ -8,9 +8,9 @@ use lib.Dec.{ltb, eqb}
 use lib.IntN.{ℤ, pos, _+ℤ_}
 use lib.Signed.{leZ}
 use Rattle.lists.specs.Fill.{table}
-use Rattle.imbalance.specs.Load.{part}
 use Rattle.topology.specs.Graph.{Graph}
 use Rattle.topology.specs.Cut.{cut}
+use Rattle.topology.specs.Exchange.{exchange}
 use Rattle.kernighan_lin_pass.specs.Gain.{added, updated, largest}
 
 -- What a swap goes by: the graph, the vertices that may be taken (all of them today), the first part, and the bad limit.
@@ -26,7 +26,7 @@ pub record Swap : Type 0 where
   pub two : ℕ
 
 unfoldable pub swapped : List ℕ → Swap → List ℕ
-swapped p s = set (set p (s .one) (part p (s .two))) (s .two) (part p (s .one))
+swapped p s = exchange p (s .one) (s .two)
 
 -- Where a pass stands: the labels, the gains, the locks, the swaps made, and the labels to which the pass rewinds.
 pub record State : Type 0 where

@@ -19,7 +19,7 @@ use Rattle.imbalance.specs.Load.{part, load}
 use Rattle.imbalance.specs.inner.Moved.{loadsMoved}
 use Rattle.topology.specs.Graph.{Graph, first, past, neighbour, weight, arcs, into, gain, joins}
 use Rattle.topology.specs.Rule.{Symmetric}
-use Rattle.topology.specs.Cut.{rowCut, cut}
+use Rattle.topology.specs.Cut.{rowCut, cut, fall}
 use Rattle.topology.proofs.Pairs.{pairRow, pairCut, pair-move}
 
 module _ (n : ℕ) (g : Graph) (u : ℕ) (below : (e : ℕ) → first g u ≤ e → e < past g u → neighbour g e < n) where
@@ -172,7 +172,7 @@ pub gain-is-the-fall-of-the-cut :
     (g : Graph) (p : List ℕ) (v t : ℕ)
     → Symmetric (length p) g
     → v < length p
-    → gain g p v t ≡ subℕ (cut g p) (cut g (set p v t))
+    → gain g p v t ≡ fall g p (set p v t)
 unfolding gain
 gain-is-the-fall-of-the-cut g p v t ok l =
     let m = cut-move g p v t ok l in

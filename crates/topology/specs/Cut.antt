@@ -4,6 +4,7 @@ use mathlib.Core.List.{List}
 use Prim.Native.Nat.{ℕ, _*_}
 use lib.ListN.{length, getD}
 use lib.Dec.{ltb, eqb}
+use lib.IntN.{ℤ, subℕ}
 use Rattle.lists.specs.Sum.{sum, between, weigh}
 use Rattle.lists.specs.All.{anyFrom}
 use Rattle.imbalance.specs.Load.{part}
@@ -19,6 +20,10 @@ rowCut g p u = between (first g u) (past g u) (crossing g p u)
 -- "Edge cut: each pair of different parts counted once, by its higher vertex" u
 unfoldable pub cut : Graph → List ℕ → ℕ
 cut g p = sum (length p) (rowCut g p)
+
+-- how far the cut falls where the labels p become q, negative where it rises: `subℕ a b` is the whole number a - b
+abbrev pub fall : Graph → List ℕ → List ℕ → ℤ
+fall g p q = subℕ (cut g p) (cut g q)
 
 -- u has a neighbour in part t
 unfoldable pub touches : Graph → List ℕ → ℕ → ℕ → Bool
