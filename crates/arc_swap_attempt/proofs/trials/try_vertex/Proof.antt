@@ -1,6 +1,6 @@
 -- `arc_swap_attempt::trials::try_vertex` meets its contract: one law of `Tried` for each way out. Assumes nothing.
 use mathlib.Core.Path.{ap}
-use Prim.Native.Nat.{ℕ, _+_}
+use Prim.Native.Nat.{ℕ, _+_, _<_}
 use native.Mathlib.Omega.{arith}
 use lib.ListN.{getD}
 use Rattle.arc_swap_attempt.proofs.Tried.{own-below, target-below, load-small, no-gain, heavy, goes}
@@ -20,20 +20,18 @@ sums-of-requires c κs =
 best-part-requires : tie.Need-best-part-requires
 best-part-requires c κs = search needs
 
-mul-here : tie.Need-mul-here
-mul-here c =
-    let given : tie.Start = search needs in
-    omega (
-      arith,
-      own-below _ _ _ _ (given .pre .ok) (given .pre .here) _ _ _ (c .before .before .index-at .ensures)
-          (c .before .sums-of .ensures) (c .best-part .ensures),
-    )
-
-element-copy-out-here : tie.Need-element-copy-out-here
-element-copy-out-here c =
+-- the vertex's own part is one of the sixteen
+own-in : (c : tie.After-best-part) → c .before .before .index-at .result < 16
+own-in c =
     let given : tie.Start = search needs in
     own-below _ _ _ _ (given .pre .ok) (given .pre .here) _ _ _ (c .before .before .index-at .ensures) (c .before .sums-of .ensures)
     (c .best-part .ensures)
+
+mul-here : tie.Need-mul-here
+mul-here c = omega (arith, own-in c)
+
+element-copy-out-here : tie.Need-element-copy-out-here
+element-copy-out-here c = own-in c
 
 returns : tie.Need-returns
 returns c =
@@ -44,26 +42,23 @@ returns c =
     no-gain _ _ _ _ (given .pre .ok) (given .pre .here) _ _ _ (after-index-at .index-at .ensures) (after-sums-of .sums-of .ensures)
     (after-best-part .best-part .ensures) _ _ _ (given .pre) (c .if1 .taken)
 
-mul-load : tie.Need-mul-load
-mul-load c =
-    let after-best-part : tie.After-best-part = search needs in
-    let after-sums-of : tie.After-sums-of = search needs in
-    let after-index-at : tie.After-index-at = search needs in
-    let given : tie.Start = search needs in
-    omega (
-      arith,
-      target-below _ _ _ _ (given .pre .ok) (given .pre .here) _ _ _ (after-index-at .index-at .ensures)
-          (after-sums-of .sums-of .ensures) (after-best-part .best-part .ensures) (c .if1 .left),
-    )
+abbrev best-of : tie.Else1 → tie.After-best-part
+best-of c = search needs
 
-element-copy-out-load : tie.Need-element-copy-out-load
-element-copy-out-load c =
-    let after-best-part : tie.After-best-part = search needs in
+-- where there is a gain, the target is one of the sixteen
+target-in : (c : tie.Else1) → best-of c .best-part .result .part < 16
+target-in c =
     let after-sums-of : tie.After-sums-of = search needs in
     let after-index-at : tie.After-index-at = search needs in
     let given : tie.Start = search needs in
     target-below _ _ _ _ (given .pre .ok) (given .pre .here) _ _ _ (after-index-at .index-at .ensures) (after-sums-of .sums-of .ensures)
-    (after-best-part .best-part .ensures) (c .if1 .left)
+    (best-of c .best-part .ensures) (c .if1 .left)
+
+mul-load : tie.Need-mul-load
+mul-load c = omega (arith, target-in c)
+
+element-copy-out-load : tie.Need-element-copy-out-load
+element-copy-out-load c = target-in c
 
 mul-wide : tie.Need-mul-wide
 mul-wide c = search needs
@@ -91,26 +86,13 @@ add-load c =
 
 mul-if2 : tie.Need-mul-if2
 mul-if2 c =
-    let else1 : tie.Else1 = search needs in
-    let after-best-part : tie.After-best-part = search needs in
-    let after-sums-of : tie.After-sums-of = search needs in
-    let after-index-at : tie.After-index-at = search needs in
-    let given : tie.Start = search needs in
-    omega (
-      arith,
-      target-below _ _ _ _ (given .pre .ok) (given .pre .here) _ _ _ (after-index-at .index-at .ensures)
-          (after-sums-of .sums-of .ensures) (after-best-part .best-part .ensures) (else1 .if1 .left),
-    )
+    let gaining : tie.Else1 = search needs in
+    omega (arith, target-in gaining)
 
 element-copy-out-if2 : tie.Need-element-copy-out-if2
 element-copy-out-if2 c =
-    let else1 : tie.Else1 = search needs in
-    let after-best-part : tie.After-best-part = search needs in
-    let after-sums-of : tie.After-sums-of = search needs in
-    let after-index-at : tie.After-index-at = search needs in
-    let given : tie.Start = search needs in
-    target-below _ _ _ _ (given .pre .ok) (given .pre .here) _ _ _ (after-index-at .index-at .ensures) (after-sums-of .sums-of .ensures)
-    (after-best-part .best-part .ensures) (else1 .if1 .left)
+    let gaining : tie.Else1 = search needs in
+    target-in gaining
 
 returns-2 : tie.Need-returns-2
 returns-2 c =
@@ -127,16 +109,8 @@ returns-2 c =
 
 cast-t28 : tie.Need-cast-t28
 cast-t28 c =
-    let else1 : tie.Else1 = search needs in
-    let after-best-part : tie.After-best-part = search needs in
-    let after-sums-of : tie.After-sums-of = search needs in
-    let after-index-at : tie.After-index-at = search needs in
-    let given : tie.Start = search needs in
-    omega (
-      arith,
-      target-below _ _ _ _ (given .pre .ok) (given .pre .here) _ _ _ (after-index-at .index-at .ensures)
-          (after-sums-of .sums-of .ensures) (after-best-part .best-part .ensures) (else1 .if1 .left),
-    )
+    let gaining : tie.Else1 = search needs in
+    omega (arith, target-in gaining)
 
 sub-t25 : tie.Need-sub-t25
 sub-t25 c = search needs

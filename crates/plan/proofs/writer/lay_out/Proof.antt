@@ -3,11 +3,12 @@ use Rattle.plan.proofs.Puts.{PutTo, put-none, put-more, put-all}
 use Rattle.plan.proofs.WriteTurns.{first-word, all-laid}
 use Rattle.plan.specs.Write.{sizeOf}
 use Rattle.plan.specs.inner.Writing.{openingWord}
+use Rattle.plan_blocks.specs.Word.{wrap}
 use Rattle.plan_blocks.specs.Block.{blocksOf, blocksFor}
 use Rattle.plan_blocks.proofs.Places.{kind-most, count-most}
 use Rattle.lists.proofs.Fills.{length-written}
 use native.Mathlib.Omega.{arith}
-use Prim.Native.Nat.{_*_, _-_}
+use Prim.Native.Nat.{_+_, _*_, _-_, _<_}
 use lib.ListN.{length}
 use mathlib.Core.Path.{refl, ap, _∙_}
 use borrow.Author.Needs.{needs}
@@ -77,31 +78,30 @@ mul-narrow c =
     let e = counted .count-at .ensures in
     omega arith
 
-add-narrow : tie.Need-add-narrow Inv-loop μ-loop
-add-narrow c =
+abbrev kinded-before : tie.After-count-at Inv-loop μ-loop → tie.After-kind-at Inv-loop μ-loop
+kinded-before c = search needs
+
+-- a block's kind and count fit its first word
+opening-fits : (c : tie.After-count-at Inv-loop μ-loop) → kinded-before c .kind-at .result + 65536 * c .count-at .result < wrap
+opening-fits c =
     let given : tie.Start Inv-loop μ-loop = search needs in
     let entered : tie.In-loop Inv-loop μ-loop = search needs in
-    let kinded : tie.After-kind-at Inv-loop μ-loop = search needs in
-    let counted : tie.After-count-at Inv-loop μ-loop = search needs in
     let a = given .args in
     let k = kind-most (a .n) (entered .before .loop .b) in
     let m = count-most (a .n) (a .a) (entered .before .loop .b) in
-    let d = kinded .kind-at .ensures in
-    let e = counted .count-at .ensures in
+    let d = kinded-before c .kind-at .ensures in
+    let e = c .count-at .ensures in
     omega arith
+
+add-narrow : tie.Need-add-narrow Inv-loop μ-loop
+add-narrow c =
+    let counted : tie.After-count-at Inv-loop μ-loop = search needs in
+    omega (arith, opening-fits counted)
 
 narrow-requires : tie.Need-narrow-requires Inv-loop μ-loop
 narrow-requires c κs =
-    let given : tie.Start Inv-loop μ-loop = search needs in
-    let entered : tie.In-loop Inv-loop μ-loop = search needs in
-    let kinded : tie.After-kind-at Inv-loop μ-loop = search needs in
     let counted : tie.After-count-at Inv-loop μ-loop = search needs in
-    let a = given .args in
-    let k = kind-most (a .n) (entered .before .loop .b) in
-    let m = count-most (a .n) (a .a) (entered .before .loop .b) in
-    let d = kinded .kind-at .ensures in
-    let e = counted .count-at .ensures in
-    omega arith
+    omega (arith, opening-fits counted)
 
 put-word-requires : tie.Need-put-word-requires Inv-loop μ-loop
 unfolding sizeOf
