@@ -23,7 +23,7 @@
  *
  * STACK. Nothing is on the heap. The most stack that a call takes below the caller's frame, in bytes, measured (docs/SPEED.md):
  *
- *     loads 304, edge cut 64, lambda cut 64, FM 1,024, KL 464, arc-swap 1,152, reading a plan 160, writing one 144,
+ *     loads 304, edge cut 64, lambda cut 64, FM 1,024, KL 464, arc-swap 1,152, reading a plan 128, writing one 128,
  *     self-test 2,176
  *
  * What a call writes below the stack pointer is counted in: the calling convention leaves a function 128 bytes there, its red zone,
@@ -103,7 +103,8 @@ extern "C" {
 #define DAUNSREVIT_MOST_IMBALANCE 64.0
 #define DAUNSREVIT_BLOCK 512 /* bytes of a plan's block */
 
-/* The number that a call gives back: the smallest that applies (the writer has an order of its own), and 0 only if none does. */
+/* The number that a call gives back: the smallest that applies (the reader has 11 for its header's byte 1 ahead of 10, the writer an order
+ * of its own), and 0 only if none does. */
 #define DAUNSREVIT_DONE 0             /* done */
 #define DAUNSREVIT_LENGTHS 1          /* weights not n, starts not n + 1, or neighbours and arc weights differ in count */
 #define DAUNSREVIT_TOO_LARGE 2        /* n or a over its limit */
@@ -115,7 +116,7 @@ extern "C" {
 #define DAUNSREVIT_SHORT_LIST 8       /* a lent working list or row list is too short; arc-swap's stack never is */
 #define DAUNSREVIT_PLAN_LENGTH 9      /* plan length not a positive multiple of 512 */
 #define DAUNSREVIT_BLOCK_CHECK 10     /* a block's check fails */
-#define DAUNSREVIT_HEADER 11          /* header block laid out wrongly */
+#define DAUNSREVIT_HEADER 11          /* header block laid out wrongly; ahead of 10: its byte 1 is above 1 */
 #define DAUNSREVIT_HEADER_RANGE 12    /* a header number out of range */
 #define DAUNSREVIT_LATER_BLOCK 13     /* a later block laid out wrongly, or block count wrong */
 #define DAUNSREVIT_RECORDS 14         /* degrees do not sum to a, or a label is not below k */
@@ -131,10 +132,13 @@ extern "C" {
  *      7  take a pass limit of at most DAUNSREVIT_MOST_PASSES, a choice of 0, 1 or 2, and an e from 0.0 to 64.0
  *      8  lend lists of the lengths that the call needs: n, n / 2 or settings.pass_limit, as its comment says
  *      9  pass the whole file: a plan is one block of 512 bytes or more, and nothing after them
- *     10  fetch the file again: some of its bytes are not those that were written
- *     11  pass a plan from its first byte on: the first block is of kind 1 with 3 records, and its unused places are zero
+ *     10  fetch the file again: some of its bytes are not those that were written, or a block is missing, stands twice or has changed its
+ *         place
+ *     11  pass a plan from its first byte on: the first block is of kind 1 with 3 records, its byte 1 is 0 or 1, and its unused places are
+ *         zero
  *     12  take 1 to 4,096 vertices, at most 65,535 arcs, 2 to 16 parts, a choice of 0, 1 or 2 and a value that fits it
- *     13  lay the blocks out by kind, 63 records in each but the last of a kind, unused places zero, as many as n and a ask for
+ *     13  lay the blocks out by kind, 63 records in each but the last of a kind, unused places zero, as many as n and a ask for, each with
+ *         the header's byte 1
  *     14  let the lengths of the rows sum to a, and let every label be below k
  *     15  lend longer targets: DAUNSREVIT_PLAN_BYTES is the writer's, daunsrevit_plan_vertices and daunsrevit_plan_arcs tell the reader's */
 
@@ -352,9 +356,11 @@ DAUNSREVIT_ANSWERS struct daunsrevit_arc_swap_report daunsrevit_arc_swap(
     struct daunsrevit_arc_swap_settings settings,
     struct daunsrevit_run_record *run);
 
-/* A PLAN is a file of blocks of 512 bytes, little-endian: the kind, a zero byte, the record count in 2 bytes, 63 places of 8
- * bytes, unused ones zero, and a word by which the block's 128 words sum to 0, wrapping. Blocks stand by kind; all blocks of
- * kind 2 and 3 hold 63 records but the last of the kind, which holds the rest.
+/* A PLAN is a file of blocks of 512 bytes, little-endian: the kind, then byte 1, which is 1, the record count in 2 bytes, 63 places of 8
+ * bytes, unused ones zero, and a word by which the block's 128 words sum, wrapping, to the block's position in the file, counted from 0.
+ * Blocks stand by kind; all blocks of kind 2 and 3 hold 63 records but the last of the kind, which holds the rest.
+ * A file of the old kind is read too: byte 1 of its blocks is 0, and each block's words sum to 0. In such a file two full blocks
+ * of one kind that changed places are not told; read it and write it once, and what is written is of the new kind.
  *
  *     kind 1, once     n and a; k and the ceiling's choice; its value in 8 bytes: 0, `whole`, or the bits of `imbalance`
  *     kind 2           by vertex: its weight, its label in 2 bytes, the length of its row in 2 bytes
@@ -390,9 +396,9 @@ static inline uint32_t daunsrevit_plan_arcs(const uint8_t *bytes, size_t bytes_c
  *     starts                      n + 1 elements or more
  *     neighbours, arc_weights     a elements or more
  *
- * Done: number 0, the header, and the plan's lists in the targets. Else number is the smallest of 9 to 15 that applies, and the
- * answer is otherwise 0. 12 is also a value that does not fit its choice: not 0 with choice 0, above 4,294,967,295 with choice 1, the
- * bits of no legal e with choice 2. */
+ * Done: number 0, the header, and the plan's lists in the targets. Else number is the first that applies of 9, 11 for a header whose
+ * byte 1 is above 1, and 10 to 15, and the answer is otherwise 0. 12 is also a value that does not fit its choice: not 0 with choice 0,
+ * above 4,294,967,295 with choice 1, the bits of no legal e with choice 2. */
 DAUNSREVIT_ANSWERS struct daunsrevit_read_answer daunsrevit_read_plan(
     const uint8_t *bytes, size_t bytes_count,
     uint32_t *labels, size_t labels_count,
@@ -401,9 +407,9 @@ DAUNSREVIT_ANSWERS struct daunsrevit_read_answer daunsrevit_read_plan(
     uint32_t *neighbours, size_t neighbours_count,
     uint32_t *arc_weights, size_t arc_weights_count);
 
-/* Writes a plan to the target, which needs 512 bytes for the header, for each 63 vertices or part of them, and for each 63 arcs
- * or part of them: DAUNSREVIT_PLAN_BYTES(n, a). Done: number 0, and length is how many bytes were written. Else length is 0, and number
- * is the first of these that applies, in this order:
+/* Writes a plan, in a file of the new kind, to the target, which needs 512 bytes for the header, for each 63 vertices or part of them,
+ * and for each 63 arcs or part of them: DAUNSREVIT_PLAN_BYTES(n, a). Done: number 0, and length is how many bytes were written. Else
+ * length is 0, and number is the first of these that applies, in this order:
  *
  *     12     n 0 or above DAUNSREVIT_MOST_VERTICES; a above DAUNSREVIT_MOST_ARCS; k below 2 or above DAUNSREVIT_PARTS; a choice above 2; or
  *            choice 2 with an imbalance that is NaN, below 0 or above 64. A row's length always fits, as a does

@@ -1,22 +1,9 @@
-/* Plans: written, read back and written again; the bytes against document 01's blocks, and each refusal of the reader and the writer
- * with its targets compared. */
-#include "check.h"
+/* Plans: written, read back and written again; the bytes against those made by hand, in files of both kinds, and each refusal of the
+ * writer with its target compared. */
+#include "plan_file.h"
 
-/* The largest plan that there is: 1 header, 66 blocks of vertices, 1,041 of arcs. */
-#define MOST_BLOCKS 1108
-#define ROOM (MOST_BLOCKS * DAUNSREVIT_BLOCK + 16)
-
-/* What is written, or read: the lists, the header and the ceiling. */
-struct plan {
-    struct lists l;
-    uint32_t k, choice, whole;
-    double imbalance;
-};
-
-static struct plan p;
-static struct lists targets, painted, wanted;
-static size_t bytes_count;
-static uint8_t bytes[ROOM], blank[ROOM], again[ROOM], by_hand[ROOM];
+static struct lists wanted;
+static uint8_t blank[ROOM], again[ROOM];
 static const uint32_t a[8] = {0, 0, 1, 1, 0, 1, 0, 1};
 
 static struct daunsrevit_write_answer write_to(uint8_t *target, size_t target_count)
@@ -26,114 +13,12 @@ static struct daunsrevit_write_answer write_to(uint8_t *target, size_t target_co
         target, target_count);
 }
 
-static struct daunsrevit_read_answer read_into_targets(void)
+/* The bytes are read: the header and the lists are the plan's, and nothing stands past the lists' ends. */
+static struct daunsrevit_read_answer check_read(size_t extra, int line)
 {
-    return daunsrevit_read_plan(bytes, bytes_count, targets.labels, targets.labels_count, targets.weights, targets.weights_count,
-        targets.starts, targets.starts_count, targets.neighbours, targets.neighbours_count,
-        targets.arc_weights, targets.arc_weights_count);
-}
-
-static void set_ceiling(uint32_t k, uint32_t choice, uint32_t whole, double imbalance)
-{
-    p.k = k;
-    p.choice = choice;
-    p.whole = whole;
-    p.imbalance = imbalance;
-}
-
-/* The blocks as document 01 lays them out, made here word by word. */
-static void put_word(uint8_t *at, size_t w, uint32_t x)
-{
-    for (int i = 0; i < 4; i++)
-        at[4 * w + i] = (uint8_t)(x >> 8 * i);
-}
-
-static uint32_t word_of(const uint8_t *at, size_t w)
-{
-    uint32_t x = 0;
-    for (int i = 0; i < 4; i++)
-        x |= (uint32_t)at[4 * w + i] << 8 * i;
-    return x;
-}
-
-/* The block's last word, by which the sum of its 128 words, wrapping, is 0. */
-static void mend(uint8_t *at, size_t block)
-{
-    uint32_t sum = 0;
-    for (size_t w = 0; w < 127; w++)
-        sum += word_of(at + 512 * block, w);
-    put_word(at + 512 * block, 127, 0 - sum);
-}
-
-static size_t blocks_for(size_t records)
-{
-    return (records + 62) / 63;
-}
-
-/* Where record i of those of its kind stands, from its kind's first block on; the blocks' openings are put on the way. */
-static uint8_t *put_record(size_t first_block, uint32_t kind, size_t i)
-{
-    uint8_t *block = by_hand + 512 * (first_block + i / 63);
-    put_word(block, 0, kind | (uint32_t)(i % 63 + 1) << 16);
-    return block + 4 + 8 * (i % 63);
-}
-
-static size_t make_by_hand(void)
-{
-    size_t n = p.l.labels_count, arcs = p.l.neighbours_count, blocks = 1 + blocks_for(n) + blocks_for(arcs);
-    uint64_t value = p.choice == 1 ? p.whole : p.choice == 2 ? bits_of(p.imbalance) : 0;
-    const uint32_t header[6] = {(uint32_t)n, (uint32_t)arcs, p.k, p.choice, (uint32_t)value, (uint32_t)(value >> 32)};
-    memset(by_hand, 0, sizeof by_hand);
-    for (size_t i = 0; i < 3; i++) {
-        uint8_t *at = put_record(0, 1, i);
-        put_word(at, 0, header[2 * i]);
-        put_word(at, 1, header[2 * i + 1]);
-    }
-    for (size_t v = 0; v < n; v++) {
-        uint8_t *at = put_record(1, 2, v);
-        put_word(at, 0, p.l.weights[v]);
-        put_word(at, 1, p.l.labels[v] | (p.l.starts[v + 1] - p.l.starts[v]) << 16);
-    }
-    for (size_t e = 0; e < arcs; e++) {
-        uint8_t *at = put_record(1 + blocks_for(n), 3, e);
-        put_word(at, 0, p.l.neighbours[e]);
-        put_word(at, 1, p.l.arc_weights[e]);
-    }
-    for (size_t block = 0; block < blocks; block++)
-        mend(by_hand, block);
-    return 512 * blocks;
-}
-
-/* Targets that are by `extra` longer than is needed, all painted. */
-static void lend(size_t extra)
-{
-    memcpy(&targets, &painted, sizeof targets);
-    set_counts(&targets, p.l.labels_count, p.l.neighbours_count);
-    targets.labels_count += extra;
-    targets.weights_count += extra;
-    targets.starts_count += extra;
-    targets.neighbours_count += extra;
-    targets.arc_weights_count += extra;
-}
-
-/* Written, read and written again: the bytes are those made by hand, the lists the same, and nothing stands past the ends. */
-static void check_round(size_t extra, int line)
-{
-    static struct plan before;
-    memcpy(&before, &p, sizeof p);
-    size_t length = make_by_hand();
-    memcpy(bytes, blank, sizeof bytes);
-    struct daunsrevit_write_answer w = write_to(bytes, length + extra);
-    check(w.number == DAUNSREVIT_DONE, "written", __FILE__, line);
-    check(w.length == length, "the length written", __FILE__, line);
-    check(memcmp(bytes, by_hand, length) == 0, "the bytes written", __FILE__, line);
-    check(memcmp(bytes + length, blank + length, sizeof bytes - length) == 0, "the target past the plan", __FILE__, line);
-    check(memcmp(&before, &p, sizeof p) == 0, "what is written from is not changed", __FILE__, line);
-
-    bytes_count = length;
+    size_t n = p.l.labels_count, arcs = p.l.neighbours_count;
     lend(extra);
     memcpy(&wanted, &targets, sizeof targets);
-    size_t n = p.l.labels_count, arcs = p.l.neighbours_count;
     memcpy(wanted.labels, p.l.labels, 4 * n);
     memcpy(wanted.weights, p.l.weights, 4 * n);
     memcpy(wanted.starts, p.l.starts, 4 * (n + 1));
@@ -145,9 +30,32 @@ static void check_round(size_t extra, int line)
     check(r.whole == (p.choice == 1 ? p.whole : 0), "the whole number read", __FILE__, line);
     check(bits_of(r.imbalance) == (p.choice == 2 ? bits_of(p.imbalance) : 0), "the imbalance read", __FILE__, line);
     check(memcmp(&targets, &wanted, sizeof targets) == 0, "the lists read, and the targets past them", __FILE__, line);
-    check(memcmp(bytes, by_hand, length) == 0, "the bytes are not changed", __FILE__, line);
+    check(memcmp(bytes, by_hand, bytes_count) == 0, "the bytes are not changed", __FILE__, line);
+    return r;
+}
 
-    set_counts(&targets, n, arcs);
+/* Written, read and written again: the bytes are those made by hand, of the new kind, the lists the same, and nothing stands past the
+ * ends. The old file of the plan, made by hand, is read alike, and so the new file is what it is written as. */
+static void check_round(size_t extra, int line)
+{
+    static struct plan before;
+    memcpy(&before, &p, sizeof p);
+    bytes_count = make_by_hand(0);
+    memcpy(bytes, by_hand, bytes_count);
+    check_read(extra, line);
+
+    size_t length = make_by_hand(1);
+    check(length == bytes_count, "the two kinds are as long", __FILE__, line);
+    memcpy(bytes, blank, sizeof bytes);
+    struct daunsrevit_write_answer w = write_to(bytes, length + extra);
+    check(w.number == DAUNSREVIT_DONE, "written", __FILE__, line);
+    check(w.length == length, "the length written", __FILE__, line);
+    check(memcmp(bytes, by_hand, length) == 0, "the bytes written", __FILE__, line);
+    check(memcmp(bytes + length, blank + length, sizeof bytes - length) == 0, "the target past the plan", __FILE__, line);
+    check(memcmp(&before, &p, sizeof p) == 0, "what is written from is not changed", __FILE__, line);
+
+    struct daunsrevit_read_answer r = check_read(extra, line);
+    set_counts(&targets, p.l.labels_count, p.l.neighbours_count);
     memcpy(&p.l, &targets, sizeof p.l);
     set_ceiling(r.k, r.choice, r.whole, r.imbalance);
     memcpy(again, blank, sizeof again);
@@ -197,33 +105,6 @@ static void rounds(void)
     ROUND(0);
 }
 
-/* A plan of n vertices and so many arcs, all else drawn; a plan need not be a graph that the refiners take. */
-static uint32_t drawn = 1;
-static uint32_t draw(uint32_t below)
-{
-    drawn = drawn * 1664525u + 1013904223u;
-    return (uint32_t)((uint64_t)drawn * below >> 32);
-}
-
-static void make_drawn(size_t n, size_t arcs)
-{
-    paint(&p.l);
-    set_ceiling(2 + draw(15), draw(3), draw(4294967295u), draw(4096) / 64.0);
-    p.l.starts[0] = 0;
-    for (size_t v = 0; v < n; v++) {
-        size_t left = arcs - p.l.starts[v];
-        size_t degree = v + 1 == n ? left : draw((uint32_t)(2 * left / (n - v) + 1));
-        p.l.starts[v + 1] = p.l.starts[v] + (uint32_t)degree;
-        p.l.weights[v] = draw(4294967295u);
-        p.l.labels[v] = draw(p.k);
-    }
-    for (size_t e = 0; e < arcs; e++) {
-        p.l.neighbours[e] = draw(4294967295u);
-        p.l.arc_weights[e] = draw(4294967295u);
-    }
-    set_counts(&p.l, n, arcs);
-}
-
 static void drawn_rounds(void)
 {
     for (size_t n = 1; n <= 130; n++) {
@@ -238,194 +119,6 @@ static void drawn_rounds(void)
     ROUND(1);
     make_drawn(1, DAUNSREVIT_MOST_ARCS);
     ROUND(1);
-}
-
-/* The grid's plan: three blocks, and targets as long as is needed. */
-static void set_up(void)
-{
-    make_grid(&p.l, a);
-    set_ceiling(2, DAUNSREVIT_IMBALANCE, 0, 0.25);
-    bytes_count = make_by_hand();
-    memcpy(bytes, by_hand, sizeof bytes);
-    lend(0);
-}
-
-/* The reader answers the bytes with this number and zeros. */
-static int refusal(uint32_t number)
-{
-    struct daunsrevit_read_answer r = read_into_targets();
-    return r.number == number && r.n == 0 && r.a == 0 && r.k == 0 && r.choice == 0 && r.whole == 0 && bits_of(r.imbalance) == 0;
-}
-
-/* The targets are as they were. */
-static int untouched(void)
-{
-    return memcmp(targets.labels, painted.labels, sizeof targets.labels) == 0
-        && memcmp(targets.weights, painted.weights, sizeof targets.weights) == 0
-        && memcmp(targets.starts, painted.starts, sizeof targets.starts) == 0
-        && memcmp(targets.neighbours, painted.neighbours, sizeof targets.neighbours) == 0
-        && memcmp(targets.arc_weights, painted.arc_weights, sizeof targets.arc_weights) == 0;
-}
-
-static int refused(uint32_t number)
-{
-    return refusal(number) && untouched();
-}
-
-static void plan_length(void)
-{
-    static const size_t lengths[] = {0, 1, 511, 513, 1023, 1025, 1535, 1537};
-    for (size_t i = 0; i < sizeof lengths / sizeof lengths[0]; i++) {
-        set_up();
-        bytes_count = lengths[i];
-        CHECK(refused(DAUNSREVIT_PLAN_LENGTH));
-    }
-    CHECK(daunsrevit_read_plan(0, 0, 0, 0, 0, 0, 0, 0, 0, 0, 0, 0).number == DAUNSREVIT_PLAN_LENGTH);
-}
-
-/* A flipped bit changes its word by a power of 2 below 2^32, and with it the sum: every one fails the check. */
-static void flipped_bits(void)
-{
-    set_up();
-    for (size_t i = 0; i < bytes_count; i++) {
-        for (int bit = 0; bit < 8; bit++) {
-            bytes[i] ^= (uint8_t)(1 << bit);
-            CHECK(refusal(DAUNSREVIT_BLOCK_CHECK));
-            bytes[i] ^= (uint8_t)(1 << bit);
-        }
-        CHECK(untouched());
-    }
-}
-
-/* Word w of a block is x, and the block's check holds. */
-static void check_word(size_t block, size_t w, uint32_t x, uint32_t number, int line)
-{
-    set_up();
-    put_word(bytes + 512 * block, w, x);
-    mend(bytes, block);
-    check(refused(number), "refused with this number, and no target is written", __FILE__, line);
-}
-#define WORD(block, w, x, number) check_word(block, w, x, number, __LINE__)
-
-/* The ceiling's choice and value in the header, and the check holds. */
-static void check_value(uint32_t choice, uint64_t value, int line)
-{
-    set_up();
-    put_word(bytes, 4, choice);
-    put_word(bytes, 5, (uint32_t)value);
-    put_word(bytes, 6, (uint32_t)(value >> 32));
-    mend(bytes, 0);
-    check(refused(DAUNSREVIT_HEADER_RANGE), "the value does not fit its choice", __FILE__, line);
-}
-#define VALUE(choice, value) check_value(choice, value, __LINE__)
-
-static void damaged_header(void)
-{
-    WORD(0, 0, 0 | 3 << 16, DAUNSREVIT_HEADER);
-    WORD(0, 0, 2 | 3 << 16, DAUNSREVIT_HEADER);
-    WORD(0, 0, 1 | 2 << 16, DAUNSREVIT_HEADER);
-    WORD(0, 0, 1 | 4 << 16, DAUNSREVIT_HEADER);
-    WORD(0, 0, 1 | 1 << 8 | 3 << 16, DAUNSREVIT_HEADER);
-    for (size_t w = 7; w < 127; w++)
-        WORD(0, w, 1u << w % 32, DAUNSREVIT_HEADER);
-    WORD(0, 1, 0, DAUNSREVIT_HEADER_RANGE);
-    WORD(0, 1, 4097, DAUNSREVIT_HEADER_RANGE);
-    WORD(0, 1, 4294967295u, DAUNSREVIT_HEADER_RANGE);
-    WORD(0, 2, 65536, DAUNSREVIT_HEADER_RANGE);
-    WORD(0, 3, 0, DAUNSREVIT_HEADER_RANGE);
-    WORD(0, 3, 1, DAUNSREVIT_HEADER_RANGE);
-    WORD(0, 3, 17, DAUNSREVIT_HEADER_RANGE);
-    WORD(0, 4, 3, DAUNSREVIT_HEADER_RANGE);
-    VALUE(0, 1);
-    VALUE(0, 0x100000000u);
-    VALUE(1, 0x100000000u);
-    VALUE(2, NAN_BITS);
-    VALUE(2, BELOW_ZERO_BITS);
-    VALUE(2, ABOVE_64_BITS);
-    VALUE(2, INFINITY_BITS);
-    VALUE(3, 0);
-}
-
-static void damaged_later_blocks(void)
-{
-    WORD(1, 0, 1 | 8 << 16, DAUNSREVIT_LATER_BLOCK);
-    WORD(1, 0, 3 | 8 << 16, DAUNSREVIT_LATER_BLOCK);
-    WORD(1, 0, 2 | 7 << 16, DAUNSREVIT_LATER_BLOCK);
-    WORD(1, 0, 2 | 9 << 16, DAUNSREVIT_LATER_BLOCK);
-    WORD(1, 0, 2 | 1 << 8 | 8 << 16, DAUNSREVIT_LATER_BLOCK);
-    WORD(2, 0, 2 | 20 << 16, DAUNSREVIT_LATER_BLOCK);
-    WORD(2, 0, 3 | 21 << 16, DAUNSREVIT_LATER_BLOCK);
-    for (size_t w = 17; w < 127; w++)
-        WORD(1, w, 1u << w % 32, DAUNSREVIT_LATER_BLOCK);
-    for (size_t w = 41; w < 127; w++)
-        WORD(2, w, 1u << w % 32, DAUNSREVIT_LATER_BLOCK);
-    /* n and a other than what the blocks hold, and a block too few or too many. */
-    WORD(0, 1, 7, DAUNSREVIT_LATER_BLOCK);
-    WORD(0, 1, 4096, DAUNSREVIT_LATER_BLOCK);
-    WORD(0, 2, 0, DAUNSREVIT_LATER_BLOCK);
-    WORD(0, 2, 65535, DAUNSREVIT_LATER_BLOCK);
-    set_up();
-    bytes_count -= 512;
-    CHECK(refused(DAUNSREVIT_LATER_BLOCK));
-    bytes_count -= 512;
-    CHECK(refused(DAUNSREVIT_LATER_BLOCK));
-    bytes_count = 2048;
-    CHECK(refused(DAUNSREVIT_LATER_BLOCK));
-}
-
-/* Vertex 0 stands in words 1 and 2: weight 1, label 0, degree 2. */
-static void damaged_records(void)
-{
-    WORD(1, 2, 0 | 1 << 16, DAUNSREVIT_RECORDS);
-    WORD(1, 2, 0 | 3 << 16, DAUNSREVIT_RECORDS);
-    WORD(1, 2, 0 | 65535u << 16, DAUNSREVIT_RECORDS);
-    WORD(1, 2, 2 | 2 << 16, DAUNSREVIT_RECORDS);
-    WORD(1, 16, 65535 | 2 << 16, DAUNSREVIT_RECORDS);
-}
-
-static void short_targets(void)
-{
-#define SHORT(change) \
-    do { \
-        set_up(); \
-        change; \
-        CHECK(refused(DAUNSREVIT_SHORT_TARGET)); \
-    } while (0)
-    SHORT(targets.labels_count--);
-    SHORT(targets.weights_count--);
-    SHORT(targets.starts_count--);
-    SHORT(targets.neighbours_count--);
-    SHORT(targets.arc_weights_count--);
-    SHORT(targets.starts_count = 0);
-    SHORT(targets.arc_weights_count = 0);
-}
-
-/* The reader gives the smallest number that applies: every choice of faults 9 to 15, where fault i alone gives the number i. */
-static void reading_order(void)
-{
-    for (unsigned faults = 1 << 9; faults < 1 << 16; faults += 1 << 9) {
-        uint32_t smallest = 9;
-        while (!has(faults, smallest))
-            smallest++;
-        set_up();
-        if (has(faults, 11))
-            put_word(bytes, 126, 1);
-        if (has(faults, 12))
-            put_word(bytes, 4, 3);
-        if (has(faults, 13))
-            put_word(bytes + 1024, 126, 1);
-        if (has(faults, 14))
-            put_word(bytes + 512, 2, 0 | 3 << 16);
-        for (size_t block = 0; block < 3; block++)
-            mend(bytes, block);
-        if (has(faults, 10))
-            bytes[1535] ^= 1;
-        if (has(faults, 9))
-            bytes_count++;
-        if (has(faults, 15))
-            targets.starts_count--;
-        CHECK(refused(smallest));
-    }
 }
 
 /* The writer refuses with this number, and the target and what is written from are as they were. */
@@ -499,76 +192,13 @@ static void writing_order(void)
     }
 }
 
-/* The plan of a path of 200 vertices: a header, 4 blocks of vertices and 7 of arcs, the last of each kind not full. */
-static void set_up_path(void)
-{
-    make_path(&p.l, 200);
-    for (size_t v = 0; v < 200; v++)
-        p.l.weights[v] = (uint32_t)v;
-    set_ceiling(2, DAUNSREVIT_CARRIED, 0, 0);
-    bytes_count = make_by_hand();
-    memcpy(bytes, by_hand, sizeof bytes);
-    lend(0);
-}
-
-static void swap_blocks(size_t one, size_t two)
-{
-    memcpy(bytes + 512 * one, by_hand + 512 * two, 512);
-    memcpy(bytes + 512 * two, by_hand + 512 * one, 512);
-}
-
-/* Whole blocks that changed their places: each block's check holds, so kinds and counts must tell. */
-static void moved_blocks(void)
-{
-    for (size_t one = 0; one < 12; one++)
-        for (size_t two = one + 1; two < 12; two++) {
-            int both_full = (one >= 1 && two <= 3) || (one >= 5 && two <= 10);
-            set_up_path();
-            swap_blocks(one, two);
-            if (!both_full)
-                CHECK(refused(one == 0 ? DAUNSREVIT_HEADER : DAUNSREVIT_LATER_BLOCK));
-        }
-
-    /* Two full blocks of one kind, swapped, are another plan, and it is accepted. */
-    set_up_path();
-    swap_blocks(1, 2);
-    CHECK(read_into_targets().number == DAUNSREVIT_DONE);
-    for (size_t v = 0; v < 200; v++)
-        CHECK(targets.weights[v] == (v < 63 ? v + 63 : v < 126 ? v - 63 : v));
-    set_up_path();
-    swap_blocks(5, 10);
-    CHECK(read_into_targets().number == DAUNSREVIT_DONE);
-    CHECK(memcmp(targets.neighbours, p.l.neighbours + 5 * 63, 63 * 4) == 0);
-    CHECK(memcmp(targets.neighbours + 5 * 63, p.l.neighbours, 63 * 4) == 0);
-
-    /* A block cut off, and a block doubled. */
-    for (size_t block = 0; block < 12; block++) {
-        set_up_path();
-        memcpy(bytes + 512 * block, by_hand + 512 * (block + 1), bytes_count - 512 * (block + 1));
-        bytes_count -= 512;
-        CHECK(refused(block == 0 ? DAUNSREVIT_HEADER : DAUNSREVIT_LATER_BLOCK));
-        set_up_path();
-        memcpy(bytes + 512 * (block + 1), by_hand + 512 * block, bytes_count - 512 * block);
-        bytes_count += 512;
-        CHECK(refused(DAUNSREVIT_LATER_BLOCK));
-    }
-}
-
 int main(void)
 {
     paint(&painted);
     memset(blank, 0xa5, sizeof blank);
     rounds();
     drawn_rounds();
-    plan_length();
-    flipped_bits();
-    damaged_header();
-    damaged_later_blocks();
-    damaged_records();
-    short_targets();
-    reading_order();
     writer_refusals();
     writing_order();
-    moved_blocks();
     return finish("plan");
 }

@@ -220,15 +220,20 @@ static void runs(void)
     CHECK(plan_length == 22016);
 }
 
-/* The check word of a block is made anew, so that only the fault itself is seen. */
-static void mend(size_t block)
+/* The check word of a block is made anew, so that only the fault itself is seen: the block's words sum to this. */
+static void mend_to(size_t block, uint32_t must)
 {
     uint32_t words[128], sum = 0;
     memcpy(words, plan + BLOCK * block, BLOCK);
     for (int w = 0; w < 127; w++)
         sum += words[w];
-    words[127] = 0 - sum;
+    words[127] = must - sum;
     memcpy(plan + BLOCK * block, words, BLOCK);
+}
+
+static void mend(size_t block)
+{
+    mend_to(block, (uint32_t)block);
 }
 
 static void plan_of(size_t n)
@@ -257,13 +262,33 @@ static void reader_refusals(void)
     plan_of(5);
     plan[700] ^= 1;
     refused("check", 10);
-    spoilt("header", 0, 1, 1, 11);
+    spoilt("header_kind", 0, 1, 2, 11);
+    plan_of(5);
+    plan[1] = 2;
+    refused("header_kind_and_10", 11);
+    spoilt("header", 0, 2, 4, 11);
     spoilt("parts", 0, 12, 17, 12);
     spoilt("kind", 1, 0, 3, 13);
+    spoilt("old_kind", 1, 1, 0, 13);
     spoilt("label", 1, 8, 2, 14);
     plan_of(5);
     plan_length -= BLOCK;
     refused("block_missing", 13);
+    /* A file of the old kind, but for its header's record count. */
+    plan_of(5);
+    for (size_t block = 0; block < 3; block++) {
+        plan[BLOCK * block + 1] = 0;
+        mend_to(block, 0);
+    }
+    plan[2] = 4;
+    mend_to(0, 0);
+    refused("old_header", 11);
+    plan_of(200);
+    uint8_t first[BLOCK];
+    memcpy(first, plan + BLOCK, BLOCK);
+    memcpy(plan + BLOCK, plan + 2 * BLOCK, BLOCK);
+    memcpy(plan + 2 * BLOCK, first, BLOCK);
+    refused("blocks_exchanged", 10);
 }
 
 /* 12 for what is beyond the program, ranked by number. */

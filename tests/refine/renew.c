@@ -1,5 +1,5 @@
 /* Reads a plan from standard input by the library's reader and writes to standard output what the library's writer makes of it. Ends with
- * 1, and writes nothing, where the reader refuses it. */
+ * 1, and writes nothing, where the reader refuses it, and with 2 where the writer does or what it makes is not as long. */
 #include "../c/check.h"
 
 long read(int, void *, size_t);
@@ -22,5 +22,5 @@ int main(void)
         return 1;
     struct daunsrevit_write_answer w = daunsrevit_write_plan(l.labels, r.n, l.weights, r.n, l.starts, r.n + 1, l.neighbours, r.a,
         l.arc_weights, r.a, r.k, r.choice, r.whole, r.imbalance, renewed, MOST);
-    return w.number != DAUNSREVIT_DONE || w.length != length || write(1, renewed, w.length) != (long)w.length;
+    return w.number != DAUNSREVIT_DONE || w.length != length || write(1, renewed, w.length) != (long)w.length ? 2 : 0;
 }

@@ -1,4 +1,4 @@
--- The writer's steps, one after another, make the file of the plan. Assumes nothing.
+-- The writer's steps, one after another, make the file of the plan, of the new kind. Assumes nothing.
 use mathlib.Core.Path.{_≡_, refl, sym, ap, _∙_}
 use mathlib.Core.Logic.{⊎-elim}
 use mathlib.Core.Bool.{Bool, true, false}
@@ -15,7 +15,7 @@ use Rattle.lists.proofs.Fills.{length-written}
 use Rattle.lists.proofs.Tables.{table-ext, written-over}
 use Rattle.plan_blocks.specs.declared.header.Header.{Header}
 use Rattle.plan_blocks.specs.Word.{wrap, byteOf, bytes}
-use Rattle.plan_blocks.specs.Block.{checkWord, blocksFor, blocksOf, heldBy, countAt}
+use Rattle.plan_blocks.specs.Block.{newKind, sumAt, checkWord, blocksFor, blocksOf, heldBy, countAt}
 use Rattle.plan_blocks.specs.Plan.{Plan, headerIn}
 use Rattle.plan_blocks.specs.Encode.{headerWord, vertexWord, arcWord, bodyWord, fileWord, encode}
 use Rattle.plan_blocks.specs.Decode.{inBlock}
@@ -34,23 +34,23 @@ cleared m s places =
 
 module _ (p : Plan) where
   -- the file's word at each place where one is put
-  first-word : (b : ℕ) → fileWord 0 0 p (128 * b) ≡ openingWord (p .n) (p .a) b
+  first-word : (b : ℕ) → fileWord newKind p (128 * b) ≡ openingWord (p .n) (p .a) b
   unfolding bodyWord
   first-word b =
       let z : 128 * b ≡ 128 * b + 0 = omega arith in
-      ap (fileWord 0 0 p) z ∙ file-body 0 0 p b 0 (omega arith)
+      ap (fileWord newKind p) z ∙ file-body newKind p b 0 (omega arith)
 
-  vertex-word : (r : ℕ) → r < 2 * p .n → fileWord 0 0 p (recordAt 1 r) ≡ vertexWord p r
+  vertex-word : (r : ℕ) → r < 2 * p .n → fileWord newKind p (recordAt 1 r) ≡ vertexWord p r
   vertex-word r l =
       let z : recordAt 1 r ≡ 128 * (1 + r / 2 / 63) + 1 + 2 * (r / 2 % 63) + r % 2 = omega arith in
       let q : 2 * (r / 2) + r % 2 ≡ r = omega arith in
-      ap (fileWord 0 0 p) z ∙ vertex-words 0 0 p (r % 2) (omega arith) (r / 2) (omega arith) ∙ ap (vertexWord p) q
+      ap (fileWord newKind p) z ∙ vertex-words newKind p (r % 2) (omega arith) (r / 2) (omega arith) ∙ ap (vertexWord p) q
 
-  arc-word : (r : ℕ) → r < 2 * p .a → fileWord 0 0 p (recordAt (1 + blocksFor (p .n)) r) ≡ arcWord p r
+  arc-word : (r : ℕ) → r < 2 * p .a → fileWord newKind p (recordAt (1 + blocksFor (p .n)) r) ≡ arcWord p r
   arc-word r l =
       let z : recordAt (1 + blocksFor (p .n)) r ≡ 128 * (1 + blocksFor (p .n) + r / 2 / 63) + 1 + 2 * (r / 2 % 63) + r % 2 = omega arith in
       let q : 2 * (r / 2) + r % 2 ≡ r = omega arith in
-      ap (fileWord 0 0 p) z ∙ arc-words 0 0 p (r % 2) (omega arith) (r / 2) (omega arith) ∙ ap (arcWord p) q
+      ap (fileWord newKind p) z ∙ arc-words newKind p (r % 2) (omega arith) (r / 2) (omega arith) ∙ ap (arcWord p) q
 
   -- a word of the file at none of these places, and not a block's last, is zero
   module _ (b j : ℕ) (inside : b < blocksOf (p .n) (p .a)) (early : j < 127)
@@ -91,12 +91,12 @@ module _ (p : Plan) where
             no-arc (126 * v .0 + (j - 1)) (omega arith) (omega arith)))
             (by-kind (p .n) (p .a) b (omega (arith, ne)) inside)
 
-    unused-word : fileWord 0 0 p (128 * b + j) ≡ 0
+    unused-word : fileWord newKind p (128 * b + j) ≡ 0
     unused-word = go (leb j (2 * countAt (p .n) (p .a) b)) refl
       where
-        go : (t : Bool) → leb j (2 * countAt (p .n) (p .a) b) ≡ t → fileWord 0 0 p (128 * b + j) ≡ 0
+        go : (t : Bool) → leb j (2 * countAt (p .n) (p .a) b) ≡ t → fileWord newKind p (128 * b + j) ≡ 0
         go true e = absurd (no-record (leb-true j (2 * countAt (p .n) (p .a) b) e))
-        go false e = file-body 0 0 p b j early ∙ body-rest 0 0 p b j (leb-false j (2 * countAt (p .n) (p .a) b) e)
+        go false e = file-body newKind p b j early ∙ body-rest newKind p b j (leb-false j (2 * countAt (p .n) (p .a) b) e)
 
 -- laying out keeps the length
 pub length-laid : (n a : ℕ) (s : List ℕ) → length (laidDown n a s) ≡ length s
@@ -139,46 +139,46 @@ module _ (p : Plan) (s : List ℕ) (places : sizeOf (p .n) (p .a) ≤ length s) 
       ∙ ap (putRecords (1 + vertices) (arcWord p) (p .a)) (puts-over (recordAt 1) (vertexWord p) headed words s fits (2 * p .n) (λ r l. omega arith))
       ∙ puts-over (recordAt (1 + vertices)) (arcWord p) labelled words s fits (2 * p .a) (λ r l. omega arith)
 
-  joined-is : (b j : ℕ) → b < blocksOf (p .n) (p .a) → j < 127 → joined (128 * b + j) ≡ fileWord 0 0 p (128 * b + j)
+  joined-is : (b j : ℕ) → b < blocksOf (p .n) (p .a) → j < 127 → joined (128 * b + j) ≡ fileWord newKind p (128 * b + j)
   joined-is b j l m =
-      after-is (recordAt (1 + blocksFor (p .n))) (arcWord p) labelled (fileWord 0 0 p) (128 * b + j) (2 * p .a) (arc-word p)
-      (λ no-arc. after-is (recordAt 1) (vertexWord p) headed (fileWord 0 0 p) (128 * b + j) (2 * p .n) (vertex-word p)
-      (λ no-vertex. after-is (λ r. 1 + r) (headerWord (headerIn p)) opened (fileWord 0 0 p) (128 * b + j) 6 (header-words 0 0 p)
-      (λ no-header. after-is (λ b. 128 * b) (openingWord (p .n) (p .a)) (λ w. 0) (fileWord 0 0 p) (128 * b + j) (blocksOf (p .n) (p .a)) (λ i k. first-word p i)
+      after-is (recordAt (1 + blocksFor (p .n))) (arcWord p) labelled (fileWord newKind p) (128 * b + j) (2 * p .a) (arc-word p)
+      (λ no-arc. after-is (recordAt 1) (vertexWord p) headed (fileWord newKind p) (128 * b + j) (2 * p .n) (vertex-word p)
+      (λ no-vertex. after-is (λ r. 1 + r) (headerWord (headerIn p)) opened (fileWord newKind p) (128 * b + j) 6 (header-words newKind p)
+      (λ no-header. after-is (λ b. 128 * b) (openingWord (p .n) (p .a)) (λ w. 0) (fileWord newKind p) (128 * b + j) (blocksOf (p .n) (p .a)) (λ i k. first-word p i)
       (λ no-first. sym (unused-word p b j l m no-first no-header no-vertex no-arc)))))
 
   -- a block's last word is chosen by the words that stand before it
-  check-is : (b : ℕ) → b < blocksOf (p .n) (p .a) → fileWord 0 0 p (128 * b + 127) ≡ checkWord 0 (inBlock unsealed b)
+  check-is : (b : ℕ) → b < blocksOf (p .n) (p .a) → fileWord newKind p (128 * b + 127) ≡ checkWord (sumAt newKind b) (inBlock unsealed b)
   unfolding checkWord sizeOf
   check-is b l =
-      file-check 0 0 p b
-      ∙ ap (λ (x : ℕ). (0 + (wrap - x)) % wrap)
-      (sym (sum-wrapped 127 (bodyWord 0 p b)) ∙ ap (λ (x : ℕ). x % wrap) (sum-ext 127 (λ j. bodyWord 0 p b j % wrap) (inBlock unsealed b) (λ j m. sym (read j m))))
+      file-check newKind p b
+      ∙ ap (λ (x : ℕ). (sumAt newKind b + (wrap - x)) % wrap)
+      (sym (sum-wrapped 127 (bodyWord newKind p b)) ∙ ap (λ (x : ℕ). x % wrap) (sum-ext 127 (λ j. bodyWord newKind p b j % wrap) (inBlock unsealed b) (λ j m. sym (read j m))))
     where
-      read : (j : ℕ) → j < 127 → inBlock unsealed b j ≡ bodyWord 0 p b j % wrap
+      read : (j : ℕ) → j < 127 → inBlock unsealed b j ≡ bodyWord newKind p b j % wrap
       read j m =
           ap (λ (t : List ℕ). inBlock t b j) unsealed-is
           ∙ word-over (128 * blocksOf (p .n) (p .a)) joined s (omega arith) (128 * b + j) (omega arith)
-          ∙ ap (λ (x : ℕ). x % wrap) (joined-is b j l m ∙ file-body 0 0 p b j m)
+          ∙ ap (λ (x : ℕ). x % wrap) (joined-is b j l m ∙ file-body newKind p b j m)
 
   -- THE STEPS, in the writer's order
-  steps-encode : sealed (blocksOf (p .n) (p .a)) unsealed ≡ over (encode p) s
+  steps-encode : sealed (blocksOf (p .n) (p .a)) unsealed ≡ over (encode newKind p) s
   unfolding encode sizeOf
   steps-encode =
       let words = 128 * blocksOf (p .n) (p .a) in
       ap (putWords (λ b. 128 * b + 127) check (blocksOf (p .n) (p .a))) unsealed-is
       ∙ puts-over (λ b. 128 * b + 127) check joined words s (omega arith) (blocksOf (p .n) (p .a)) (λ b l. omega arith)
-      ∙ ap (λ (t : List ℕ). over t s) (bytes-ext words (after (λ b. 128 * b + 127) check (blocksOf (p .n) (p .a)) joined) (fileWord 0 0 p) (λ w l. after-is (λ b. 128 * b + 127) check joined (fileWord 0 0 p) w (blocksOf (p .n) (p .a)) check-is (λ none. kept w l none (eqb (w % 128) 127) refl)))
+      ∙ ap (λ (t : List ℕ). over t s) (bytes-ext words (after (λ b. 128 * b + 127) check (blocksOf (p .n) (p .a)) joined) (fileWord newKind p) (λ w l. after-is (λ b. 128 * b + 127) check joined (fileWord newKind p) w (blocksOf (p .n) (p .a)) check-is (λ none. kept w l none (eqb (w % 128) 127) refl)))
     where
       check : ℕ → ℕ
-      check b = checkWord 0 (inBlock unsealed b)
+      check b = checkWord (sumAt newKind b) (inBlock unsealed b)
 
-      kept : (w : ℕ) → w < 128 * blocksOf (p .n) (p .a) → ((b : ℕ) → b < blocksOf (p .n) (p .a) → w ≡ 128 * b + 127 → ⊥) → (t : Bool) → eqb (w % 128) 127 ≡ t → joined w ≡ fileWord 0 0 p w
+      kept : (w : ℕ) → w < 128 * blocksOf (p .n) (p .a) → ((b : ℕ) → b < blocksOf (p .n) (p .a) → w ≡ 128 * b + 127 → ⊥) → (t : Bool) → eqb (w % 128) 127 ≡ t → joined w ≡ fileWord newKind p w
       kept w l none true e = let q = eqb-true (w % 128) 127 e in absurd (none (w / 128) (omega arith) (omega arith))
       kept w l none false e =
           let ne = eqb-false (w % 128) 127 e in
           let q : w ≡ 128 * (w / 128) + w % 128 = omega arith in
-          ap joined q ∙ joined-is (w / 128) (w % 128) (omega arith) (omega (arith, ne)) ∙ ap (fileWord 0 0 p) (sym q)
+          ap joined q ∙ joined-is (w / 128) (w % 128) (omega arith) (omega (arith, ne)) ∙ ap (fileWord newKind p) (sym q)
 
 -- the same of the functions of the writer: what each leaves, and the header and the lists that they are given
 pub steps-write : (labels weights starts neighbours arcWeights : List ℕ) (k choice value : ℕ) (header : Header) (s laid headed labelled joined whole : List ℕ)
@@ -189,7 +189,7 @@ pub steps-write : (labels weights starts neighbours arcWeights : List ℕ) (k ch
     → labelled ≡ putRecords 1 (vertexWord (planWith labels weights starts [] [] 0 0 0)) (length labels) headed
     → joined ≡ putRecords (1 + blocksFor (header .n)) (arcWord (planWith [] [] [] neighbours arcWeights 0 0 0)) (length neighbours) labelled
     → whole ≡ sealed (blocksOf (header .n) (header .a)) joined
-    → whole ≡ over (encode (planWith labels weights starts neighbours arcWeights k choice value)) s
+    → whole ≡ over (encode newKind (planWith labels weights starts neighbours arcWeights k choice value)) s
 unfolding planWith vertexWord arcWord
 steps-write labels weights starts neighbours arcWeights k choice value header s laid headed labelled joined whole e places el eh ex ej ew =
     rw (ew, ej, ex, eh, el, e) (steps-encode (planWith labels weights starts neighbours arcWeights k choice value) s places)

@@ -1,6 +1,6 @@
 -- What the reader's loops do, a turn at a time, and how they end. Assumes nothing.
 use mathlib.Core.Path.{_≡_, refl, sym, ap, ap₂, _∙_}
-use mathlib.Core.Bool.{Bool, true, false, not, cond, _&&_, _||_}
+use mathlib.Core.Bool.{Bool, true, false, not, cond, _||_}
 use mathlib.Core.List.{List}
 use Prim.Native.Nat.{ℕ, zero, suc, _+_, _*_, _/_, _%_, _≤_, _<_}
 use native.Mathlib.Omega.{arith}
@@ -11,7 +11,7 @@ use Rattle.lists.specs.Sum.{sum}
 use Rattle.lists.specs.All.{all, allFrom}
 use Rattle.lists.specs.Fill.{written, table, over}
 use Rattle.lists.specs.Number.{orElse}
-use Rattle.lists.proofs.Bools.{and-false, or-true, or-none, or-false}
+use Rattle.lists.proofs.Bools.{or-true, or-none, or-false}
 use Rattle.lists.proofs.Sums.{sum-none, sum-more, sum-step}
 use Rattle.lists.proofs.Totals.{sum-ext, sum-grows}
 use Rattle.lists.proofs.Alls.{all-more, all-fails, from-fails, from-more}
@@ -20,50 +20,24 @@ use Rattle.lists.proofs.Fills.{written-none, written-more}
 use Rattle.imbalance.specs.Limit.{mostVertices, mostArcs}
 use Rattle.plan_blocks.specs.declared.header.Header.{Header}
 use Rattle.plan_blocks.specs.Word.{wrap, word}
-use Rattle.plan_blocks.specs.Block.{opening, checks, laidOut, blocksFor, blocksOf, kindAt, countAt}
-use Rattle.plan_blocks.specs.Decode.{inBlock, blocksIn, vertexAt, arcAt, labelAt, degreeAt, headerAt, badLength, badCheck, badHeader, badNumbers, laterLaid, badLater, labelled, badRecords, planOf, fileNumber}
+use Rattle.plan_blocks.specs.Block.{sumAt, checks, laidOut, blocksFor, blocksOf, kindAt, countAt}
+use Rattle.plan_blocks.specs.Decode.{inBlock, blocksIn, kindOf, vertexAt, arcAt, labelAt, degreeAt, headerAt, badLength, badKind, badCheck, badHeader, badNumbers, laterLaid, badLater, labelled, badRecords, planOf, fileNumber}
 use Rattle.plan_blocks.proofs.Accepts.{in-range, not-given, counted, accepts}
 use Rattle.plan.specs.Read.{startsOf, short, numberFor}
 use Rattle.plan.specs.inner.Reading.{frameNumber, planNumber}
 
--- number 10, block by block: r is the sum of block b's words
-module _ (s : List ℕ) (must b r : ℕ) (summed : r ≡ sum 128 (inBlock s b) % wrap) where
-  pub check-more : all b (λ b. checks must (inBlock s b)) ≡ true → r ≡ must → all (b + 1) (λ b. checks must (inBlock s b)) ≡ true
-  unfolding checks
-  check-more h e = all-more b (λ b. checks must (inBlock s b)) h (eq-eqb (sum 128 (inBlock s b) % wrap) must (sym summed ∙ e))
+-- number 10, block by block: r says whether block b checks
+module _ (s : List ℕ) (file b : ℕ) (r : Bool) (judged : r ≡ checks (sumAt file b) (inBlock s b)) where
+  pub check-more : all b (λ b. checks (sumAt file b) (inBlock s b)) ≡ true → r ≡ true → all (b + 1) (λ b. checks (sumAt file b) (inBlock s b)) ≡ true
+  check-more h e = all-more b (λ b. checks (sumAt file b) (inBlock s b)) h (sym judged ∙ e)
 
-  pub check-fails : b < blocksIn s → (r ≡ must → ⊥) → true ≡ badCheck must s
-  unfolding checks badCheck
-  check-fails l ne = sym (ap not (all-fails (blocksIn s) b (λ b. checks must (inBlock s b)) l (ne-eqb (sum 128 (inBlock s b) % wrap) must (λ e. ne (summed ∙ e)))))
+  pub check-fails : b < blocksIn s → r ≡ false → true ≡ badCheck file s
+  unfolding badCheck
+  check-fails l e = sym (ap not (all-fails (blocksIn s) b (λ b. checks (sumAt file b) (inBlock s b)) l (sym judged ∙ e)))
 
-pub check-all : (s : List ℕ) (must b : ℕ) → b ≡ blocksIn s → all b (λ b. checks must (inBlock s b)) ≡ true → false ≡ badCheck must s
+pub check-all : (s : List ℕ) (file b : ℕ) → b ≡ blocksIn s → all b (λ b. checks (sumAt file b) (inBlock s b)) ≡ true → false ≡ badCheck file s
 unfolding badCheck
-check-all s must b e h = sym (ap not (rw e at h))
-
--- a block's layout, word by word: the words from the first unused place to word j are zero
-abbrev pub restTo : List ℕ → ℕ → ℕ → ℕ → Bool
-restTo s b count j = allFrom (1 + 2 * count) j (λ i. eqb (inBlock s b i) 0)
-
-pub rest-more : (s : List ℕ) (b count j x : ℕ) → 1 + 2 * count ≤ j → x ≡ word s (128 * b + j) → x ≡ 0 → restTo s b count j ≡ true → restTo s b count (j + 1) ≡ true
-rest-more s b count j x l e z h = from-more (1 + 2 * count) j (λ i. eqb (inBlock s b i) 0) l h (eq-eqb (inBlock s b j) 0 (sym e ∙ z))
-
-module _ (s : List ℕ) (b second kind count : ℕ) where
-  pub first-differs : (x y : ℕ) → x ≡ word s (128 * b) → y ≡ x → (y ≡ opening second kind count → ⊥) → false ≡ laidOut second kind count (inBlock s b)
-  unfolding laidOut
-  first-differs x y e q ne =
-      let z : 128 * b + 0 ≡ 128 * b = omega arith in
-      sym (rw (z, ← e, ← q, ne-eqb y (opening second kind count) ne))
-
-  pub rest-differs : (j x : ℕ) → 1 + 2 * count ≤ j → j < 127 → x ≡ word s (128 * b + j) → (x ≡ 0 → ⊥) → false ≡ laidOut second kind count (inBlock s b)
-  unfolding laidOut
-  rest-differs j x l m e ne =
-      sym (ap (λ (t : Bool). eqb (inBlock s b 0) (opening second kind count) && t) (from-fails (1 + 2 * count) 127 (λ i. eqb (inBlock s b i) 0) j l m (ne-eqb (inBlock s b j) 0 (λ q. ne (e ∙ q)))) ∙ and-false (eqb (inBlock s b 0) (opening second kind count)))
-
-  pub laid-whole : (x y j : ℕ) → x ≡ word s (128 * b) → y ≡ x → y ≡ opening second kind count → j ≡ 127 → restTo s b count j ≡ true → true ≡ laidOut second kind count (inBlock s b)
-  unfolding laidOut
-  laid-whole x y j e q o m h =
-      let z : 128 * b + 0 ≡ 128 * b = omega arith in
-      sym (rw (z, ← e, ← q, eq-eqb y (opening second kind count) o) (rw m at h))
+check-all s file b e h = sym (ap not (rw e at h))
 
 -- what an accepted file's numbers are
 pub record Fine (s : List ℕ) : Type 0 where
@@ -123,55 +97,56 @@ long-enough s h =
     let r = eqb-true (length s % 512) 0 (not-false (eqb (length s % 512) 0) (p .1)) in
     omega (arith, z)
 
-pub sized-by : (s : List ℕ) (header : Header) (second : ℕ) → badLength s ≡ false → badLater second header s ≡ false → length s ≡ 512 * blocksOf (header .n) (header .a)
+pub sized-by : (s : List ℕ) (header : Header) (file : ℕ) → badLength s ≡ false → badLater file header s ≡ false → length s ≡ 512 * blocksOf (header .n) (header .a)
 unfolding badLater
-sized-by s header second h l =
-    let q = or-false (not (eqb (blocksIn s) (blocksOf (header .n) (header .a)))) (not (laterLaid second (header .n) (header .a) s)) l in
+sized-by s header file h l =
+    let q = or-false (not (eqb (blocksIn s) (blocksOf (header .n) (header .a)))) (not (laterLaid file (header .n) (header .a) s)) l in
     counted s _ h (eqb-true _ _ (not-false _ (q .0)))
 
 -- number 13, block by block
 abbrev pub laterTo : List ℕ → ℕ → ℕ → ℕ → ℕ → Bool
-laterTo s second n a b = allFrom 1 b (λ b. laidOut second (kindAt n b) (countAt n a b) (inBlock s b))
+laterTo s file n a b = allFrom 1 b (λ b. laidOut file (kindAt n b) (countAt n a b) (inBlock s b))
 
-module _ (s : List ℕ) (second n a b kind count : ℕ) (r : Bool) (ek : kind ≡ kindAt n b) (ec : count ≡ countAt n a b) (er : r ≡ laidOut second kind count (inBlock s b)) where
-  laid-here : laidOut second (kindAt n b) (countAt n a b) (inBlock s b) ≡ r
-  laid-here = sym (er ∙ ap₂ (λ (x y : ℕ). laidOut second x y (inBlock s b)) ek ec)
+module _ (s : List ℕ) (file n a b kind count : ℕ) (r : Bool) (ek : kind ≡ kindAt n b) (ec : count ≡ countAt n a b) (er : r ≡ laidOut file kind count (inBlock s b)) where
+  laid-here : laidOut file (kindAt n b) (countAt n a b) (inBlock s b) ≡ r
+  laid-here = sym (er ∙ ap₂ (λ (x y : ℕ). laidOut file x y (inBlock s b)) ek ec)
 
-  pub later-more : 1 ≤ b → r ≡ true → laterTo s second n a b ≡ true → laterTo s second n a (b + 1) ≡ true
-  later-more l t h = from-more 1 b (λ b. laidOut second (kindAt n b) (countAt n a b) (inBlock s b)) l h (laid-here ∙ t)
+  pub later-more : 1 ≤ b → r ≡ true → laterTo s file n a b ≡ true → laterTo s file n a (b + 1) ≡ true
+  later-more l t h = from-more 1 b (λ b. laidOut file (kindAt n b) (countAt n a b) (inBlock s b)) l h (laid-here ∙ t)
 
-  pub later-fails : 1 ≤ b → b < blocksIn s → r ≡ false → false ≡ laterLaid second n a s
+  pub later-fails : 1 ≤ b → b < blocksIn s → r ≡ false → false ≡ laterLaid file n a s
   unfolding laterLaid
-  later-fails l m f = sym (from-fails 1 (blocksIn s) (λ b. laidOut second (kindAt n b) (countAt n a b) (inBlock s b)) b l m (laid-here ∙ f))
+  later-fails l m f = sym (from-fails 1 (blocksIn s) (λ b. laidOut file (kindAt n b) (countAt n a b) (inBlock s b)) b l m (laid-here ∙ f))
 
-pub later-all : (s : List ℕ) (second n a b : ℕ) → b ≡ blocksIn s → laterTo s second n a b ≡ true → true ≡ laterLaid second n a s
+pub later-all : (s : List ℕ) (file n a b : ℕ) → b ≡ blocksIn s → laterTo s file n a b ≡ true → true ≡ laterLaid file n a s
 unfolding laterLaid
-later-all s second n a b e h = sym (rw e at h)
+later-all s file n a b e h = sym (rw e at h)
 
 -- number 13, by its two tests
-module _ (s : List ℕ) (second m : ℕ) (header : Header) (em : m ≡ blocksOf (header .n) (header .a)) where
-  pub blocks-differ : (blocksIn s ≡ m → ⊥) → true ≡ badLater second header s
+module _ (s : List ℕ) (file m : ℕ) (header : Header) (em : m ≡ blocksOf (header .n) (header .a)) where
+  pub blocks-differ : (blocksIn s ≡ m → ⊥) → true ≡ badLater file header s
   unfolding badLater
   blocks-differ ne = sym (rw (← em, ne-eqb (blocksIn s) m ne))
 
-  pub later-judged : (r : Bool) → blocksIn s ≡ m → r ≡ laterLaid second (header .n) (header .a) s → not r ≡ badLater second header s
+  pub later-judged : (r : Bool) (read : ℕ) → blocksIn s ≡ m → read ≡ file → r ≡ laterLaid read (header .n) (header .a) s → not r ≡ badLater file header s
   unfolding badLater
-  later-judged r e er = sym (rw (← em, eq-eqb (blocksIn s) m e, ← er))
+  later-judged r read e ef er = sym (rw (← em, eq-eqb (blocksIn s) m e, ← ef, ← er))
 
 -- the reader's number is that of the frame, or else that of the plan
 module _ (s : List ℕ) (labels weights starts neighbours arcWeights : ℕ) where
   in-two : numberFor s labels weights starts neighbours arcWeights ≡ orElse (frameNumber s) (planNumber (headerAt s) s labels weights starts neighbours arcWeights)
   unfolding numberFor fileNumber frameNumber planNumber planOf
-  in-two = go (badLength s) (badCheck 0 s) (badHeader 0 s) (badNumbers (headerAt s)) (badLater 0 (headerAt s) s) (badRecords (headerAt s) s) _
+  in-two = go (badLength s) (badKind s) (badCheck (kindOf s) s) (badHeader (kindOf s) s) (badNumbers (headerAt s)) (badLater (kindOf s) (headerAt s) s) (badRecords (headerAt s) s) _
     where
-      go : (a b c d e f : Bool) (m : ℕ) → orElse (cond a 9 (cond b 10 (cond c 11 (cond d 12 (cond e 13 (cond f 14 0)))))) m ≡ orElse (cond a 9 (cond b 10 (cond c 11 0))) (cond d 12 (cond e 13 (cond f 14 m)))
-      go true b c d e f m = refl
-      go false true c d e f m = refl
-      go false false true d e f m = refl
-      go false false false true e f m = refl
-      go false false false false true f m = refl
-      go false false false false false true m = refl
-      go false false false false false false m = refl
+      go : (a k b c d e f : Bool) (m : ℕ) → orElse (cond a 9 (cond k 11 (cond b 10 (cond c 11 (cond d 12 (cond e 13 (cond f 14 0))))))) m ≡ orElse (cond a 9 (cond k 11 (cond b 10 (cond c 11 0)))) (cond d 12 (cond e 13 (cond f 14 m)))
+      go true k b c d e f m = refl
+      go false true b c d e f m = refl
+      go false false true c d e f m = refl
+      go false false false true d e f m = refl
+      go false false false false true e f m = refl
+      go false false false false false true f m = refl
+      go false false false false false false true m = refl
+      go false false false false false false false m = refl
 
   pub by-frame : (m : ℕ) → m ≡ frameNumber s → (m ≡ 0 → ⊥) → m ≡ numberFor s labels weights starts neighbours arcWeights
   by-frame zero e ne = absurd (ne refl)

@@ -2,7 +2,7 @@
 use mathlib.Core.Path.{_≡_, refl, sym, ap, ap₂, _∙_, subst}
 use mathlib.Core.Bool.{Bool, true, false, cond}
 use mathlib.Core.List.{List}
-use Prim.Native.Nat.{ℕ, _+_, _-_, _/_, _≤_, _<_}
+use Prim.Native.Nat.{ℕ, suc, _+_, _-_, _/_, _≤_, _<_}
 use native.Mathlib.Omega.{arith}
 use lib.ListN.{length, getD, take, drop, List·getD-eq-default}
 use lib.Seq.{ext-getD, take-at}
@@ -17,15 +17,18 @@ use Rattle.lists.proofs.Tables.{length-table, table-at}
 use Rattle.imbalance.specs.Ceiling.{zero64}
 use Rattle.topology.proofs.Starts.{start-first, start-rises}
 use Rattle.plan_blocks.specs.Word.{wrap, word}
+use Rattle.plan_blocks.specs.Block.{newKind}
 use Rattle.plan_blocks.specs.Plan.{Plan, Legal, valueOf}
 use Rattle.plan_blocks.specs.Encode.{encode}
-use Rattle.plan_blocks.specs.Decode.{vertexAt, arcAt, planOf, fileNumber}
+use Rattle.plan_blocks.specs.Decode.{blocksIn, kindOf, badKind, vertexAt, arcAt, planOf, fileNumber}
+use Rattle.plan_blocks.specs.Exchanged.{Exchanged}
 use Rattle.plan_blocks.proofs.WordLaws.{Bytes, word-below, bytes-below}
 use Rattle.plan_blocks.proofs.Accepts.{accepts}
 use Rattle.plan_blocks.proofs.Rewritten.{same-bytes}
-use Rattle.plan_blocks.proofs.Reread.{same-number, same-plan, length-is}
+use Rattle.plan_blocks.proofs.Reread.{same-number, same-plan, length-is, kind-is}
 use Rattle.plan_blocks.proofs.RoundTrips.{legal-places}
-use Rattle.plan_blocks.proofs.Changed.{refused-ten}
+use Rattle.plan_blocks.proofs.Changed.{refused-changed}
+use Rattle.plan_blocks.proofs.Exchanges.{refused-exchanged}
 use Rattle.plan.specs.declared.ReadAnswer.{ReadAnswer}
 use Rattle.plan.specs.declared.WriteAnswer.{WriteAnswer}
 use Rattle.plan.specs.Read.{Targets, short, numberFor, readNumber, startsOf, headerOf, refusalOf, handed, readAnswer, readLeft, Read}
@@ -66,7 +69,7 @@ module _ (g : Given) (b c : List ℕ) (q : WriteAnswer) (h : Written g b q c) wh
   unfolding writeAnswer
   write-length z = ap (λ (x : WriteAnswer). x .length) (rw z at (h .answered))
 
-  pub write-bytes : writeNumber g (length b) ≡ 0 → c ≡ over (encode (planFrom g)) b
+  pub write-bytes : writeNumber g (length b) ≡ 0 → c ≡ over (encode newKind (planFrom g)) b
   unfolding writeLeft
   write-bytes z = rw z at (h .target)
 
@@ -94,19 +97,27 @@ module _ (s : List ℕ) (h : Bytes s) (z : fileNumber s ≡ 0) where
       (table-below wrap (word s 2) (λ e. word s (arcAt (word s 1) e)) (omega arith) (λ e. word-below s h (arcAt (word s 1) e)))
       (table-below wrap (word s 2) (λ e. word s (arcAt (word s 1) e + 1)) (omega arith) (λ e. word-below s h (arcAt (word s 1) e + 1)))
 
+  -- the new file of the plan is as long
+  length-renewed : length (encode newKind (planOf s)) ≡ length s
+  unfolding sizeOf
+  length-renewed = length-is (planOf s) legal newKind (omega arith) ∙ size-is
+
   number-places : (places : ℕ) → length s ≤ places → writeNumber (givenOf (planOf s)) places ≡ 0
   number-places places l = let e = size-is in fits-number (givenOf (planOf s)) places (fits-given (planOf s) legal places (omega arith))
 
-  bytes-places : encode (planFrom (givenOf (planOf s))) ≡ s
-  bytes-places = ap encode (plan-given (planOf s) legal) ∙ same-bytes s h (accepts s z)
+  bytes-places : encode (kindOf s) (planFrom (givenOf (planOf s))) ≡ s
+  bytes-places = ap (encode (kindOf s)) (plan-given (planOf s) legal) ∙ same-bytes s h (accepts s z)
 
--- APART FROM ROOM (15), THE READER ACCEPTS EXACTLY THE FILES THAT THE WRITER CAN WRITE
-pub accepted-writable : (s : List ℕ) → Bytes s → fileNumber s ≡ 0 → (g : Given) × Typed g × (writeNumber g (length s) ≡ 0) × (encode (planFrom g) ≡ s)
-accepted-writable s h z = (givenOf (planOf s), typed-places s h z, number-places s h z (length s) (omega arith), bytes-places s h z)
+-- APART FROM ROOM (15), THE READER ACCEPTS EXACTLY THE FILES, OF EITHER KIND, OF WHAT THE WRITER TAKES
+pub accepted-writable : (s : List ℕ) → Bytes s → fileNumber s ≡ 0
+    → (g : Given) × Typed g × (writeNumber g (length s) ≡ 0) × (kindOf s ≤ 1) × (encode (kindOf s) (planFrom g) ≡ s)
+accepted-writable s h z =
+    (givenOf (planOf s), typed-places s h z, number-places s h z (length s) (omega arith), accepts s z .known, bytes-places s h z)
 
-pub writable-accepted : (g : Given) (places : ℕ) → Typed g → writeNumber g places ≡ 0 → Bytes (encode (planFrom g)) × (fileNumber (encode (planFrom g)) ≡ 0)
+pub writable-accepted : (g : Given) (places : ℕ) → Typed g → writeNumber g places ≡ 0 → (file : ℕ) → file ≤ 1
+    → Bytes (encode file (planFrom g)) × (fileNumber (encode file (planFrom g)) ≡ 0)
 unfolding encode
-writable-accepted g places t z = (bytes-below _ _, same-number (planFrom g) (legal-given g places t (fits g places z)))
+writable-accepted g places t z file known = (bytes-below _ _, same-number (planFrom g) (legal-given g places t (fits g places z)) file known)
 
 -- what a reader's answer and targets hold of the plan, as the writer takes it
 abbrev pub givenBy : ReadAnswer → Targets → Given
@@ -137,10 +148,10 @@ given-handed p l t =
     starts : List ℕ
     starts = table (p .n + 1) (λ v. sum v (λ u. getD (p .degrees) u 0))
 
--- AN ACCEPTED FILE READ AND REWRITTEN is the same bytes
-pub read-then-written : (s : List ℕ) (t u : Targets) (r : ReadAnswer) (b c : List ℕ) (q : WriteAnswer) → Bytes s → Read s t r u → r .number ≡ 0 → length s ≤ length b → Written (givenBy r u) b q c
-    → (q .number ≡ 0) × (q .length ≡ length s) × (c ≡ over s b)
-read-then-written s t u r b c q h read z places wrote =
+-- AN ACCEPTED FILE READ AND REWRITTEN is the new file of the plan that it holds
+pub read-then-renewed : (s : List ℕ) (t u : Targets) (r : ReadAnswer) (b c : List ℕ) (q : WriteAnswer) → Bytes s → Read s t r u → r .number ≡ 0 → length s ≤ length b → Written (givenBy r u) b q c
+    → (q .number ≡ 0) × (q .length ≡ length s) × (c ≡ over (encode newKind (planOf s)) b)
+read-then-renewed s t u r b c q h read z places wrote =
     let m = read-zero s t u r read z in
     let f = accepted-places s _ _ _ _ _ m .accepted in
     let l = legal s h f in
@@ -149,8 +160,17 @@ read-then-written s t u r b c q h read z places wrote =
     let n = number-places s h f (length b) places in (
       write-number (givenOf (planOf s)) b c q w ∙ n,
       write-length (givenOf (planOf s)) b c q w n ∙ ap₂ sizeOf (l .labelled) (l .joined) ∙ size-is s h f,
-      write-bytes (givenOf (planOf s)) b c q w n ∙ ap (λ (x : List ℕ). over x b) (bytes-places s h f),
+      write-bytes (givenOf (planOf s)) b c q w n ∙ ap (λ (p : Plan). over (encode newKind p) b) (plan-given (planOf s) l),
     )
+
+-- A NEW FILE READ AND REWRITTEN is the same bytes: "Byte identity in demand 2 then holds for new files"
+pub read-then-written : (s : List ℕ) (t u : Targets) (r : ReadAnswer) (b c : List ℕ) (q : WriteAnswer) → Bytes s → kindOf s ≡ newKind → Read s t r u → r .number ≡ 0 → length s ≤ length b → Written (givenBy r u) b q c
+    → (q .number ≡ 0) × (q .length ≡ length s) × (c ≡ over s b)
+read-then-written s t u r b c q h new read z places wrote =
+    let f = accepted-places s _ _ _ _ _ (read-zero s t u r read z) .accepted in
+    let d = read-then-renewed s t u r b c q h read z places wrote in
+    let e : encode newKind (planOf s) ≡ s = ap (λ (file : ℕ). encode file (planOf s)) (sym new) ∙ same-bytes s h (accepts s f) in
+    (d .0, d .1, d .2 ∙ ap (λ (x : List ℕ). over x b) e)
 
 -- what the reader is to hand over of what the writer was given; a value that the choice does not use is no part of a plan
 abbrev pub headerGiven : Given → ReadAnswer
@@ -227,19 +247,25 @@ module _ (g : Given) (places : ℕ) (typed : Typed g) (fit : Fits g places) wher
   lists-given t = same-targets refl refl (ap (λ (x : List ℕ). over x (t .starts)) starts-given) refl refl
 
 -- the file stands first in the target
-file-first : (g : Given) (b : List ℕ) → Legal (planFrom g) → take (sizeOf (vertices g) (arcs g)) (over (encode (planFrom g)) b) ≡ encode (planFrom g)
+file-first : (g : Given) (b : List ℕ) → Legal (planFrom g) → take (sizeOf (vertices g) (arcs g)) (over (encode newKind (planFrom g)) b) ≡ encode newKind (planFrom g)
 unfolding sizeOf planWith
-file-first g b l = take-at (encode (planFrom g)) (drop (length (encode (planFrom g))) b) (sizeOf (vertices g) (arcs g)) (length-is (planFrom g) l)
+file-first g b l = take-at (encode newKind (planFrom g)) (drop (length (encode newKind (planFrom g))) b) (sizeOf (vertices g) (arcs g)) (length-is (planFrom g) l newKind (omega arith))
 
-number-given : (g : Given) → Legal (planFrom g) → (t : Targets) → short (vertices g) (arcs g) (length (t .labels)) (length (t .weights)) (length (t .starts)) (length (t .neighbours)) (length (t .arcWeights)) ≡ false → readNumber (encode (planFrom g)) t ≡ 0
+number-given : (g : Given) → Legal (planFrom g) → (t : Targets) → short (vertices g) (arcs g) (length (t .labels)) (length (t .weights)) (length (t .starts)) (length (t .neighbours)) (length (t .arcWeights)) ≡ false → readNumber (encode newKind (planFrom g)) t ≡ 0
 unfolding numberFor planWith
-number-given g l t roomy = rw (same-number (planFrom g) l, same-plan (planFrom g) l, roomy)
+number-given g l t roomy = rw (same-number (planFrom g) l newKind (omega arith), same-plan (planFrom g) l newKind (omega arith), roomy)
 
--- a refusal with 10
-read-ten : (s : List ℕ) (t u : Targets) (r : ReadAnswer) → Read s t r u → fileNumber s ≡ 10 → (r ≡ refusalOf 10) × (u ≡ t)
+-- a file that holds the plan of an accepted one is read where that one is
+renewed-number : (s file : List ℕ) (t : Targets) → fileNumber file ≡ 0 → planOf file ≡ planOf s → fileNumber s ≡ 0 → readNumber s t ≡ 0 → readNumber file t ≡ 0
+unfolding numberFor
+renewed-number s file t e p f m = rw (e, p) (rw f at m)
+
+-- a refusal of a file with a number
+read-refused : (s : List ℕ) (t u : Targets) (r : ReadAnswer) (m : ℕ) → Read s t r u → fileNumber s ≡ suc m → (r ≡ refusalOf (suc m)) × (u ≡ t)
 unfolding numberFor readAnswer readLeft
-read-ten s t u r h e =
-    (rw e at (h .answered), same-targets (rw e at (h .labels)) (rw e at (h .weights)) (rw e at (h .starts)) (rw e at (h .neighbours)) (rw e at (h .arcWeights)))
+read-refused s t u r m h e =
+    let k = ne-eqb (suc m) 0 (λ z. omega arith) in
+    (rw (e, k) at (h .answered), same-targets (rw (e, k) at (h .labels)) (rw (e, k) at (h .weights)) (rw (e, k) at (h .starts)) (rw (e, k) at (h .neighbours)) (rw (e, k) at (h .arcWeights)))
 
 -- A PLAN WRITTEN AND READ is the same plan: the header, the bits of e among it, and every list
 pub written-then-read : (g : Given) (b c : List ℕ) (q : WriteAnswer) (t u : Targets) (r : ReadAnswer) → Typed g → Written g b q c → q .number ≡ 0
@@ -249,18 +275,50 @@ written-then-read g b c q t u r typed wrote z roomy read =
     let m = write-zero g b c q wrote z in
     let f = fits g (length b) m in
     let l = legal-given g (length b) typed f in
-    let s : take (q .length) c ≡ encode (planFrom g) = ap₂ take (write-length g b c q wrote m) (write-bytes g b c q wrote m) ∙ file-first g b l in
-    let d : Read (encode (planFrom g)) t r u = subst (λ (x : List ℕ). Read x t r u) s read in
+    let s : take (q .length) c ≡ encode newKind (planFrom g) = ap₂ take (write-length g b c q wrote m) (write-bytes g b c q wrote m) ∙ file-first g b l in
+    let d : Read (encode newKind (planFrom g)) t r u = subst (λ (x : List ℕ). Read x t r u) s read in
+    let p = same-plan (planFrom g) l newKind (omega arith) in
     let n = number-given g l t roomy in (
-      read-header (encode (planFrom g)) t u r d n ∙ ap headerOf (same-plan (planFrom g) l) ∙ header-given g (length b) typed f,
-      read-lists (encode (planFrom g)) t u r d n ∙ ap (λ (p : Plan). handed p t) (same-plan (planFrom g) l) ∙ lists-given g (length b) typed f t,
+      read-header (encode newKind (planFrom g)) t u r d n ∙ ap headerOf p ∙ header-given g (length b) typed f,
+      read-lists (encode newKind (planFrom g)) t u r d n ∙ ap (λ (p : Plan). handed p t) p ∙ lists-given g (length b) typed f t,
     )
 
--- ONE WORD CHANGED: s′ has the bytes of the accepted s but for its word w, and is not s; it is refused with 10, and nothing is written
+-- AN OLD FILE READ AND WRITTEN gives the new file of the same plan: what was written, read into such targets, gives the same answer and leaves the same lists
+pub old-renewed : (s : List ℕ) (t u : Targets) (r : ReadAnswer) (b c : List ℕ) (q : WriteAnswer) (v : Targets) (r′ : ReadAnswer) → Bytes s → Read s t r u → r .number ≡ 0 → length s ≤ length b → Written (givenBy r u) b q c
+    → Read (take (q .length) c) t r′ v → (kindOf (take (q .length) c) ≡ newKind) × (r′ ≡ r) × (v ≡ u)
+old-renewed s t u r b c q v r′ h read z places wrote again =
+    let m = read-zero s t u r read z in
+    let f = accepted-places s _ _ _ _ _ m .accepted in
+    let l = legal s h f in
+    let d = read-then-renewed s t u r b c q h read z places wrote in
+    let file = encode newKind (planOf s) in
+    let e : take (q .length) c ≡ file = ap₂ take (d .1) (d .2) ∙ take-at file (drop (length file) b) (length s) (length-renewed s h f) in
+    let k : Read file t r′ v = subst (λ (x : List ℕ). Read x t r′ v) e again in
+    let p = same-plan (planOf s) l newKind (omega arith) in
+    let n : readNumber file t ≡ 0 = renewed-number s file t (same-number (planOf s) l newKind (omega arith)) p f m in (
+      ap kindOf e ∙ kind-is (planOf s) l newKind (omega arith),
+      read-header file t v r′ k n ∙ ap headerOf p ∙ sym (read-header s t u r read m),
+      read-lists file t v r′ k n ∙ ap (λ (p : Plan). handed p t) p ∙ sym (read-lists s t u r read m),
+    )
+
+-- ONE WORD CHANGED: s′ has the bytes of the accepted s but for its word w, and is not s; it is refused with 10, or with 11 where its kind is above 1, and nothing is written
 pub one-word-changed : (s s′ : List ℕ) (w : ℕ) (t u t′ u′ : Targets) (r r′ : ReadAnswer) → Bytes s → Bytes s′ → length s′ ≡ length s
     → ((i : ℕ) → (i / 4 ≡ w → ⊥) → getD s′ i 0 ≡ getD s i 0) → (s′ ≡ s → ⊥)
-    → Read s t r u → r .number ≡ 0 → Read s′ t′ r′ u′ → (r′ ≡ refusalOf 10) × (u′ ≡ t′)
+    → Read s t r u → r .number ≡ 0 → Read s′ t′ r′ u′ → (r′ ≡ refusalOf (cond (badKind s′) 11 10)) × (u′ ≡ t′)
 one-word-changed s s′ w t u t′ u′ r r′ h h′ long rest differ read z read′ =
     let m = read-zero s t u r read z in
     let f = accepted-places s _ _ _ _ _ m .accepted in
-    read-ten s′ t′ u′ r′ read′ (refused-ten s s′ w h h′ long rest differ f)
+    go (badKind s′) (refused-changed s s′ w h h′ long rest differ f)
+  where
+    go : (k : Bool) → fileNumber s′ ≡ cond k 11 10 → (r′ ≡ refusalOf (cond k 11 10)) × (u′ ≡ t′)
+    go true e = read-refused s′ t′ u′ r′ 10 read′ e
+    go false e = read-refused s′ t′ u′ r′ 9 read′ e
+
+-- TWO BLOCKS EXCHANGED: s′ is the accepted s, of the new kind, with two of its blocks exchanged; it is refused with 10, and nothing is written
+pub blocks-exchanged : (s s′ : List ℕ) (b c : ℕ) (t u t′ u′ : Targets) (r r′ : ReadAnswer) → Bytes s → kindOf s ≡ newKind → Exchanged s s′ b c
+    → b < blocksIn s → c < blocksIn s → (b ≡ c → ⊥)
+    → Read s t r u → r .number ≡ 0 → Read s′ t′ r′ u′ → (r′ ≡ refusalOf 10) × (u′ ≡ t′)
+blocks-exchanged s s′ b c t u t′ u′ r r′ h new x lb lc ne read z read′ =
+    let m = read-zero s t u r read z in
+    let f = accepted-places s _ _ _ _ _ m .accepted in
+    read-refused s′ t′ u′ r′ 9 read′ (refused-exchanged s s′ b c h x f new lb lc ne)

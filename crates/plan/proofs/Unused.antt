@@ -11,6 +11,7 @@ use Rattle.lists.specs.Fill.{over}
 use Rattle.imbalance.specs.Used.{SameUsed}
 use Rattle.imbalance.specs.declared.Ceiling.{Ceiling}
 use Rattle.imbalance.proofs.Unused.{same-outcome, same-fit}
+use Rattle.plan_blocks.specs.Block.{newKind}
 use Rattle.plan_blocks.specs.Plan.{Plan, valueOf}
 use Rattle.plan_blocks.specs.Encode.{encode}
 use Rattle.plan.specs.Write.{Given, vertices, arcs, planWith, planFrom, unfit, miscounted, badStarts, sizeOf, writeNumber, writeAnswer, writeLeft}
@@ -46,5 +47,5 @@ module _ (g : Given) (target : List ℕ) (asked : Ceiling) (same : SameUsed (g .
       let h = withCeiling g asked in
       let n = length target in (
         ap (λ (k : ℕ). let r : WriteAnswer = record { number = k; length = cond (eqb k 0) (sizeOf (vertices g) (arcs g)) 0 } in r) (same-number n),
-        same-outcome (writeNumber g n) (writeNumber h n) (over (encode (planFrom g)) target) (over (encode (planFrom h)) target) (λ k. target) (same-number n) (λ z. ap (λ (p : Plan). over (encode p) target) same-plan),
+        same-outcome (writeNumber g n) (writeNumber h n) (over (encode newKind (planFrom g)) target) (over (encode newKind (planFrom h)) target) (λ k. target) (same-number n) (λ z. ap (λ (p : Plan). over (encode newKind p) target) same-plan),
       )

@@ -16,7 +16,7 @@ use Rattle.topology.specs.Graph.{Graph, inRows}
 use Rattle.topology.specs.Rule.{startsOk}
 use Rattle.topology.proofs.Starts.{start-rises, start-inside}
 use Rattle.plan_blocks.specs.declared.header.Header.{Header}
-use Rattle.plan_blocks.specs.Block.{blocksFor, blocksOf}
+use Rattle.plan_blocks.specs.Block.{newKind, blocksFor, blocksOf}
 use Rattle.plan_blocks.specs.Plan.{outOfRange, valueOf}
 use Rattle.plan_blocks.specs.Encode.{encode}
 use Rattle.plan_blocks.proofs.Accepts.{InRange, in-range, not-given}
@@ -106,7 +106,7 @@ module _ (g : Given) (t u : List ℕ) (m : ℕ) (e : m ≡ writeNumber g (length
       record { answered = rw (f, ← e) refl; target = rw f q }
 
   pub write-done : (value size : ℕ) → m ≡ 0 → value ≡ valueOf (g .ceiling) → size ≡ sizeOf (vertices g) (arcs g)
-      → u ≡ over (encode (planWith (g .labels) (g .weights) (g .starts) (g .neighbours) (g .arcWeights) (g .k) (g .ceiling .choice) value)) t → Written g t (record { number = 0; length = size }) u
+      → u ≡ over (encode newKind (planWith (g .labels) (g .weights) (g .starts) (g .neighbours) (g .arcWeights) (g .k) (g .ceiling .choice) value)) t → Written g t (record { number = 0; length = size }) u
   unfolding writeAnswer writeLeft
   write-done value size z ev es q =
       let f = eq-eqb (writeNumber g (length t)) 0 (sym e ∙ z) in

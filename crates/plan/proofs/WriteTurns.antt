@@ -10,17 +10,17 @@ use Rattle.lists.proofs.Totals.{sum-ext}
 use Rattle.lists.proofs.Tables.{table-at}
 use Rattle.plan_blocks.specs.declared.header.Header.{Header}
 use Rattle.plan_blocks.specs.Word.{wrap, word, putWord}
-use Rattle.plan_blocks.specs.Block.{opening, checkWord, blocksFor, blocksOf, kindAt, countAt}
+use Rattle.plan_blocks.specs.Block.{newKind, opening, sumAt, checkWord, blocksFor, blocksOf, kindAt, countAt}
 use Rattle.plan_blocks.specs.Encode.{headerWord, vertexWord, arcWord}
 use Rattle.plan_blocks.specs.Decode.{inBlock}
 use Rattle.plan.specs.Write.{planWith}
 use Rattle.plan.specs.inner.Writing.{putWords, openingWord, laidDown, putHeader, putRecords, sealed}
 use Rattle.plan.proofs.Puts.{word-kept}
 
-pub first-word : (n a b kind count x : ℕ) → kind ≡ kindAt n b → count ≡ countAt n a b → x ≡ kind + 65536 * count → x ≡ openingWord n a b
+pub first-word : (n a b kind count x : ℕ) → kind ≡ kindAt n b → count ≡ countAt n a b → x ≡ kind + 256 + 65536 * count → x ≡ openingWord n a b
 first-word n a b kind count x ek ec e =
-    let o : kind + 65536 * count ≡ opening 0 kind count = omega arith in
-    e ∙ o ∙ ap₂ (opening 0) ek ec
+    let o : kind + 256 + 65536 * count ≡ opening newKind kind count = omega arith in
+    e ∙ o ∙ ap₂ (opening newKind) ek ec
 
 pub all-laid : (n a blocks : ℕ) (s₀ cleared s : List ℕ) → blocks ≡ blocksOf n a → cleared ≡ filled 0 (512 * blocks) s₀ → s ≡ putWords (λ b. 128 * b) (openingWord n a) blocks cleared → s ≡ laidDown n a s₀
 all-laid n a blocks s₀ cleared s eb ec e = rw (ec, eb) at e
@@ -66,9 +66,9 @@ module _ (neighbours arcWeights : List ℕ) (e x : ℕ) where
 pub all-joined : (n vertices : ℕ) (x : ℕ → ℕ) (records : ℕ) (s₀ s : List ℕ) → vertices ≡ blocksFor n → s ≡ putRecords (1 + vertices) x records s₀ → s ≡ putRecords (1 + blocksFor n) x records s₀
 all-joined n vertices x records s₀ s ev e = rw ev at e
 
--- the word that brings a block's sum to 0, wrapping: the last words of the blocks before it change none of its own
-pub last-word : (check : ℕ → ℕ) (s₀ s : List ℕ) (b x t : ℕ) → s ≡ putWords (λ b. 128 * b + 127) check b s₀ → t ≡ sum 127 (λ j. word s (128 * b + j)) % wrap → x < wrap → (x + t) % wrap ≡ 0 → x ≡ checkWord 0 (inBlock s₀ b)
-unfolding checkWord
+-- the word that brings a block's sum to its position, wrapping: the last words of the blocks before it change none of its own
+pub last-word : (check : ℕ → ℕ) (s₀ s : List ℕ) (b x t : ℕ) → s ≡ putWords (λ b. 128 * b + 127) check b s₀ → t ≡ sum 127 (λ j. word s (128 * b + j)) % wrap → x < wrap → (x + t) % wrap ≡ b → x ≡ checkWord (sumAt newKind b) (inBlock s₀ b)
+unfolding checkWord sumAt
 last-word check s₀ s b x t put e l z =
     let same : sum 127 (λ j. word s (128 * b + j)) ≡ sum 127 (inBlock s₀ b) = sum-ext 127 (λ j. word s (128 * b + j)) (inBlock s₀ b) (λ j m. ap (λ (k : List ℕ). word k (128 * b + j)) put ∙ word-kept (λ b. 128 * b + 127) check b s₀ (128 * b + j) (λ i k q. omega arith)) in
     let u : t ≡ sum 127 (inBlock s₀ b) % wrap = e ∙ ap (λ (y : ℕ). y % wrap) same in

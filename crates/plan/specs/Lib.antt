@@ -1,6 +1,6 @@
--- The plan file's reader and writer (document 01, "Plan blocks"): what each answers and leaves, for every input.
+-- The plan file's reader and writer (document 01, "Plan blocks"; document 02, A2): what each answers and leaves, for every input.
 
--- ---- What document 01 says
+-- ---- What the documents say
 pub mod Read
 pub mod Write
 pub mod Used

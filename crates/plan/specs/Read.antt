@@ -1,4 +1,4 @@
--- What the reader answers and leaves in its targets, for every file and every targets (document 01, "Plan blocks").
+-- What the reader answers and leaves in its targets, for every file and every targets (document 01, "Plan blocks"; document 02, A2).
 use mathlib.Core.Path.{_≡_}
 use mathlib.Core.Bool.{Bool, cond, _||_}
 use mathlib.Core.List.{List}
@@ -28,7 +28,7 @@ unfoldable pub short : ℕ → ℕ → ℕ → ℕ → ℕ → ℕ → ℕ → B
 short n a labels weights starts neighbours arcWeights =
     ltb labels n || (ltb weights n || (ltb starts (n + 1) || (ltb neighbours a || ltb arcWeights a)))
 
--- the smallest of 9 to 15 that applies to a file and targets of these lengths, 0 if none does
+-- the first that applies, in `fileNumber`'s order and then 15, to a file and targets of these lengths; 0 if none does
 unfoldable pub numberFor : List ℕ → ℕ → ℕ → ℕ → ℕ → ℕ → ℕ
 numberFor s labels weights starts neighbours arcWeights =
     orElse (fileNumber s) (cond (short (planOf s .n) (planOf s .a) labels weights starts neighbours arcWeights) 15 0)

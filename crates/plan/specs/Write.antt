@@ -1,4 +1,4 @@
--- What the writer answers and leaves in its target, for every input (document 01, "Plan blocks").
+-- What the writer answers and leaves in its target, for every input (document 01, "Plan blocks"; document 02, A2).
 use mathlib.Core.Path.{_≡_}
 use mathlib.Core.Bool.{Bool, not, cond, _||_}
 use mathlib.Core.List.{List}
@@ -12,7 +12,7 @@ use Rattle.imbalance.specs.declared.Ceiling.{Ceiling}
 use Rattle.topology.specs.Graph.{inRows}
 use Rattle.topology.specs.Rule.{startsOk}
 use Rattle.plan.specs.declared.WriteAnswer.{WriteAnswer}
-use Rattle.plan_blocks.specs.Block.{blocksOf}
+use Rattle.plan_blocks.specs.Block.{newKind, blocksOf}
 use Rattle.plan_blocks.specs.Plan.{Plan, outOfRange, valueOf}
 use Rattle.plan_blocks.specs.Encode.{encode}
 
@@ -91,9 +91,9 @@ unfoldable pub writeAnswer : Given → List ℕ → WriteAnswer
 writeAnswer g target =
     record { number = writeNumber g (length target); length = cond (eqb (writeNumber g (length target)) 0) (sizeOf (vertices g) (arcs g)) 0 }
 
--- THE TARGET: the plan's file, and what stood past its end; a refusal writes nothing
+-- THE TARGET: the plan's file, of the new kind, and what stood past its end; a refusal writes nothing
 unfoldable pub writeLeft : Given → List ℕ → List ℕ
-writeLeft g target = cond (eqb (writeNumber g (length target)) 0) (over (encode (planFrom g)) target) target
+writeLeft g target = cond (eqb (writeNumber g (length target)) 0) (over (encode newKind (planFrom g)) target) target
 
 -- THE PROMISE: of what is given, the target t at entry, an answer r and the target u at exit
 pub record Written (g : Given) (t : List ℕ) (r : WriteAnswer) (u : List ℕ) : Type 0 where

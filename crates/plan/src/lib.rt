@@ -1,4 +1,4 @@
-// The plan file: its reader and its writer. Document 01, "Plan blocks".
+// The plan file: its reader and its writer. Document 01, "Plan blocks"; document 02, A2.
 use imbalance::Ceiling;
 use plan_blocks::header;
 ghost use Rattle.plan.specs.Read.{Read};

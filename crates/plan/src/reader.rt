@@ -1,5 +1,6 @@
-// The reader: the numbers that refuse a file, and the records of one that is accepted. Document 01, "Plan blocks".
+// The reader: the numbers that refuse a file, and the records of one that is accepted. Document 01, "Plan blocks"; document 02, A2.
 use crate::ReadAnswer;
+use plan_blocks::block;
 use plan_blocks::ceiling;
 use plan_blocks::header;
 use plan_blocks::header::Header;
@@ -11,8 +12,8 @@ ghost use Prim.Native.Nat.{_+_, _*_, _≤_, _<_};
 ghost use lib.ListN.{length};
 ghost use Rattle.lists.specs.Fill.{over};
 ghost use Rattle.imbalance.specs.Limit.{mostVertices, mostArcs};
-ghost use Rattle.plan_blocks.specs.Block.{laidOut, blocksOf};
-ghost use Rattle.plan_blocks.specs.Decode.{inBlock, blocksIn, headerAt, badLength, badCheck, badNumbers, laterLaid, badLater, badRecords, planOf, fileNumber};
+ghost use Rattle.plan_blocks.specs.Block.{blocksOf};
+ghost use Rattle.plan_blocks.specs.Decode.{blocksIn, kindOf, headerAt, badLength, badCheck, badNumbers, laterLaid, badLater, badRecords, planOf, fileNumber};
 ghost use Rattle.plan.specs.Read.{short, startsOf, headerAnswer, refusalOf};
 ghost use Rattle.plan.specs.inner.Reading.{frameNumber, planNumber};
 
@@ -27,13 +28,13 @@ fn bad_length(bytes: &[u8]) -> bool
 }
 
 // Number 10's test: one walk over the file.
-fn bad_check(bytes: &[u8], must: u32) -> bool
-    ensures { λ r. ⌜ r ≡ badCheck must (now (bytes .entry)) ⌝ }
+fn bad_check(bytes: &[u8], file: usize) -> bool
+    ensures { λ r. ⌜ r ≡ badCheck file (now (bytes .entry)) ⌝ }
 {
     let blocks = bytes.len() / 512;
     let mut b: usize = 0;
     while b < blocks {
-        if words::words_sum(bytes, 128 * b, 128) != must {
+        if !block::checks(bytes, file, b) {
             return true;
         }
         b += 1;
@@ -41,36 +42,17 @@ fn bad_check(bytes: &[u8], must: u32) -> bool
     false
 }
 
-// Whether block b is laid out as its kind and its count ask.
-fn laid_out(bytes: &[u8], b: usize, second: usize, kind: usize, count: usize) -> bool
-    requires { ⌜ (512 * b + 512 ≤ length (now bytes)) × (second < 256) × (kind < 256) × (count ≤ 63) ⌝ }
-    ensures { λ r. ⌜ r ≡ laidOut second kind count (inBlock (now (bytes .entry)) b) ⌝ }
-{
-    let first = 128 * b;
-    if lists::index(words::word_at(bytes, first)) != kind + 256 * second + 65536 * count {
-        return false;
-    }
-    let mut j = 1 + 2 * count;
-    while j < 127 {
-        if words::word_at(bytes, first + j) != 0 {
-            return false;
-        }
-        j += 1;
-    }
-    true
-}
-
-// Whether each later block is laid out as n and a ask.
-fn later_laid(bytes: &[u8], second: usize, n: usize, a: usize) -> bool
-    requires { ⌜ (second < 256) × (n ≤ mostVertices) × (a ≤ mostArcs) × (blocksIn (now bytes) ≡ blocksOf n a) ⌝ }
-    ensures { λ r. ⌜ r ≡ laterLaid second n a (now (bytes .entry)) ⌝ }
+// Whether each later block is laid out as the file's kind, n and a ask.
+fn later_laid(bytes: &[u8], file: usize, n: usize, a: usize) -> bool
+    requires { ⌜ (file < 256) × (n ≤ mostVertices) × (a ≤ mostArcs) × (blocksIn (now bytes) ≡ blocksOf n a) ⌝ }
+    ensures { λ r. ⌜ r ≡ laterLaid file n a (now (bytes .entry)) ⌝ }
 {
     let blocks = bytes.len() / 512;
     let mut b: usize = 1;
     while b < blocks {
         let kind = layout::kind_at(n, b);
         let count = layout::count_at(n, a, b);
-        if !laid_out(bytes, b, second, kind, count) {
+        if !block::laid_out(bytes, b, file, kind, count) {
             return false;
         }
         b += 1;
@@ -79,14 +61,14 @@ fn later_laid(bytes: &[u8], second: usize, n: usize, a: usize) -> bool
 }
 
 // Number 13's test.
-fn bad_later(bytes: &[u8], second: usize, header: Header) -> bool
-    requires { ⌜ (badNumbers header ≡ false) × (second < 256) ⌝ }
-    ensures { λ r. ⌜ r ≡ badLater second header (now (bytes .entry)) ⌝ }
+fn bad_later(bytes: &[u8], header: Header) -> bool
+    requires { ⌜ badNumbers header ≡ false ⌝ }
+    ensures { λ r. ⌜ r ≡ badLater (kindOf (now (bytes .entry))) header (now (bytes .entry)) ⌝ }
 {
     if bytes.len() / 512 != layout::blocks_of(header.n, header.a) {
         return true;
     }
-    if later_laid(bytes, second, header.n, header.a) {
+    if later_laid(bytes, block::kind_of(bytes), header.n, header.a) {
         return false;
     }
     true
@@ -112,17 +94,21 @@ fn bad_records(bytes: &[u8], header: Header) -> bool
     sum != header.a
 }
 
-// The smallest of 9 to 11 that applies, 0 if none does: what the bytes show before the header is decoded.
+// The first of 9, 11 for the file's kind, 10 and 11 that applies, 0 if none does: what the bytes show before the header is decoded.
 pub(crate) fn frame_number(bytes: &[u8]) -> u32
     ensures { λ r. ⌜ r ≡ frameNumber (now (bytes .entry)) ⌝ }
 {
     if bad_length(bytes) {
         return 9;
     }
-    if bad_check(bytes, 0) {
+    let file = block::kind_of(bytes);
+    if 1 < file {
+        return 11;
+    }
+    if bad_check(bytes, file) {
         return 10;
     }
-    if !laid_out(bytes, 0, 0, 1, 3) {
+    if !block::laid_out(bytes, 0, file, 1, 3) {
         return 11;
     }
     0
@@ -172,7 +158,7 @@ pub(crate) fn plan_number(
     if header::bad_numbers(header) {
         return 12;
     }
-    if bad_later(bytes, 0, header) {
+    if bad_later(bytes, header) {
         return 13;
     }
     if bad_records(bytes, header) {

@@ -1,5 +1,6 @@
-// The writer: the numbers that refuse a plan, and the blocks of one that is accepted. Document 01, "Plan blocks".
+// The writer: the numbers that refuse a plan, and the blocks of one that is accepted. Document 01, "Plan blocks"; document 02, A2.
 use imbalance::Ceiling;
+use plan_blocks::block;
 use plan_blocks::ceiling;
 use plan_blocks::header::Header;
 use plan_blocks::layout;
@@ -77,7 +78,7 @@ pub(crate) fn write_number(
     0
 }
 
-// Each block's first word, its kind and its record count; its other words are zero.
+// Each block's first word, its kind, the file's kind and its record count; its other words are zero.
 pub(crate) fn lay_out(n: usize, a: usize, target: &mut [u8])
     requires { ⌜ (n ≤ mostVertices) × (a ≤ mostArcs) × (sizeOf n a ≤ length (now target)) ⌝ }
     ensures { λ _. ⌜ now (target .exit) ≡ laidDown n a (now (target .entry)) ⌝ }
@@ -88,7 +89,11 @@ pub(crate) fn lay_out(n: usize, a: usize, target: &mut [u8])
     while b < blocks {
         let kind = layout::kind_at(n, b);
         let count = layout::count_at(n, a, b);
-        words::put_word(target, 128 * b, lists::narrow(kind + 65536 * count));
+        words::put_word(
+            target,
+            128 * b,
+            lists::narrow(kind + 256 * block::NEW_KIND + 65536 * count),
+        );
         b += 1;
     }
 }
@@ -147,7 +152,7 @@ pub(crate) fn write_arcs(neighbours: &[u32], arc_weights: &[u32], n: usize, targ
     }
 }
 
-// Each block's last word, so that the sum of its words, wrapping, is zero. It gives the file's length.
+// Each block's last word, so that the sum of its words, wrapping, is the block's position. It gives the file's length.
 pub(crate) fn seal(n: usize, a: usize, target: &mut [u8]) -> u64
     requires { ⌜ (n ≤ mostVertices) × (a ≤ mostArcs) × (sizeOf n a ≤ length (now target)) ⌝ }
     ensures { λ r. ⌜ (r ≡ sizeOf n a) × (now (target .exit) ≡ sealed (blocksOf n a) (now (target .entry))) ⌝ }
@@ -156,7 +161,11 @@ pub(crate) fn seal(n: usize, a: usize, target: &mut [u8]) -> u64
     let mut b: usize = 0;
     while b < blocks {
         let sum = words::words_sum(target, 128 * b, 127);
-        words::put_word(target, 128 * b + 127, std::num::wrapping_sub_u32(0, sum));
+        words::put_word(
+            target,
+            128 * b + 127,
+            std::num::wrapping_sub_u32(lists::narrow(b), sum),
+        );
         b += 1;
     }
     (512 * blocks) as u64

@@ -7,10 +7,36 @@ use native.Mathlib.Nat.{mod-lt}
 use mathlib.Core.Logic.{_⊎_, inl, inr}
 use lib.Dec.{leb, ltb, eqb}
 use borrow.Author.Tests.{le-leb, lt-leb, ne-eqb, ltb-true, ltb-false, leb-true, leb-false}
-use Rattle.plan_blocks.specs.Block.{checkWord, blocksFor, blocksOf, heldBy, kindAt, countAt}
+use Rattle.imbalance.specs.Limit.{mostVertices, mostArcs}
+use Rattle.plan_blocks.specs.Word.{wrap, byteOf}
+use Rattle.plan_blocks.specs.Block.{newKind, opening, sumAt, checkWord, blocksFor, blocksOf, heldBy, kindAt, countAt}
 use Rattle.plan_blocks.specs.Plan.{Plan, headerIn}
 use Rattle.plan_blocks.specs.Encode.{headerWord, vertexWord, arcWord, recordWord, bodyWord, fileWord}
 use Rattle.plan_blocks.specs.Decode.{vertexAt, arcAt}
+
+-- the sum that a block must have is a word where its position is one
+pub sum-fits : (file b : ℕ) → b < wrap → sumAt file b < wrap
+unfolding sumAt
+sum-fits file b l = go (eqb file 0)
+  where
+    go : (t : Bool) → cond t 0 b < wrap
+    go true = omega arith
+    go false = l
+
+-- the second byte of a block's first word is the file's kind
+pub second-byte : (file kind count : ℕ) → kind < 256 → file < 256 → byteOf (opening file kind count) 1 ≡ file
+unfolding byteOf
+second-byte file kind count l m = omega arith
+
+-- the sum that a block of a new file must have is its position
+pub new-sum : (file b : ℕ) → file ≡ newKind → sumAt file b ≡ b
+unfolding sumAt
+new-sum file b e = rw e
+
+-- a block's position is a word: the largest plan there is has 1,108 blocks
+pub position-fits : (n a b : ℕ) → n ≤ mostVertices → a ≤ mostArcs → b < blocksOf n a → b < wrap
+unfolding blocksOf blocksFor
+position-fits n a b few fewArcs l = omega arith
 
 -- the records that a block of a later kind holds: at most 63, and record j of block i is one of them where it is one of all
 pub held-most : (m i : ℕ) → heldBy m i ≤ 63
@@ -69,27 +95,27 @@ halves r f = go (r % 2) (mod-lt r (omega arith))
     go (suc zero) l = refl
     go (suc (suc m)) l = absurd (omega arith)
 
-module _ (must second : ℕ) (p : Plan) where
+module _ (file : ℕ) (p : Plan) where
   -- the words of block b
-  pub file-body : (b j : ℕ) → j < 127 → fileWord must second p (128 * b + j) ≡ bodyWord second p b j
+  pub file-body : (b j : ℕ) → j < 127 → fileWord file p (128 * b + j) ≡ bodyWord file p b j
   unfolding fileWord
   file-body b j l =
       let q : (128 * b + j) / 128 ≡ b = omega arith in
       let r : (128 * b + j) % 128 ≡ j = omega arith in
       rw (q, r) (simp (ne-eqb j 127 (λ e. omega arith)))
 
-  pub file-check : (b : ℕ) → fileWord must second p (128 * b + 127) ≡ checkWord must (bodyWord second p b)
+  pub file-check : (b : ℕ) → fileWord file p (128 * b + 127) ≡ checkWord (sumAt file b) (bodyWord file p b)
   unfolding fileWord
   file-check b =
       let q : (128 * b + 127) / 128 ≡ b = omega arith in
       let r : (128 * b + 127) % 128 ≡ 127 = omega arith in
       rw (q, r)
 
-  pub body-record : (b j : ℕ) → 0 < j → j ≤ 2 * countAt (p .n) (p .a) b → bodyWord second p b j ≡ recordWord p b (j - 1)
+  pub body-record : (b j : ℕ) → 0 < j → j ≤ 2 * countAt (p .n) (p .a) b → bodyWord file p b j ≡ recordWord p b (j - 1)
   unfolding bodyWord
   body-record b j z l = simp (ne-eqb j 0 (λ e. omega arith), le-leb j (2 * countAt (p .n) (p .a) b) l)
 
-  pub body-rest : (b j : ℕ) → 2 * countAt (p .n) (p .a) b < j → bodyWord second p b j ≡ 0
+  pub body-rest : (b j : ℕ) → 2 * countAt (p .n) (p .a) b < j → bodyWord file p b j ≡ 0
   unfolding bodyWord
   body-rest b j l = simp (ne-eqb j 0 (λ e. omega arith), lt-leb j (2 * countAt (p .n) (p .a) b) l)
 
@@ -121,19 +147,19 @@ module _ (p : Plan) (i r : ℕ) where
       simp (ne-eqb (1 + blocksFor (p .n) + i) 0 (λ e. omega arith), lt-leb (1 + blocksFor (p .n) + i) (blocksFor (p .n)) (omega arith), q)
 
 -- the six words of the header's records, in the file
-pub header-words : (must second : ℕ) (p : Plan) (r : ℕ) → r < 6 → fileWord must second p (1 + r) ≡ headerWord (headerIn p) r
+pub header-words : (file : ℕ) (p : Plan) (r : ℕ) → r < 6 → fileWord file p (1 + r) ≡ headerWord (headerIn p) r
 unfolding countAt recordWord
-header-words must second p r l =
+header-words file p r l =
     let z : 1 + r ≡ 128 * 0 + (1 + r) = omega arith in
     let q : 1 + r - 1 ≡ r = omega arith in
-    ap (fileWord must second p) z
-    ∙ file-body must second p 0 (1 + r) (omega arith)
-    ∙ body-record must second p 0 (1 + r) (omega arith) (omega arith)
+    ap (fileWord file p) z
+    ∙ file-body file p 0 (1 + r) (omega arith)
+    ∙ body-record file p 0 (1 + r) (omega arith) (omega arith)
     ∙ ap (headerWord (headerIn p)) q
 
 -- the two words of a vertex's record and of an arc's, in the file
-module _ (must second : ℕ) (p : Plan) (t : ℕ) (l : t < 2) where
-  pub vertex-words : (v : ℕ) → v < p .n → fileWord must second p (vertexAt v + t) ≡ vertexWord p (2 * v + t)
+module _ (file : ℕ) (p : Plan) (t : ℕ) (l : t < 2) where
+  pub vertex-words : (v : ℕ) → v < p .n → fileWord file p (vertexAt v + t) ≡ vertexWord p (2 * v + t)
   unfolding blocksFor
   vertex-words v h =
       let i = v / 63 in
@@ -142,13 +168,13 @@ module _ (must second : ℕ) (p : Plan) (t : ℕ) (l : t < 2) where
       let c = held-at (p .n) i (v % 63) (omega arith) (omega arith) in
       let e = vertex-block (p .n) (p .a) i (omega arith) in
       let r : 126 * i + (j - 1) ≡ 2 * v + t = omega arith in
-      ap (fileWord must second p) q
-      ∙ file-body must second p (1 + i) j (omega arith)
-      ∙ body-record must second p (1 + i) j (omega arith) (omega arith)
+      ap (fileWord file p) q
+      ∙ file-body file p (1 + i) j (omega arith)
+      ∙ body-record file p (1 + i) j (omega arith) (omega arith)
       ∙ vertex-record p i (j - 1) (omega arith)
       ∙ ap (vertexWord p) r
 
-  pub arc-words : (e : ℕ) → e < p .a → fileWord must second p (arcAt (p .n) e + t) ≡ arcWord p (2 * e + t)
+  pub arc-words : (e : ℕ) → e < p .a → fileWord file p (arcAt (p .n) e + t) ≡ arcWord p (2 * e + t)
   arc-words e h =
       let i = e / 63 in
       let j = 1 + 2 * (e % 63) + t in
@@ -157,9 +183,9 @@ module _ (must second : ℕ) (p : Plan) (t : ℕ) (l : t < 2) where
       let c = held-at (p .a) i (e % 63) (omega arith) (omega arith) in
       let g = arc-block (p .n) (p .a) i in
       let r : 126 * i + (j - 1) ≡ 2 * e + t = omega arith in
-      ap (fileWord must second p) q
-      ∙ file-body must second p b j (omega arith)
-      ∙ body-record must second p b j (omega arith) (omega arith)
+      ap (fileWord file p) q
+      ∙ file-body file p b j (omega arith)
+      ∙ body-record file p b j (omega arith) (omega arith)
       ∙ arc-record p i (j - 1)
       ∙ ap (arcWord p) r
 

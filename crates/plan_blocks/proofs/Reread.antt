@@ -17,13 +17,13 @@ use Rattle.lists.proofs.Sums.{sum-more}
 use Rattle.lists.proofs.Totals.{sum-ext, sum-holds}
 use Rattle.lists.proofs.Alls.{all-every, from-every}
 use Rattle.lists.proofs.Tables.{length-table, table-at}
-use Rattle.plan_blocks.specs.Word.{wrap, word}
-use Rattle.plan_blocks.specs.Block.{opening, checks, laidOut, checkWord, blocksFor, blocksOf, heldBy, kindAt, countAt}
+use Rattle.plan_blocks.specs.Word.{wrap, word, byteOf, bytes}
+use Rattle.plan_blocks.specs.Block.{opening, sumAt, checks, laidOut, checkWord, blocksFor, blocksOf, heldBy, kindAt, countAt}
 use Rattle.plan_blocks.specs.Plan.{Plan, headerIn, Legal, unfitValue}
 use Rattle.plan_blocks.specs.Encode.{headerWord, vertexWord, arcWord, recordWord, bodyWord, fileWord, encode}
-use Rattle.plan_blocks.specs.Decode.{inBlock, blocksIn, vertexAt, arcAt, labelAt, degreeAt, laterLaid, labelled, planOf, fileNumber}
-use Rattle.plan_blocks.proofs.WordLaws.{word-bytes, length-bytes}
-use Rattle.plan_blocks.proofs.Places.{held-in, count-most, kind-most, file-body, file-check, body-rest, vertex-block, arc-block, vertex-record, arc-record, header-words, vertex-words, arc-words, by-kind}
+use Rattle.plan_blocks.specs.Decode.{inBlock, blocksIn, kindOf, vertexAt, arcAt, labelAt, degreeAt, laterLaid, labelled, planOf, fileNumber}
+use Rattle.plan_blocks.proofs.WordLaws.{byteIn, word-bytes, length-bytes}
+use Rattle.plan_blocks.proofs.Places.{sum-fits, second-byte, position-fits, held-in, count-most, kind-most, file-body, file-check, body-rest, vertex-block, arc-block, vertex-record, arc-record, header-words, vertex-words, arc-words, by-kind}
 use Rattle.plan_blocks.proofs.Accepts.{Accepted, InRange, in-range, accepted-number}
 
 -- the choices are 0, 1 and 2
@@ -36,18 +36,18 @@ choice-most (suc (suc (suc c))) value h =
     let no : true ≡ false = simp (ne-eqb (suc (suc (suc c))) 0 (λ e. omega arith), ne-eqb (suc (suc (suc c))) 1 (λ e. omega arith), ne-eqb (suc (suc (suc c))) 2 (λ e. omega arith)) at h in
     clash true refl no
 
--- a sum and the word that brings it to 0
-check-brings : (s : ℕ) → (s + (0 + (wrap - s % wrap)) % wrap) % wrap ≡ 0
-check-brings s = omega arith
+-- a sum and the word that brings it to what it must be
+check-brings : (s must : ℕ) → must < wrap → (s + (must + (wrap - s % wrap)) % wrap) % wrap ≡ must
+check-brings s must l = omega arith
 
 -- a block is laid out where its words say so
-laid-out : (second kind count : ℕ) (w : ℕ → ℕ) → w 0 ≡ opening second kind count → ((j : ℕ) → 2 * count < j → j < 127 → w j ≡ 0) → laidOut second kind count w ≡ true
+laid-out : (file kind count : ℕ) (w : ℕ → ℕ) → w 0 ≡ opening file kind count → ((j : ℕ) → 2 * count < j → j < 127 → w j ≡ 0) → laidOut file kind count w ≡ true
 unfolding laidOut
-laid-out second kind count w e h =
-    rw (eq-eqb (w 0) (opening second kind count) e)
+laid-out file kind count w e h =
+    rw (eq-eqb (w 0) (opening file kind count) e)
     (from-every (1 + 2 * count) 127 (λ j. eqb (w j) 0) (λ j l m. eq-eqb (w j) 0 (h j (omega arith) m)))
 
-module _ (p : Plan) (g : Legal p) where
+module _ (p : Plan) (g : Legal p) (file : ℕ) (known : file ≤ 1) where
   inside : InRange (p .n) (p .a) (p .k)
   inside = in-range (p .n) (p .a) (p .k) (g .ranged)
 
@@ -107,11 +107,11 @@ module _ (p : Plan) (g : Legal p) where
           let x : recordWord p (suc b) r ≡ arcWord p (126 * i + r) = ap (λ (x : ℕ). recordWord p x r) e ∙ arc-record p i r in
           rw x (arc-fits (126 * i + r) (omega arith))
 
-  body-fits : (b j : ℕ) → b < blocksOf (p .n) (p .a) → bodyWord 0 p b j < wrap
+  body-fits : (b j : ℕ) → b < blocksOf (p .n) (p .a) → bodyWord file p b j < wrap
   unfolding bodyWord
   body-fits b j l = go (eqb j 0) refl (leb j (2 * countAt (p .n) (p .a) b)) refl
     where
-      go : (s : Bool) → eqb j 0 ≡ s → (t : Bool) → leb j (2 * countAt (p .n) (p .a) b) ≡ t → cond s (opening 0 (kindAt (p .n) b) (countAt (p .n) (p .a) b)) (cond t (recordWord p b (j - 1)) 0) < wrap
+      go : (s : Bool) → eqb j 0 ≡ s → (t : Bool) → leb j (2 * countAt (p .n) (p .a) b) ≡ t → cond s (opening file (kindAt (p .n) b) (countAt (p .n) (p .a) b)) (cond t (recordWord p b (j - 1)) 0) < wrap
       go true e t f = let c = count-most (p .n) (p .a) b in let k = kind-most (p .n) b in omega arith
       go false e true f =
           let z = eqb-false j 0 e in
@@ -119,69 +119,69 @@ module _ (p : Plan) (g : Legal p) where
           record-fits b (j - 1) l (omega (arith, z))
       go false e false f = omega arith
 
-  file-fits : (w : ℕ) → w < 128 * blocksOf (p .n) (p .a) → fileWord 0 0 p w < wrap
+  file-fits : (w : ℕ) → w < 128 * blocksOf (p .n) (p .a) → fileWord file p w < wrap
   unfolding fileWord checkWord
   file-fits w l = go (eqb (w % 128) 127)
     where
-      go : (t : Bool) → cond t ((0 + (wrap - sum 127 (bodyWord 0 p (w / 128)) % wrap)) % wrap) (bodyWord 0 p (w / 128) (w % 128)) < wrap
-      go true = mod-lt (0 + (wrap - sum 127 (bodyWord 0 p (w / 128)) % wrap)) (omega arith)
+      go : (t : Bool) → cond t ((sumAt file (w / 128) + (wrap - sum 127 (bodyWord file p (w / 128)) % wrap)) % wrap) (bodyWord file p (w / 128) (w % 128)) < wrap
+      go true = mod-lt (sumAt file (w / 128) + (wrap - sum 127 (bodyWord file p (w / 128)) % wrap)) (omega arith)
       go false = body-fits (w / 128) (w % 128) (omega arith)
 
   -- the words of the file
-  word-is : (w : ℕ) → w < 128 * blocksOf (p .n) (p .a) → word (encode p) w ≡ fileWord 0 0 p w
+  word-is : (w : ℕ) → w < 128 * blocksOf (p .n) (p .a) → word (encode file p) w ≡ fileWord file p w
   unfolding encode
-  word-is w l = word-bytes (128 * blocksOf (p .n) (p .a)) (fileWord 0 0 p) w l (file-fits w l)
+  word-is w l = word-bytes (128 * blocksOf (p .n) (p .a)) (fileWord file p) w l (file-fits w l)
 
-  pub length-is : length (encode p) ≡ 512 * blocksOf (p .n) (p .a)
+  pub length-is : length (encode file p) ≡ 512 * blocksOf (p .n) (p .a)
   unfolding encode
-  length-is = let e = length-bytes (128 * blocksOf (p .n) (p .a)) (fileWord 0 0 p) in omega arith
+  length-is = let e = length-bytes (128 * blocksOf (p .n) (p .a)) (fileWord file p) in omega arith
 
-  body-is : (b j : ℕ) → b < blocksOf (p .n) (p .a) → j < 127 → inBlock (encode p) b j ≡ bodyWord 0 p b j
-  body-is b j l m = word-is (128 * b + j) (omega arith) ∙ file-body 0 0 p b j m
+  body-is : (b j : ℕ) → b < blocksOf (p .n) (p .a) → j < 127 → inBlock (encode file p) b j ≡ bodyWord file p b j
+  body-is b j l m = word-is (128 * b + j) (omega arith) ∙ file-body file p b j m
 
-  header-is : (r : ℕ) → r < 6 → word (encode p) (1 + r) ≡ headerWord (headerIn p) r
+  header-is : (r : ℕ) → r < 6 → word (encode file p) (1 + r) ≡ headerWord (headerIn p) r
   unfolding blocksOf
-  header-is r l = word-is (1 + r) (omega arith) ∙ header-words 0 0 p r l
+  header-is r l = word-is (1 + r) (omega arith) ∙ header-words file p r l
 
   -- the two words of a record
-  vertex-is : (v t : ℕ) → v < p .n → t < 2 → word (encode p) (vertexAt v + t) ≡ vertexWord p (2 * v + t)
+  vertex-is : (v t : ℕ) → v < p .n → t < 2 → word (encode file p) (vertexAt v + t) ≡ vertexWord p (2 * v + t)
   unfolding blocksOf blocksFor
-  vertex-is v t l m = word-is (vertexAt v + t) (omega arith) ∙ vertex-words 0 0 p t m v l
+  vertex-is v t l m = word-is (vertexAt v + t) (omega arith) ∙ vertex-words file p t m v l
 
-  arc-is : (e t : ℕ) → e < p .a → t < 2 → word (encode p) (arcAt (p .n) e + t) ≡ arcWord p (2 * e + t)
+  arc-is : (e t : ℕ) → e < p .a → t < 2 → word (encode file p) (arcAt (p .n) e + t) ≡ arcWord p (2 * e + t)
   unfolding blocksOf blocksFor
-  arc-is e t l m = word-is (arcAt (p .n) e + t) (omega arith) ∙ arc-words 0 0 p t m e l
+  arc-is e t l m = word-is (arcAt (p .n) e + t) (omega arith) ∙ arc-words file p t m e l
 
-  weight-is : (v : ℕ) → v < p .n → word (encode p) (vertexAt v) ≡ getD (p .weights) v 0
+  weight-is : (v : ℕ) → v < p .n → word (encode file p) (vertexAt v) ≡ getD (p .weights) v 0
   unfolding vertexWord
   weight-is v l =
       let z : vertexAt v + 0 ≡ vertexAt v = omega arith in
       let q : (2 * v + 0) % 2 ≡ 0 = omega arith in
       let r : (2 * v + 0) / 2 ≡ v = omega arith in
-      ap (word (encode p)) (sym z) ∙ vertex-is v 0 l (omega arith) ∙ simp (q, r)
+      ap (word (encode file p)) (sym z) ∙ vertex-is v 0 l (omega arith) ∙ simp (q, r)
 
-  second-is : (v : ℕ) → v < p .n → word (encode p) (vertexAt v + 1) ≡ getD (p .labels) v 0 + 65536 * getD (p .degrees) v 0
+  second-is : (v : ℕ) → v < p .n → word (encode file p) (vertexAt v + 1) ≡ getD (p .labels) v 0 + 65536 * getD (p .degrees) v 0
   unfolding vertexWord
   second-is v l =
       let q : (2 * v + 1) % 2 ≡ 1 = omega arith in
       let r : (2 * v + 1) / 2 ≡ v = omega arith in
       vertex-is v 1 l (omega arith) ∙ simp (q, r)
 
-  label-is : (v : ℕ) → v < p .n → labelAt (encode p) v ≡ getD (p .labels) v 0
+  label-is : (v : ℕ) → v < p .n → labelAt (encode file p) v ≡ getD (p .labels) v 0
   label-is v l = let e = second-is v l in let i = inside in let f = g .labelsFit v l in omega arith
 
-  degree-is : (v : ℕ) → v < p .n → degreeAt (encode p) v ≡ getD (p .degrees) v 0
+  degree-is : (v : ℕ) → v < p .n → degreeAt (encode file p) v ≡ getD (p .degrees) v 0
   degree-is v l = let e = second-is v l in let i = inside in let f = g .labelsFit v l in omega arith
 
-  neighbour-is : (e : ℕ) → e < p .a → word (encode p) (arcAt (p .n) e) ≡ getD (p .neighbours) e 0
+  neighbour-is : (e : ℕ) → e < p .a → word (encode file p) (arcAt (p .n) e) ≡ getD (p .neighbours) e 0
   unfolding arcWord
   neighbour-is e l =
       let z : arcAt (p .n) e + 0 ≡ arcAt (p .n) e = omega arith in
       let q : (2 * e + 0) % 2 ≡ 0 = omega arith in
       let r : (2 * e + 0) / 2 ≡ e = omega arith in
-      ap (word (encode p)) (sym z) ∙ arc-is e 0 l (omega arith) ∙ simp (q, r)
+      ap (word (encode file p)) (sym z) ∙ arc-is e 0 l (omega arith) ∙ simp (q, r)
 
-  arc-weight-is : (e : ℕ) → e < p .a → word (encode p) (arcAt (p .n) e + 1) ≡ getD (p .arcWeights) e 0
+  arc-weight-is : (e : ℕ) → e < p .a → word (encode file p) (arcAt (p .n) e + 1) ≡ getD (p .arcWeights) e 0
   unfolding arcWord
   arc-weight-is e l =
       let q : (2 * e + 1) % 2 ≡ 1 = omega arith in
@@ -193,64 +193,73 @@ module _ (p : Plan) (g : Legal p) where
   listed m f xs e h =
       ext-getD 0 (table m f) xs (length-table m f ∙ sym e) (λ i l. (let k = length-table m f in let j : i < m = omega arith in table-at m i 0 f j ∙ h i j))
 
-  n-is : word (encode p) 1 ≡ p .n
+  n-is : word (encode file p) 1 ≡ p .n
   unfolding headerWord
   n-is = header-is 0 (omega arith)
 
-  a-is : word (encode p) 2 ≡ p .a
+  a-is : word (encode file p) 2 ≡ p .a
   unfolding headerWord
   a-is = header-is 1 (omega arith)
 
-  k-is : word (encode p) 3 ≡ p .k
+  k-is : word (encode file p) 3 ≡ p .k
   unfolding headerWord
   k-is = header-is 2 (omega arith)
 
-  choice-is : word (encode p) 4 ≡ p .choice
+  choice-is : word (encode file p) 4 ≡ p .choice
   unfolding headerWord
   choice-is = header-is 3 (omega arith)
 
-  value-is : word (encode p) 5 + wrap * word (encode p) 6 ≡ p .value
+  value-is : word (encode file p) 5 + wrap * word (encode file p) 6 ≡ p .value
   unfolding headerWord
   value-is = let x = header-is 4 (omega arith) in let y = header-is 5 (omega arith) in omega arith
 
-  checks-is : (b : ℕ) → b < blocksOf (p .n) (p .a) → checks 0 (inBlock (encode p) b) ≡ true
+  -- the file's kind is the second byte of its first word
+  pub kind-is : kindOf (encode file p) ≡ file
+  unfolding encode bytes bodyWord kindAt countAt blocksOf
+  kind-is =
+      table-at (4 * (128 * blocksOf (p .n) (p .a))) 1 0 (byteIn (fileWord file p)) (omega arith)
+      ∙ ap (λ (x : ℕ). byteOf x 1) (file-body file p 0 0 (omega arith))
+      ∙ second-byte file 1 3 (omega arith) (omega arith)
+
+  checks-is : (b : ℕ) → b < blocksOf (p .n) (p .a) → checks (sumAt file b) (inBlock (encode file p) b) ≡ true
   unfolding checks checkWord
   checks-is b l =
-      let e : sum 127 (inBlock (encode p) b) ≡ sum 127 (bodyWord 0 p b) = sum-ext 127 (inBlock (encode p) b) (bodyWord 0 p b) (λ j m. body-is b j l m) in
-      let f = word-is (128 * b + 127) (omega arith) ∙ file-check 0 0 p b in
-      let d : sum 128 (inBlock (encode p) b) ≡ sum 127 (bodyWord 0 p b) + (0 + (wrap - sum 127 (bodyWord 0 p b) % wrap)) % wrap = sum-more 127 (inBlock (encode p) b) ∙ ap₂ _+_ e f in
-      eq-eqb (sum 128 (inBlock (encode p) b) % wrap) 0 (ap (λ (x : ℕ). x % wrap) d ∙ check-brings (sum 127 (bodyWord 0 p b)))
+      let e : sum 127 (inBlock (encode file p) b) ≡ sum 127 (bodyWord file p b) = sum-ext 127 (inBlock (encode file p) b) (bodyWord file p b) (λ j m. body-is b j l m) in
+      let f = word-is (128 * b + 127) (omega arith) ∙ file-check file p b in
+      let d : sum 128 (inBlock (encode file p) b) ≡ sum 127 (bodyWord file p b) + (sumAt file b + (wrap - sum 127 (bodyWord file p b) % wrap)) % wrap = sum-more 127 (inBlock (encode file p) b) ∙ ap₂ _+_ e f in
+      eq-eqb (sum 128 (inBlock (encode file p) b) % wrap) (sumAt file b) (ap (λ (x : ℕ). x % wrap) d ∙ check-brings (sum 127 (bodyWord file p b)) (sumAt file b) (sum-fits file b (position-fits (p .n) (p .a) b (inside .few) (inside .fewArcs) l)))
 
-  laid-is : (b : ℕ) → b < blocksOf (p .n) (p .a) → laidOut 0 (kindAt (p .n) b) (countAt (p .n) (p .a) b) (inBlock (encode p) b) ≡ true
+  laid-is : (b : ℕ) → b < blocksOf (p .n) (p .a) → laidOut file (kindAt (p .n) b) (countAt (p .n) (p .a) b) (inBlock (encode file p) b) ≡ true
   unfolding bodyWord
   laid-is b l =
-      laid-out 0 (kindAt (p .n) b) (countAt (p .n) (p .a) b) (inBlock (encode p) b)
+      laid-out file (kindAt (p .n) b) (countAt (p .n) (p .a) b) (inBlock (encode file p) b)
       (body-is b 0 l (omega arith))
-      (λ j m k. body-is b j l k ∙ body-rest 0 0 p b j m)
+      (λ j m k. body-is b j l k ∙ body-rest file p b j m)
 
-  first-laid : laidOut 0 1 3 (inBlock (encode p) 0) ≡ true
+  first-laid : laidOut file 1 3 (inBlock (encode file p) 0) ≡ true
   unfolding kindAt countAt blocksOf
   first-laid = laid-is 0 (omega arith)
 
-  accepted-is : Accepted (encode p) (p .n) (p .a) (p .k) (p .choice) (p .value)
+  accepted-is : Accepted (encode file p) file (p .n) (p .a) (p .k) (p .choice) (p .value)
   unfolding laterLaid labelled
   accepted-is =
       record {
+        known = known;
         sized = length-is;
-        checked = all-every (blocksIn (encode p)) (λ b. checks 0 (inBlock (encode p) b)) (λ b l. checks-is b (let e = length-is in omega arith));
+        checked = all-every (blocksIn (encode file p)) (λ b. checks (sumAt file b) (inBlock (encode file p) b)) (λ b l. checks-is b (let e = length-is in omega arith));
         header = first-laid;
         ranged = g .ranged;
         fit = g .fit;
         later =
-            from-every 1 (blocksIn (encode p)) (λ b. laidOut 0 (kindAt (p .n) b) (countAt (p .n) (p .a) b) (inBlock (encode p) b)) (λ b z l. laid-is b (let e = length-is in omega arith));
-        rows = sum-ext (p .n) (degreeAt (encode p)) (λ v. getD (p .degrees) v 0) degree-is ∙ g .degreesSum;
-        named = all-every (p .n) (λ v. ltb (labelAt (encode p) v) (p .k)) (λ v l. lt-ltb (labelAt (encode p) v) (p .k) (rw (label-is v l) (g .labelsFit v l)));
+            from-every 1 (blocksIn (encode file p)) (λ b. laidOut file (kindAt (p .n) b) (countAt (p .n) (p .a) b) (inBlock (encode file p) b)) (λ b z l. laid-is b (let e = length-is in omega arith));
+        rows = sum-ext (p .n) (degreeAt (encode file p)) (λ v. getD (p .degrees) v 0) degree-is ∙ g .degreesSum;
+        named = all-every (p .n) (λ v. ltb (labelAt (encode file p) v) (p .k)) (λ v l. lt-ltb (labelAt (encode file p) v) (p .k) (rw (label-is v l) (g .labelsFit v l)));
       }
 
-  pub same-number : fileNumber (encode p) ≡ 0
-  same-number = accepted-number (encode p) (p .n) (p .a) (p .k) (p .choice) (p .value) n-is a-is k-is choice-is value-is accepted-is
+  pub same-number : fileNumber (encode file p) ≡ 0
+  same-number = accepted-number (encode file p) file (p .n) (p .a) (p .k) (p .choice) (p .value) kind-is n-is a-is k-is choice-is value-is accepted-is
 
-  pub same-plan : planOf (encode p) ≡ p
+  pub same-plan : planOf (encode file p) ≡ p
   unfolding planOf
   same-plan =
       rw (n-is, a-is, k-is, choice-is, value-is)
@@ -260,9 +269,9 @@ module _ (p : Plan) (g : Legal p) where
         k = p .k;
         choice = p .choice;
         value = p .value;
-        weights = listed (p .n) (λ v. word (encode p) (vertexAt v)) (p .weights) (g .weighed) weight-is i;
-        labels = listed (p .n) (labelAt (encode p)) (p .labels) (g .labelled) label-is i;
-        degrees = listed (p .n) (degreeAt (encode p)) (p .degrees) (g .degreed) degree-is i;
-        neighbours = listed (p .a) (λ e. word (encode p) (arcAt (p .n) e)) (p .neighbours) (g .joined) neighbour-is i;
-        arcWeights = listed (p .a) (λ e. word (encode p) (arcAt (p .n) e + 1)) (p .arcWeights) (g .paired) arc-weight-is i;
+        weights = listed (p .n) (λ v. word (encode file p) (vertexAt v)) (p .weights) (g .weighed) weight-is i;
+        labels = listed (p .n) (labelAt (encode file p)) (p .labels) (g .labelled) label-is i;
+        degrees = listed (p .n) (degreeAt (encode file p)) (p .degrees) (g .degreed) degree-is i;
+        neighbours = listed (p .a) (λ e. word (encode file p) (arcAt (p .n) e)) (p .neighbours) (g .joined) neighbour-is i;
+        arcWeights = listed (p .a) (λ e. word (encode file p) (arcAt (p .n) e + 1)) (p .arcWeights) (g .paired) arc-weight-is i;
       })

@@ -13,29 +13,29 @@ use Rattle.lists.specs.All.{allFrom}
 use Rattle.lists.proofs.Bools.{and-left, and-right}
 use Rattle.lists.proofs.Sums.{sum-more}
 use Rattle.lists.proofs.Totals.{sum-ext}
-use Rattle.lists.proofs.Alls.{all-at, from-at}
+use Rattle.lists.proofs.Alls.{from-at}
 use Rattle.lists.proofs.Tables.{table-at}
 use Rattle.plan_blocks.specs.Word.{wrap, word}
-use Rattle.plan_blocks.specs.Block.{opening, checks, laidOut, checkWord, blocksFor, blocksOf, heldBy, kindAt, countAt}
+use Rattle.plan_blocks.specs.Block.{opening, sumAt, checks, laidOut, checkWord, blocksFor, blocksOf, heldBy, kindAt, countAt}
 use Rattle.plan_blocks.specs.Encode.{headerWord, vertexWord, arcWord, recordWord, bodyWord, fileWord, encode}
-use Rattle.plan_blocks.specs.Decode.{inBlock, blocksIn, vertexAt, arcAt, labelAt, degreeAt, laterLaid, headerAt, planOf}
+use Rattle.plan_blocks.specs.Decode.{inBlock, blocksIn, kindOf, vertexAt, arcAt, labelAt, degreeAt, laterLaid, headerAt, planOf}
 use Rattle.plan_blocks.proofs.WordLaws.{Bytes, word-below, bytes-ext, bytes-word}
-use Rattle.plan_blocks.proofs.Places.{held-in, count-most, placed, halves, file-body, file-check, body-record, body-rest, vertex-block, arc-block, vertex-record, arc-record, by-kind}
-use Rattle.plan_blocks.proofs.Accepts.{Accepted}
+use Rattle.plan_blocks.proofs.Places.{sum-fits, position-fits, held-in, count-most, placed, halves, file-body, file-check, body-record, body-rest, vertex-block, arc-block, vertex-record, arc-record, by-kind}
+use Rattle.plan_blocks.proofs.Accepts.{Accepted, in-range, checked-sum}
 
 -- a block that is laid out: its first word, and its unused places
-module _ (second kind count : ℕ) (w : ℕ → ℕ) (h : laidOut second kind count w ≡ true) where
-  pub laid-first : w 0 ≡ opening second kind count
+module _ (file kind count : ℕ) (w : ℕ → ℕ) (h : laidOut file kind count w ≡ true) where
+  pub laid-first : w 0 ≡ opening file kind count
   unfolding laidOut
-  laid-first = eqb-true (w 0) (opening second kind count) (and-left (eqb (w 0) (opening second kind count)) (allFrom (1 + 2 * count) 127 (λ i. eqb (w i) 0)) h)
+  laid-first = eqb-true (w 0) (opening file kind count) (and-left (eqb (w 0) (opening file kind count)) (allFrom (1 + 2 * count) 127 (λ i. eqb (w i) 0)) h)
 
   pub laid-rest : (j : ℕ) → 2 * count < j → j < 127 → w j ≡ 0
   unfolding laidOut
-  laid-rest j l m = eqb-true (w j) 0 (from-at (1 + 2 * count) 127 (λ i. eqb (w i) 0) j (and-right (eqb (w 0) (opening second kind count)) (allFrom (1 + 2 * count) 127 (λ i. eqb (w i) 0)) h) (omega arith) m)
+  laid-rest j l m = eqb-true (w j) 0 (from-at (1 + 2 * count) 127 (λ i. eqb (w i) 0) j (and-right (eqb (w 0) (opening file kind count)) (allFrom (1 + 2 * count) 127 (λ i. eqb (w i) 0)) h) (omega arith) m)
 
--- the word that brings a sum to 0 is the one that checks
-check-is : (s x : ℕ) → x < wrap → (s + x) % wrap ≡ 0 → (0 + (wrap - s % wrap)) % wrap ≡ x
-check-is s x l e = omega arith
+-- the word that brings a sum to what it must be is the one that checks
+check-is : (s x must : ℕ) → x < wrap → must < wrap → (s + x) % wrap ≡ must → (must + (wrap - s % wrap)) % wrap ≡ x
+check-is s x must l m e = omega arith
 
 module _ (s : List ℕ) (h : Bytes s) where
   -- the words of the header's records
@@ -75,21 +75,21 @@ module _ (s : List ℕ) (h : Bytes s) where
       (table-at (word s 2) e 0 (λ u. word s (arcAt (word s 1) u + 1)) l)
       ∙ halves r f
 
-module _ (s : List ℕ) (h : Bytes s) (g : Accepted s (word s 1) (word s 2) (word s 3) (word s 4) (word s 5 + wrap * word s 6)) where
+module _ (s : List ℕ) (h : Bytes s) (g : Accepted s (kindOf s) (word s 1) (word s 2) (word s 3) (word s 4) (word s 5 + wrap * word s 6)) where
   -- every block is laid out
-  laid : (b : ℕ) → b < blocksOf (word s 1) (word s 2) → laidOut 0 (kindAt (word s 1) b) (countAt (word s 1) (word s 2) b) (inBlock s b) ≡ true
+  pub laid : (b : ℕ) → b < blocksOf (word s 1) (word s 2) → laidOut (kindOf s) (kindAt (word s 1) b) (countAt (word s 1) (word s 2) b) (inBlock s b) ≡ true
   unfolding laterLaid kindAt countAt
   laid zero l = g .header
   laid (suc b) l =
-      from-at 1 (blocksIn s) (λ b. laidOut 0 (kindAt (word s 1) b) (countAt (word s 1) (word s 2) b) (inBlock s b)) (suc b) (g .later) (omega arith) (let z = g .sized in omega arith)
+      from-at 1 (blocksIn s) (λ b. laidOut (kindOf s) (kindAt (word s 1) b) (countAt (word s 1) (word s 2) b) (inBlock s b)) (suc b) (g .later) (omega arith) (let z = g .sized in omega arith)
 
   first-record : (r : ℕ) → r < 2 * countAt (word s 1) (word s 2) 0 → recordWord (planOf s) 0 r ≡ word s (128 * 0 + (r + 1))
   unfolding recordWord countAt planOf
   first-record r m = header-word s h r m ∙ ap (word s) (sym (zero-add (r + 1)))
 
-  opens : (b : ℕ) → b < blocksOf (word s 1) (word s 2) → bodyWord 0 (planOf s) b 0 ≡ word s (128 * b + 0)
+  opens : (b : ℕ) → b < blocksOf (word s 1) (word s 2) → bodyWord (kindOf s) (planOf s) b 0 ≡ word s (128 * b + 0)
   unfolding bodyWord planOf
-  opens b l = sym (laid-first 0 _ _ (inBlock s b) (laid b l))
+  opens b l = sym (laid-first (kindOf s) _ _ (inBlock s b) (laid b l))
 
   -- the words of a block's records
   same-record : (b r : ℕ) → b < blocksOf (word s 1) (word s 2) → r < 2 * countAt (word s 1) (word s 2) b → recordWord (planOf s) b r ≡ word s (128 * b + (r + 1))
@@ -130,50 +130,51 @@ module _ (s : List ℕ) (h : Bytes s) (g : Accepted s (word s 1) (word s 2) (wor
           ∙ ap (word s) o
 
   -- the words of a block but its check
-  same-body : (b j : ℕ) → b < blocksOf (word s 1) (word s 2) → j < 127 → bodyWord 0 (planOf s) b j ≡ word s (128 * b + j)
+  same-body : (b j : ℕ) → b < blocksOf (word s 1) (word s 2) → j < 127 → bodyWord (kindOf s) (planOf s) b j ≡ word s (128 * b + j)
   unfolding planOf
   same-body b zero l m = opens b l
   same-body b (suc j) l m = go (leb (suc j) (2 * countAt (word s 1) (word s 2) b)) refl
     where
-      go : (t : Bool) → leb (suc j) (2 * countAt (word s 1) (word s 2) b) ≡ t → bodyWord 0 (planOf s) b (suc j) ≡ word s (128 * b + suc j)
+      go : (t : Bool) → leb (suc j) (2 * countAt (word s 1) (word s 2) b) ≡ t → bodyWord (kindOf s) (planOf s) b (suc j) ≡ word s (128 * b + suc j)
       go true e =
           let k = leb-true (suc j) (2 * countAt (word s 1) (word s 2) b) e in
           let q : suc j - 1 ≡ j = omega arith in
           let o : j + 1 ≡ suc j = omega arith in
-          body-record 0 0 (planOf s) b (suc j) (omega arith) k
+          body-record (kindOf s) (planOf s) b (suc j) (omega arith) k
           ∙ ap (recordWord (planOf s) b) q
           ∙ same-record b j l (omega arith)
           ∙ ap (λ (x : ℕ). word s (128 * b + x)) o
       go false e =
           let k = leb-false (suc j) (2 * countAt (word s 1) (word s 2) b) e in
-          body-rest 0 0 (planOf s) b (suc j) k ∙ sym (laid-rest 0 _ _ (inBlock s b) (laid b l) (suc j) k m)
+          body-rest (kindOf s) (planOf s) b (suc j) k ∙ sym (laid-rest (kindOf s) _ _ (inBlock s b) (laid b l) (suc j) k m)
 
   -- its check
-  same-check : (b : ℕ) → b < blocksOf (word s 1) (word s 2) → checkWord 0 (bodyWord 0 (planOf s) b) ≡ word s (128 * b + 127)
+  same-check : (b : ℕ) → b < blocksOf (word s 1) (word s 2) → checkWord (sumAt (kindOf s) b) (bodyWord (kindOf s) (planOf s) b) ≡ word s (128 * b + 127)
   unfolding checkWord checks
   same-check b l =
-      let e : sum 127 (bodyWord 0 (planOf s) b) ≡ sum 127 (inBlock s b) = sum-ext 127 (bodyWord 0 (planOf s) b) (inBlock s b) (λ j m. same-body b j l m) in
-      let c = eqb-true (sum 128 (inBlock s b) % wrap) 0 (all-at (blocksIn s) b (λ b. checks 0 (inBlock s b)) (g .checked) (let z = g .sized in omega arith)) in
-      let d : (sum 127 (inBlock s b) + word s (128 * b + 127)) % wrap ≡ 0 = ap (λ (x : ℕ). x % wrap) (sym (sum-more 127 (inBlock s b))) ∙ c in
-      rw e (check-is (sum 127 (inBlock s b)) (word s (128 * b + 127)) (word-below s h (128 * b + 127)) d)
+      let i = in-range (word s 1) (word s 2) (word s 3) (g .ranged) in
+      let e : sum 127 (bodyWord (kindOf s) (planOf s) b) ≡ sum 127 (inBlock s b) = sum-ext 127 (bodyWord (kindOf s) (planOf s) b) (inBlock s b) (λ j m. same-body b j l m) in
+      let c = checked-sum s _ _ _ _ _ _ b g (let z = g .sized in omega arith) in
+      let d : (sum 127 (inBlock s b) + word s (128 * b + 127)) % wrap ≡ sumAt (kindOf s) b = ap (λ (x : ℕ). x % wrap) (sym (sum-more 127 (inBlock s b))) ∙ c in
+      rw e (check-is (sum 127 (inBlock s b)) (word s (128 * b + 127)) (sumAt (kindOf s) b) (word-below s h (128 * b + 127)) (sum-fits (kindOf s) b (position-fits (word s 1) (word s 2) b (i .few) (i .fewArcs) l)) d)
 
-  same-word : (w : ℕ) → w < 128 * blocksOf (word s 1) (word s 2) → fileWord 0 0 (planOf s) w ≡ word s w
+  same-word : (w : ℕ) → w < 128 * blocksOf (word s 1) (word s 2) → fileWord (kindOf s) (planOf s) w ≡ word s w
   same-word w l = go (eqb (w % 128) 127) refl
     where
       q : 128 * (w / 128) + w % 128 ≡ w
       q = omega arith
 
-      go : (t : Bool) → eqb (w % 128) 127 ≡ t → fileWord 0 0 (planOf s) w ≡ word s w
+      go : (t : Bool) → eqb (w % 128) 127 ≡ t → fileWord (kindOf s) (planOf s) w ≡ word s w
       go true e =
           let k = eqb-true (w % 128) 127 e in
           let r : 128 * (w / 128) + 127 ≡ w = omega arith in
-          ap (fileWord 0 0 (planOf s)) (sym r) ∙ file-check 0 0 (planOf s) (w / 128) ∙ same-check (w / 128) (omega arith) ∙ ap (word s) r
+          ap (fileWord (kindOf s) (planOf s)) (sym r) ∙ file-check (kindOf s) (planOf s) (w / 128) ∙ same-check (w / 128) (omega arith) ∙ ap (word s) r
       go false e =
           let k = eqb-false (w % 128) 127 e in
-          ap (fileWord 0 0 (planOf s)) (sym q) ∙ file-body 0 0 (planOf s) (w / 128) (w % 128) (omega (arith, k)) ∙ same-body (w / 128) (w % 128) (omega arith) (omega (arith, k)) ∙ ap (word s) q
+          ap (fileWord (kindOf s) (planOf s)) (sym q) ∙ file-body (kindOf s) (planOf s) (w / 128) (w % 128) (omega (arith, k)) ∙ same-body (w / 128) (w % 128) (omega arith) (omega (arith, k)) ∙ ap (word s) q
 
-  pub same-bytes : encode (planOf s) ≡ s
+  pub same-bytes : encode (kindOf s) (planOf s) ≡ s
   unfolding encode planOf
   same-bytes =
-      bytes-ext (128 * blocksOf (word s 1) (word s 2)) (fileWord 0 0 (planOf s)) (word s) same-word
+      bytes-ext (128 * blocksOf (word s 1) (word s 2)) (fileWord (kindOf s) (planOf s)) (word s) same-word
       ∙ bytes-word s (128 * blocksOf (word s 1) (word s 2)) h (let z = g .sized in omega arith)

@@ -35,7 +35,7 @@ abbrev pub Bytes : List ℕ → Type 0
 Bytes s = (i : ℕ) → getD s i 0 < 256
 
 -- byte i of the word of four bytes
-byte-of-word : (s : List ℕ) → Bytes s → (w i : ℕ) → i < 4 → byteOf (word s w) i ≡ getD s (4 * w + i) 0
+pub byte-of-word : (s : List ℕ) → Bytes s → (w i : ℕ) → i < 4 → byteOf (word s w) i ≡ getD s (4 * w + i) 0
 unfolding word byteOf
 byte-of-word s h w zero l =
     let a = h (4 * w) in let b = h (4 * w + 1) in let c = h (4 * w + 2) in let d = h (4 * w + 3) in

@@ -1,5 +1,5 @@
--- A block, as its 128 words (document 01, "Plan blocks"), and how many blocks of each kind there are.
--- The sum that a block must have and the byte that must stand second are parameters; both are 0 today.
+-- A block, as its 128 words (document 01, "Plan blocks"; document 02, A2), and how many blocks of each kind there are.
+-- A file is of the old kind, 0, or of the new kind, 1. Byte 1 of its header says which; every block has the same byte, and the sum that a block must have follows from the header's.
 use mathlib.Core.Bool.{Bool, cond, _&&_}
 use Prim.Native.Nat.{ℕ, _+_, _-_, _*_, _/_, _%_}
 use lib.Dec.{leb, ltb, eqb}
@@ -7,17 +7,25 @@ use Rattle.lists.specs.Sum.{sum}
 use Rattle.lists.specs.All.{allFrom}
 use Rattle.plan_blocks.specs.Word.{wrap}
 
--- "kind, a zero byte, record count u16": a block's first word
-abbrev pub opening : ℕ → ℕ → ℕ → ℕ
-opening second kind count = kind + 256 * second + 65536 * count
+-- what the writer makes: "the writer makes only the new kind"
+abbrev pub newKind : ℕ
+newKind = 1
 
--- "the sum of its 128 words, wrapping, is zero"
+-- "kind, a zero byte, record count u16"; in a file of the new kind "byte 1 is 1": a block's first word
+abbrev pub opening : ℕ → ℕ → ℕ → ℕ
+opening file kind count = kind + 256 * file + 65536 * count
+
+-- the sum that block b's words must have in a file of this kind: zero in the old one, "the block's position in the file, counted from 0" in the new one
+unfoldable pub sumAt : ℕ → ℕ → ℕ
+sumAt file b = cond (eqb file 0) 0 b
+
+-- "the block's words now sum, wrapping, to" what they must
 unfoldable pub checks : ℕ → (ℕ → ℕ) → Bool
 checks must w = eqb (sum 128 w % wrap) must
 
--- a block is laid out as its kind and its count ask: the first word is right, and "Unused places are zero"
+-- a block is laid out as the kinds and its count ask: the first word is right, and "Unused places are zero"
 unfoldable pub laidOut : ℕ → ℕ → ℕ → (ℕ → ℕ) → Bool
-laidOut second kind count w = eqb (w 0) (opening second kind count) && allFrom (1 + 2 * count) 127 (λ j. eqb (w j) 0)
+laidOut file kind count w = eqb (w 0) (opening file kind count) && allFrom (1 + 2 * count) 127 (λ j. eqb (w j) 0)
 
 -- the word that makes the sum of the 128 words, wrapping, what it must be
 unfoldable pub checkWord : ℕ → (ℕ → ℕ) → ℕ

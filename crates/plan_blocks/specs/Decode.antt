@@ -1,15 +1,15 @@
--- The plan that a file holds, or the number that refuses it (document 01, "Plan blocks" and numbers 9 to 14).
+-- The plan that a file holds, or the number that refuses it (document 01, "Plan blocks" and numbers 9 to 14; document 02, A2).
 use mathlib.Core.Bool.{Bool, not, cond, _||_}
 use mathlib.Core.List.{List}
 use Prim.Native.Nat.{ℕ, _+_, _*_, _/_, _%_}
-use lib.ListN.{length}
+use lib.ListN.{length, getD}
 use lib.Dec.{ltb, eqb}
 use Rattle.lists.specs.Sum.{sum}
 use Rattle.lists.specs.All.{all, allFrom}
 use Rattle.lists.specs.Fill.{table}
 use Rattle.plan_blocks.specs.declared.header.Header.{Header}
 use Rattle.plan_blocks.specs.Word.{wrap, word}
-use Rattle.plan_blocks.specs.Block.{checks, laidOut, blocksFor, blocksOf, kindAt, countAt}
+use Rattle.plan_blocks.specs.Block.{sumAt, checks, laidOut, blocksFor, blocksOf, kindAt, countAt}
 use Rattle.plan_blocks.specs.Plan.{Plan, Decoded, accepted, refused, outOfRange, unfitValue}
 
 -- word j of block b
@@ -19,6 +19,10 @@ inBlock s b j = word s (128 * b + j)
 -- the file's blocks
 abbrev pub blocksIn : List ℕ → ℕ
 blocksIn s = length s / 512
+
+-- the file's kind: byte 1 of its header
+abbrev pub kindOf : List ℕ → ℕ
+kindOf s = getD s 1 0
 
 -- "n and a; k and ceiling choice; ceiling value as 8 bytes": the header's numbers
 abbrev pub headerAt : List ℕ → Header
@@ -60,26 +64,30 @@ planOf s =
 unfoldable pub badLength : List ℕ → Bool
 badLength s = eqb (length s) 0 || not (eqb (length s % 512) 0)
 
+-- 11: "a header value above 1 gives 11, ahead of 10"
+unfoldable pub badKind : List ℕ → Bool
+badKind s = ltb 1 (kindOf s)
+
 -- 10: "a block's check fails"
 unfoldable pub badCheck : ℕ → List ℕ → Bool
-badCheck must s = not (all (blocksIn s) (λ b. checks must (inBlock s b)))
+badCheck file s = not (all (blocksIn s) (λ b. checks (sumAt file b) (inBlock s b)))
 
 -- 11: "header block laid out wrongly"
 unfoldable pub badHeader : ℕ → List ℕ → Bool
-badHeader second s = not (laidOut second 1 3 (inBlock s 0))
+badHeader file s = not (laidOut file 1 3 (inBlock s 0))
 
 -- 12: "a header number out of range"
 unfoldable pub badNumbers : Header → Bool
 badNumbers header = outOfRange (header .n) (header .a) (header .k) || unfitValue (header .choice) (header .value)
 
--- each later block is laid out as n and a ask
+-- each later block is laid out as the file's kind, n and a ask: "a block whose byte 1 differs from the header's gives 13"
 unfoldable pub laterLaid : ℕ → ℕ → ℕ → List ℕ → Bool
-laterLaid second n a s = allFrom 1 (blocksIn s) (λ b. laidOut second (kindAt n b) (countAt n a b) (inBlock s b))
+laterLaid file n a s = allFrom 1 (blocksIn s) (λ b. laidOut file (kindAt n b) (countAt n a b) (inBlock s b))
 
 -- 13: "a later block laid out wrongly, or block count wrong"
 unfoldable pub badLater : ℕ → Header → List ℕ → Bool
-badLater second header s =
-    not (eqb (blocksIn s) (blocksOf (header .n) (header .a))) || not (laterLaid second (header .n) (header .a) s)
+badLater file header s =
+    not (eqb (blocksIn s) (blocksOf (header .n) (header .a))) || not (laterLaid file (header .n) (header .a) s)
 
 -- every vertex's label is below k
 unfoldable pub labelled : ℕ → ℕ → List ℕ → Bool
@@ -90,15 +98,16 @@ unfoldable pub badRecords : Header → List ℕ → Bool
 badRecords header s =
     not (eqb (sum (header .n) (degreeAt s)) (header .a)) || not (labelled (header .n) (header .k) s)
 
--- the smallest number that applies, 0 if none does
+-- the first number that applies, in the order 9, 11 for the file's kind alone, 10, 11, 12, 13, 14; 0 if none does
 unfoldable pub fileNumber : List ℕ → ℕ
 fileNumber s =
     cond (badLength s) 9
-    (cond (badCheck 0 s) 10
-    (cond (badHeader 0 s) 11
+    (cond (badKind s) 11
+    (cond (badCheck (kindOf s) s) 10
+    (cond (badHeader (kindOf s) s) 11
     (cond (badNumbers (headerAt s)) 12
-    (cond (badLater 0 (headerAt s) s) 13
-    (cond (badRecords (headerAt s) s) 14 0)))))
+    (cond (badLater (kindOf s) (headerAt s) s) 13
+    (cond (badRecords (headerAt s) s) 14 0))))))
 
 -- THE PLAN of a file
 unfoldable pub decode : List ℕ → Decoded

@@ -1,4 +1,4 @@
--- The bytes of a plan (document 01, "Plan blocks").
+-- The bytes of a plan (document 01, "Plan blocks"; document 02, A2), in a file of either kind.
 use mathlib.Core.Bool.{cond}
 use mathlib.Core.List.{List, [], _∷_}
 use Prim.Native.Nat.{ℕ, _+_, _-_, _*_, _/_, _%_}
@@ -6,7 +6,7 @@ use lib.ListN.{getD}
 use lib.Dec.{leb, eqb}
 use Rattle.plan_blocks.specs.declared.header.Header.{Header}
 use Rattle.plan_blocks.specs.Word.{wrap, bytes}
-use Rattle.plan_blocks.specs.Block.{opening, checkWord, blocksFor, blocksOf, kindAt, countAt}
+use Rattle.plan_blocks.specs.Block.{opening, sumAt, checkWord, blocksFor, blocksOf, kindAt, countAt}
 use Rattle.plan_blocks.specs.Plan.{Plan, headerIn}
 
 -- "n and a; k and ceiling choice; ceiling value as 8 bytes": word r of the header's records
@@ -32,15 +32,17 @@ recordWord p b r =
 
 -- word j of block b, the last apart: the opening, the records, and "Unused places are zero"
 unfoldable pub bodyWord : ℕ → Plan → ℕ → ℕ → ℕ
-bodyWord second p b j =
-    cond (eqb j 0) (opening second (kindAt (p .n) b) (countAt (p .n) (p .a) b))
+bodyWord file p b j =
+    cond (eqb j 0) (opening file (kindAt (p .n) b) (countAt (p .n) (p .a) b))
     (cond (leb j (2 * countAt (p .n) (p .a) b)) (recordWord p b (j - 1)) 0)
 
--- word w of the file, 128 to a block: "then a word chosen so that the sum of its 128 words, wrapping, is zero"
-unfoldable pub fileWord : ℕ → ℕ → Plan → ℕ → ℕ
-fileWord must second p w =
-    cond (eqb (w % 128) 127) (checkWord must (bodyWord second p (w / 128))) (bodyWord second p (w / 128) (w % 128))
+-- word w of the file, 128 to a block: the last of a block is "a word chosen so that the sum of its 128 words, wrapping, is" what it must be
+unfoldable pub fileWord : ℕ → Plan → ℕ → ℕ
+fileWord file p w =
+    cond (eqb (w % 128) 127)
+    (checkWord (sumAt file (w / 128)) (bodyWord file p (w / 128)))
+    (bodyWord file p (w / 128) (w % 128))
 
--- THE FILE of a plan
-unfoldable pub encode : Plan → List ℕ
-encode p = bytes (128 * blocksOf (p .n) (p .a)) (fileWord 0 0 p)
+-- THE FILE of a plan, of a kind
+unfoldable pub encode : ℕ → Plan → List ℕ
+encode file p = bytes (128 * blocksOf (p .n) (p .a)) (fileWord file p)

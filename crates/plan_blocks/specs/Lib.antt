@@ -1,8 +1,11 @@
--- The plan file (document 01, "Plan blocks"): what a plan is, the bytes that stand for it, and the plan that bytes hold.
+-- The plan file (document 01, "Plan blocks"; document 02, A2): what a plan is, the bytes that stand for it, and the plan that bytes hold.
 
--- ---- What document 01 says: the contracts of inner functions need no more
+-- ---- What the documents say: the contracts of inner functions need no more
 pub mod Word
 pub mod Block
 pub mod Plan
 pub mod Encode
 pub mod Decode
+-- ---- What document 02's A2 says of old files and of blocks that changed places
+pub mod Old
+pub mod Exchanged

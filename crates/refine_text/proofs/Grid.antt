@@ -2,7 +2,7 @@
 use mathlib.Core.Path.{_≡_, refl}
 use mathlib.Core.Bool.{true, false}
 use mathlib.Core.List.{List, [], _∷_, _++_}
-use Prim.Native.Nat.{ℕ, _<_}
+use Prim.Native.Nat.{ℕ, _≤_, _<_}
 use native.Mathlib.Omega.{arith}
 use lib.ListN.{length, getD}
 use lib.Dec.{ltb}
@@ -101,18 +101,19 @@ legal =
       arcWeightsFit = below 20 wrap (grid .weights) refl;
     }
 
--- the file of that plan is read as it
-read-back : (fileNumber (encode plan) ≡ 0) × (planOf (encode plan) ≡ plan)
-read-back = decoded (encode plan) plan (written-then-read plan legal)
+-- the file of that plan, of either kind, is read as it
+module _ (file : ℕ) (known : file ≤ 1) where
+  read-back : (fileNumber (encode file plan) ≡ 0) × (planOf (encode file plan) ≡ plan)
+  read-back = decoded (encode file plan) plan (written-then-read plan legal file known)
 
-in-number : inputNumber (encode plan) ≡ 0
-unfolding inputNumber ranked beyond encode blocksOf blocksFor
-in-number =
-    let l = length-bytes 384 (fileWord 0 0 plan) in
-    rw (le-ltb 22016 (length (encode plan)) (omega arith), read-back .0, read-back .1) refl
+  in-number : inputNumber (encode file plan) ≡ 0
+  unfolding inputNumber ranked beyond encode blocksOf blocksFor
+  in-number =
+      let l = length-bytes 384 (fileWord file plan) in
+      rw (le-ltb 22016 (length (encode file plan)) (omega arith), read-back .0, read-back .1) refl
 
--- "On A with e = 0.25 it prints in full": the file of A's plan gives that text
-pub file-printed-in-full : textOf (encode plan) ≡ printedText
-unfolding textOf planText
-file-printed-in-full =
-    rw (in-number, read-back .1, handed-over .0, handed-over .1) printed-in-full
+  -- "On A with e = 0.25 it prints in full": the file of A's plan gives that text
+  pub file-printed-in-full : textOf (encode file plan) ≡ printedText
+  unfolding textOf planText
+  file-printed-in-full =
+      rw (in-number, read-back .1, handed-over .0, handed-over .1) printed-in-full

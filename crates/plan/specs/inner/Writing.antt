@@ -7,7 +7,7 @@ use Rattle.lists.specs.Fill.{filled}
 use Rattle.imbalance.specs.Limit.{mostVertices, mostArcs}
 use Rattle.plan_blocks.specs.declared.header.Header.{Header}
 use Rattle.plan_blocks.specs.Word.{putWord}
-use Rattle.plan_blocks.specs.Block.{opening, checkWord, blocksOf, kindAt, countAt}
+use Rattle.plan_blocks.specs.Block.{newKind, opening, sumAt, checkWord, blocksOf, kindAt, countAt}
 use Rattle.plan_blocks.specs.Encode.{headerWord}
 use Rattle.plan_blocks.specs.Decode.{inBlock}
 
@@ -32,7 +32,7 @@ putWords at x (suc i) s = putWord (putWords at x i s) (at i) (x i)
 
 -- block b's first word
 abbrev pub openingWord : ℕ → ℕ → ℕ → ℕ
-openingWord n a b = opening 0 (kindAt n b) (countAt n a b)
+openingWord n a b = opening newKind (kindAt n b) (countAt n a b)
 
 -- the blocks laid out: each one's first word, and zeros
 abbrev pub laidDown : ℕ → ℕ → List ℕ → List ℕ
@@ -50,6 +50,6 @@ recordAt first r = 128 * (first + r / 126) + 1 + r % 126
 abbrev pub putRecords : ℕ → (ℕ → ℕ) → ℕ → List ℕ → List ℕ
 putRecords first x records s = putWords (recordAt first) x (2 * records) s
 
--- the blocks' last words, each chosen by the words before it
+-- the blocks' last words, each chosen by its block's position and the words before it
 abbrev pub sealed : ℕ → List ℕ → List ℕ
-sealed blocks s = putWords (λ b. 128 * b + 127) (λ b. checkWord 0 (inBlock s b)) blocks s
+sealed blocks s = putWords (λ b. 128 * b + 127) (λ b. checkWord (sumAt newKind b) (inBlock s b)) blocks s

@@ -1,11 +1,12 @@
 -- `reader::bad_check` meets its contract. The loop's invariant: the blocks passed have the sum that they must have. Assumes nothing.
 use Rattle.plan.proofs.ReadLaws.{check-more, check-fails, check-all}
 use Rattle.plan_blocks.specs.Decode.{inBlock}
-use Rattle.plan_blocks.specs.Block.{checks}
+use Rattle.plan_blocks.specs.Block.{sumAt, checks}
 use Rattle.lists.proofs.Alls.{all-none}
 use Rattle.lists.specs.All.{all}
 use native.Mathlib.Omega.{arith}
 use Prim.Native.Nat.{_≤_, _-_}
+use borrow.Author.Tests.{not-true, not-false}
 use mathlib.Core.Bool.{true}
 use mathlib.Core.Path.{_≡_}
 use borrow.Author.Needs.{needs}
@@ -13,22 +14,19 @@ use Rattle.plan.proofs.reader.bad_check.Statement.{statement}
 use Rattle.plan.proofs.reader.bad_check.Tie as tie
 
 abbrev Inv-loop : tie.InvT-loop
-Inv-loop bytes must blocks b₀ b = (b ≤ blocks) × (all b (λ b. checks must (inBlock bytes b)) ≡ true)
+Inv-loop bytes file blocks b₀ b = (b ≤ blocks) × (all b (λ b. checks (sumAt file b) (inBlock bytes b)) ≡ true)
 
 abbrev μ-loop : tie.MeasureT-loop
-μ-loop bytes must blocks b₀ b = blocks - b
+μ-loop bytes file blocks b₀ b = blocks - b
 
 loop-holds : tie.Need-loop-holds Inv-loop μ-loop
 loop-holds c = (search needs, all-none _)
 
-mul-words-sum : tie.Need-mul-words-sum Inv-loop μ-loop
-mul-words-sum c = search needs
-
-words-sum-requires : tie.Need-words-sum-requires Inv-loop μ-loop
-words-sum-requires c κs = search needs
+checks-requires : tie.Need-checks-requires Inv-loop μ-loop
+checks-requires c κs = search needs
 
 returns : tie.Need-returns Inv-loop μ-loop
-returns c = check-fails _ _ _ _ (c .before .words-sum .ensures) (search needs) (c .if1 .taken)
+returns c = check-fails _ _ _ _ (c .before .checks .ensures) (search needs) (not-true _ (c .if1 .taken))
 
 add-b : tie.Need-add-b Inv-loop μ-loop
 add-b c = search needs
@@ -39,7 +37,7 @@ loop-less c = search needs
 loop-again : tie.Need-loop-again Inv-loop μ-loop
 loop-again c =
     let so-far : tie.At-loop Inv-loop μ-loop = search needs in
-    (search needs, check-more _ _ _ _ (c .before .words-sum .ensures) (so-far .loop .inv .1) (c .if1 .left))
+    (search needs, check-more _ _ _ _ (c .before .checks .ensures) (so-far .loop .inv .1) (not-false _ (c .if1 .left)))
 
 returns-2 : tie.Need-returns-2 Inv-loop μ-loop
 returns-2 c = check-all _ _ _ (omega arith) (c .before .loop .inv .1)
@@ -51,8 +49,7 @@ bad-check-spec =
     Inv-loop
     μ-loop
     loop-holds
-    mul-words-sum
-    words-sum-requires
+    checks-requires
     returns
     add-b
     loop-less

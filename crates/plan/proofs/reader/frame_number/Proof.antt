@@ -1,9 +1,9 @@
 -- `reader::frame_number` meets its contract: each return rewrites with the tests that led there. Assumes nothing.
 use Rattle.plan.proofs.ReadLaws.{long-enough}
 use Rattle.plan.specs.inner.Reading.{frameNumber}
-use Rattle.plan_blocks.specs.Decode.{badHeader}
+use Rattle.plan_blocks.specs.Decode.{badKind, badHeader}
 use native.Mathlib.Omega.{arith}
-use borrow.Author.Tests.{not-true, not-false}
+use borrow.Author.Tests.{lt-ltb, le-ltb, not-true, not-false}
 use mathlib.Core.Path.{sym, _∙_}
 use borrow.Author.Needs.{needs}
 use Rattle.plan.proofs.reader.frame_number.Statement.{statement}
@@ -16,34 +16,51 @@ returns : tie.Need-returns
 unfolding frameNumber
 returns c = simp (sym (c .before .bad-length .ensures) ∙ c .if1 .taken)
 
+kind-of-requires : tie.Need-kind-of-requires
+kind-of-requires c κs =
+    let l = long-enough _ (sym (c .before .bad-length .ensures) ∙ c .if1 .left) in
+    omega arith
+
+returns-2 : tie.Need-returns-2
+unfolding frameNumber badKind
+returns-2 c =
+    let sized : tie.Else1 = search needs in
+    let above = c .if2 .taken in
+    simp (sym (sized .before .bad-length .ensures) ∙ sized .if1 .left, sym (c .before .kind-of .ensures .0), lt-ltb 1 (c .before .kind-of .result) (omega arith))
+
 bad-check-requires : tie.Need-bad-check-requires
 bad-check-requires c κs = search needs
 
-returns-2 : tie.Need-returns-2
-unfolding frameNumber
-returns-2 c =
+returns-3 : tie.Need-returns-3
+unfolding frameNumber badKind
+returns-3 c =
     let sized : tie.Else1 = search needs in
-    simp (sym (sized .before .bad-length .ensures) ∙ sized .if1 .left, sym (c .before .bad-check .ensures) ∙ c .if2 .taken)
+    let known : tie.Else2 = search needs in
+    simp (sym (sized .before .bad-length .ensures) ∙ sized .if1 .left, sym (known .before .kind-of .ensures .0), le-ltb 1 _ (known .if2 .left), sym (c .before .bad-check .ensures) ∙ c .if3 .taken)
 
 laid-out-requires : tie.Need-laid-out-requires
 laid-out-requires c κs =
     let sized : tie.Else1 = search needs in
+    let known : tie.Else2 = search needs in
+    let k = known .if2 .left in
     let l = long-enough _ (sym (sized .before .bad-length .ensures) ∙ sized .if1 .left) in
     omega arith
 
-returns-3 : tie.Need-returns-3
-unfolding frameNumber badHeader
-returns-3 c =
-    let sized : tie.Else1 = search needs in
-    let checked : tie.Else2 = search needs in
-    simp (sym (sized .before .bad-length .ensures) ∙ sized .if1 .left, sym (checked .before .bad-check .ensures) ∙ checked .if2 .left, sym (c .before .laid-out .ensures) ∙ not-true _ (c .if3 .taken))
-
 returns-4 : tie.Need-returns-4
-unfolding frameNumber badHeader
+unfolding frameNumber badKind badHeader
 returns-4 c =
     let sized : tie.Else1 = search needs in
-    let checked : tie.Else2 = search needs in
-    simp (sym (sized .before .bad-length .ensures) ∙ sized .if1 .left, sym (checked .before .bad-check .ensures) ∙ checked .if2 .left, sym (c .before .laid-out .ensures) ∙ not-false _ (c .if3 .left))
+    let known : tie.Else2 = search needs in
+    let checked : tie.Else3 = search needs in
+    simp (sym (sized .before .bad-length .ensures) ∙ sized .if1 .left, sym (known .before .kind-of .ensures .0), le-ltb 1 _ (known .if2 .left), sym (checked .before .bad-check .ensures) ∙ checked .if3 .left, sym (c .before .laid-out .ensures) ∙ not-true _ (c .if4 .taken))
+
+returns-5 : tie.Need-returns-5
+unfolding frameNumber badKind badHeader
+returns-5 c =
+    let sized : tie.Else1 = search needs in
+    let known : tie.Else2 = search needs in
+    let checked : tie.Else3 = search needs in
+    simp (sym (sized .before .bad-length .ensures) ∙ sized .if1 .left, sym (known .before .kind-of .ensures .0), le-ltb 1 _ (known .if2 .left), sym (checked .before .bad-check .ensures) ∙ checked .if3 .left, sym (c .before .laid-out .ensures) ∙ not-false _ (c .if4 .left))
 
 pub frame-number-spec : {M : Type 1} → statement M
 frame-number-spec =
@@ -51,8 +68,10 @@ frame-number-spec =
     (tie.spec
     bad-length-requires
     returns
-    bad-check-requires
+    kind-of-requires
     returns-2
-    laid-out-requires
+    bad-check-requires
     returns-3
-    returns-4)
+    laid-out-requires
+    returns-4
+    returns-5)

@@ -13,10 +13,10 @@ use Rattle.plan.proofs.reader.later_laid.Statement.{statement}
 use Rattle.plan.proofs.reader.later_laid.Tie as tie
 
 abbrev Inv-loop : tie.InvT-loop
-Inv-loop bytes second n a blocks b₀ b = (1 ≤ b) × (b ≤ blocks) × (laterTo bytes second n a b ≡ true)
+Inv-loop bytes file n a blocks b₀ b = (1 ≤ b) × (b ≤ blocks) × (laterTo bytes file n a b ≡ true)
 
 abbrev μ-loop : tie.MeasureT-loop
-μ-loop bytes second n a blocks b₀ b = blocks - b
+μ-loop bytes file n a blocks b₀ b = blocks - b
 
 loop-holds : tie.Need-loop-holds Inv-loop μ-loop
 unfolding blocksOf

@@ -16,7 +16,7 @@ unfolding planNumber
 returns c = simp (sym (c .before .bad-numbers .ensures) ∙ c .if1 .taken)
 
 bad-later-requires : tie.Need-bad-later-requires
-bad-later-requires c κs = (sym (c .before .bad-numbers .ensures) ∙ c .if1 .left, search needs)
+bad-later-requires c κs = sym (c .before .bad-numbers .ensures) ∙ c .if1 .left
 
 returns-2 : tie.Need-returns-2
 unfolding planNumber
@@ -28,7 +28,7 @@ bad-records-requires : tie.Need-bad-records-requires
 bad-records-requires c κs =
     let given : tie.Start = search needs in
     let ranged : tie.Else1 = search needs in
-    let z = sized-by _ _ 0 (given .pre) (sym (c .before .bad-later .ensures) ∙ c .if2 .left) in
+    let z = sized-by _ _ _ (given .pre) (sym (c .before .bad-later .ensures) ∙ c .if2 .left) in
     (sym (ranged .before .bad-numbers .ensures) ∙ ranged .if1 .left, omega arith)
 
 returns-3 : tie.Need-returns-3

@@ -69,7 +69,22 @@ mul-put-word c =
     omega arith
 
 mul-narrow : tie.Need-mul-narrow Inv-loop μ-loop
-mul-narrow c =
+mul-narrow c = search needs
+
+abbrev kinded-before : tie.After-count-at Inv-loop μ-loop → tie.After-kind-at Inv-loop μ-loop
+kinded-before c = search needs
+
+add-narrow : tie.Need-add-narrow Inv-loop μ-loop
+add-narrow c =
+    let entered : tie.In-loop Inv-loop μ-loop = search needs in
+    let counted : tie.After-count-at Inv-loop μ-loop = search needs in
+    let given : tie.Start Inv-loop μ-loop = search needs in
+    let k = kind-most (given .args .n) (entered .before .loop .b) in
+    let d = kinded-before counted .kind-at .ensures in
+    omega arith
+
+mul-narrow-2 : tie.Need-mul-narrow-2 Inv-loop μ-loop
+mul-narrow-2 c =
     let given : tie.Start Inv-loop μ-loop = search needs in
     let entered : tie.In-loop Inv-loop μ-loop = search needs in
     let counted : tie.After-count-at Inv-loop μ-loop = search needs in
@@ -78,11 +93,8 @@ mul-narrow c =
     let e = counted .count-at .ensures in
     omega arith
 
-abbrev kinded-before : tie.After-count-at Inv-loop μ-loop → tie.After-kind-at Inv-loop μ-loop
-kinded-before c = search needs
-
--- a block's kind and count fit its first word
-opening-fits : (c : tie.After-count-at Inv-loop μ-loop) → kinded-before c .kind-at .result + 65536 * c .count-at .result < wrap
+-- a block's kind, the file's and the count fit its first word
+opening-fits : (c : tie.After-count-at Inv-loop μ-loop) → kinded-before c .kind-at .result + 256 + 65536 * c .count-at .result < wrap
 opening-fits c =
     let given : tie.Start Inv-loop μ-loop = search needs in
     let entered : tie.In-loop Inv-loop μ-loop = search needs in
@@ -93,8 +105,8 @@ opening-fits c =
     let e = c .count-at .ensures in
     omega arith
 
-add-narrow : tie.Need-add-narrow Inv-loop μ-loop
-add-narrow c =
+add-narrow-2 : tie.Need-add-narrow-2 Inv-loop μ-loop
+add-narrow-2 c =
     let counted : tie.After-count-at Inv-loop μ-loop = search needs in
     omega (arith, opening-fits counted)
 
@@ -161,6 +173,8 @@ lay-out-spec =
     mul-put-word
     mul-narrow
     add-narrow
+    mul-narrow-2
+    add-narrow-2
     narrow-requires
     put-word-requires
     add-b

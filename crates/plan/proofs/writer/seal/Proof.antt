@@ -2,17 +2,18 @@
 use Rattle.plan.proofs.Puts.{PutTo, put-none, put-more, put-all}
 use Rattle.plan.proofs.WriteTurns.{last-word, all-sealed}
 use Rattle.plan.specs.Write.{sizeOf}
-use Rattle.plan_blocks.specs.Block.{checkWord, blocksOf, blocksFor}
+use Rattle.plan_blocks.specs.Block.{newKind, sumAt, checkWord, blocksOf, blocksFor}
 use Rattle.plan_blocks.specs.Decode.{inBlock}
+use Rattle.plan_blocks.proofs.Places.{position-fits}
 use native.Mathlib.Omega.{arith}
 use Prim.Native.Nat.{ℕ, _+_, _*_, _-_}
-use mathlib.Core.Path.{refl, ap}
+use mathlib.Core.Path.{refl, ap, _∙_}
 use borrow.Author.Needs.{needs}
 use Rattle.plan.proofs.writer.seal.Statement.{statement}
 use Rattle.plan.proofs.writer.seal.Tie as tie
 
 abbrev Inv-loop : tie.InvT-loop
-Inv-loop n a target₀ blocks b₀ target b = PutTo (λ b. 128 * b + 127) (λ b. checkWord 0 (inBlock target₀ b)) blocks target₀ target b
+Inv-loop n a target₀ blocks b₀ target b = PutTo (λ b. 128 * b + 127) (λ b. checkWord (sumAt newKind b) (inBlock target₀ b)) blocks target₀ target b
 
 abbrev μ-loop : tie.MeasureT-loop
 μ-loop n a target₀ blocks b₀ target b = blocks - b
@@ -65,6 +66,15 @@ add-put-word c =
     let e = counted .blocks-of .ensures in
     omega arith
 
+narrow-requires : tie.Need-narrow-requires Inv-loop μ-loop
+narrow-requires c κs =
+    let given : tie.Start Inv-loop μ-loop = search needs in
+    let counted : tie.After-blocks-of Inv-loop μ-loop = search needs in
+    let entered : tie.In-loop Inv-loop μ-loop = search needs in
+    let below = entered .loop-test .taken in
+    let e = counted .blocks-of .ensures in
+    position-fits (given .args .n) (given .args .a) _ (given .pre .0) (given .pre .1) (omega arith)
+
 wrapping-sub-u32-requires : tie.Need-wrapping-sub-u32-requires Inv-loop μ-loop
 wrapping-sub-u32-requires c κs = search needs
 
@@ -90,11 +100,12 @@ loop-again : tie.Need-loop-again Inv-loop μ-loop
 loop-again c =
     let entered : tie.In-loop Inv-loop μ-loop = search needs in
     let summed : tie.After-words-sum Inv-loop μ-loop = search needs in
+    let placed : tie.After-narrow Inv-loop μ-loop = search needs in
     let chosen : tie.After-wrapping-sub-u32 Inv-loop μ-loop = search needs in
     let sealed : tie.After-put-word Inv-loop μ-loop = search needs in
     let put = entered .before .loop .inv in
     put-more _ _ _ _ _ _ _ _ _ put (entered .loop-test .taken) refl
-    (last-word _ _ _ _ _ _ (put .put) (summed .words-sum .ensures) (search needs) (chosen .wrapping-sub-u32 .ensures))
+    (last-word _ _ _ _ _ _ (put .put) (summed .words-sum .ensures) (search needs) (chosen .wrapping-sub-u32 .ensures ∙ placed .narrow .ensures))
     (sealed .put-word .ensures)
 
 mul-result : tie.Need-mul-result Inv-loop μ-loop
@@ -129,6 +140,7 @@ seal-spec =
     words-sum-requires
     mul-put-word
     add-put-word
+    narrow-requires
     wrapping-sub-u32-requires
     put-word-requires
     add-b

@@ -1,19 +1,19 @@
--- `reader::laid_out` meets its contract. The loop's invariant: the unused words passed are zero. Assumes nothing.
-use Rattle.plan.proofs.ReadLaws.{restTo, first-differs, rest-differs, rest-more, laid-whole}
+-- `block::laid_out` meets its contract. The loop's invariant: the unused words passed are zero. Assumes nothing.
+use Rattle.plan_blocks.proofs.BlockTurns.{restTo, first-differs, rest-differs, rest-more, laid-whole}
 use Rattle.lists.proofs.Alls.{from-none}
 use native.Mathlib.Omega.{arith}
 use Prim.Native.Nat.{_+_, _-_, _*_, _≤_}
 use mathlib.Core.Bool.{true}
 use mathlib.Core.Path.{_≡_}
 use borrow.Author.Needs.{needs}
-use Rattle.plan.proofs.reader.laid_out.Statement.{statement}
-use Rattle.plan.proofs.reader.laid_out.Tie as tie
+use Rattle.plan_blocks.proofs.block.laid_out.Statement.{statement}
+use Rattle.plan_blocks.proofs.block.laid_out.Tie as tie
 
 abbrev Inv-loop : tie.InvT-loop
-Inv-loop bytes b second kind count first j₀ j = (1 + 2 * count ≤ j) × (j ≤ 127) × (restTo bytes b count j ≡ true)
+Inv-loop bytes b file kind count first j₀ j = (1 + 2 * count ≤ j) × (j ≤ 127) × (restTo bytes b count j ≡ true)
 
 abbrev μ-loop : tie.MeasureT-loop
-μ-loop bytes b second kind count first j₀ j = 127 - j
+μ-loop bytes b file kind count first j₀ j = 127 - j
 
 mul-first : tie.Need-mul-first Inv-loop μ-loop
 mul-first c = search needs
