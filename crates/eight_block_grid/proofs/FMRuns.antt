@@ -14,7 +14,7 @@ use Rattle.topology.specs.Graph.{arcs, into, gain}
 use Rattle.topology.specs.Rule.{misfit, oversize, startsOk, arcOk, rowsOk, hasArc, answered, rowsNumber, graphNumber}
 use Rattle.topology.specs.Cut.{cut}
 use Rattle.topology.specs.EightBlockGrid.{A, B}
-use Rattle.fiduccia_mattheyses_pass.specs.Choice.{flip, member, worth, after, fits, allowed, better, choice}
+use Rattle.fiduccia_mattheyses_choice.specs.Choice.{flip, member, worth, after, fits, allowed, better, choice}
 use Rattle.fiduccia_mattheyses_pass.specs.Pass.{flips, moveOn, next, walk, pass}
 use Rattle.fiduccia_mattheyses.specs.Run.{run}
 use Rattle.fiduccia_mattheyses.specs.Entry.{unfit, short, numberOf, termsOf, reportOf, leftBy, answer, left}

@@ -12,9 +12,9 @@ use Rattle.lists.specs.Sum.{weigh}
 use Rattle.imbalance.specs.Load.{part, load}
 use Rattle.topology.specs.Cut.{cut}
 use Rattle.topology.proofs.Moves.{load-move}
-use Rattle.fiduccia_mattheyses_pass.specs.Choice.{Terms, other, flip, after, fits, choice}
+use Rattle.fiduccia_mattheyses_choice.specs.Choice.{Terms, other, flip, after, fits, choice}
 use Rattle.fiduccia_mattheyses_pass.specs.Pass.{State, start, moveOn, flips, pass}
-use Rattle.fiduccia_mattheyses_pass.proofs.Chosen.{allowed-is, chosen}
+use Rattle.fiduccia_mattheyses_choice.proofs.Chosen.{allowed-is, chosen}
 use Rattle.fiduccia_mattheyses_pass.proofs.Keeps.{Keeps, keeps-start, keeps-move, walk-keeps}
 use Rattle.fiduccia_mattheyses.specs.Run.{Run, run}
 use Rattle.fiduccia_mattheyses.specs.Demand.{NoBoardAbove}

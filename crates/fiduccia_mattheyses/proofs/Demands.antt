@@ -10,7 +10,7 @@ use Rattle.lists.specs.Sum.{sum, total}
 use Rattle.lists.proofs.Sums.{sum-none}
 use Rattle.lists.proofs.Totals.{sum-ext, sum-most}
 use Rattle.topology.specs.Cut.{cut}
-use Rattle.fiduccia_mattheyses_pass.specs.Choice.{Terms}
+use Rattle.fiduccia_mattheyses_choice.specs.Choice.{Terms}
 use Rattle.fiduccia_mattheyses_pass.specs.Pass.{Pass, pass}
 use Rattle.fiduccia_mattheyses.specs.declared.Report.{Report}
 use Rattle.fiduccia_mattheyses.specs.Run.{Run, run}

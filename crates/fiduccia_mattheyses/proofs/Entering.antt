@@ -25,7 +25,7 @@ use Rattle.imbalance.proofs.Limits.{label-most}
 use Rattle.topology.specs.Rule.{graphNumber}
 use Rattle.topology.specs.Cut.{cut}
 use Rattle.topology.proofs.Numbers.{sound}
-use Rattle.fiduccia_mattheyses_pass.specs.Choice.{Terms}
+use Rattle.fiduccia_mattheyses_choice.specs.Choice.{Terms}
 use Rattle.fiduccia_mattheyses_pass.specs.Pass.{Pass}
 use Rattle.fiduccia_mattheyses_pass.specs.inner.Standing.{Fixed}
 use Rattle.fiduccia_mattheyses_pass.specs.declared.Move.{Move}

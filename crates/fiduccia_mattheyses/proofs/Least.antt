@@ -9,7 +9,7 @@ use lib.Dec.{ltb}
 use lib.ListN.{length, take, length-append}
 use lib.Seq.{take-all, take-append-le}
 use Rattle.topology.specs.Cut.{cut}
-use Rattle.fiduccia_mattheyses_pass.specs.Choice.{Terms, flip}
+use Rattle.fiduccia_mattheyses_choice.specs.Choice.{Terms, flip}
 use Rattle.fiduccia_mattheyses_pass.specs.Pass.{State, start, moveOn, next, walk, flips, pass}
 use Rattle.fiduccia_mattheyses_pass.proofs.Backs.{flips-more}
 use Rattle.fiduccia_mattheyses_pass.proofs.Walks.{walk-stop, walk-step}

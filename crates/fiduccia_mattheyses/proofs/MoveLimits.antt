@@ -9,7 +9,7 @@ use lib.IntN.{pos}
 use Rattle.lists.specs.Fill.{filled, over}
 use Rattle.imbalance.specs.Load.{loadsOf}
 use Rattle.topology.specs.Cut.{cut}
-use Rattle.fiduccia_mattheyses_pass.specs.Choice.{Terms, withMoveLimit}
+use Rattle.fiduccia_mattheyses_choice.specs.Choice.{Terms, withMoveLimit}
 use Rattle.fiduccia_mattheyses_pass.specs.Pass.{Pass, pass}
 use Rattle.fiduccia_mattheyses_pass.proofs.MoveLimits.{pass-limit}
 use Rattle.fiduccia_mattheyses.specs.Run.{Run, run}

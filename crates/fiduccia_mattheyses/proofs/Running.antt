@@ -12,7 +12,7 @@ use borrow.Author.Tests.{lt-ltb, le-ltb, leb-true, leb-false}
 use Rattle.lists.specs.Fill.{over}
 use Rattle.imbalance.specs.declared.Loads.{Loads}
 use Rattle.topology.specs.Cut.{cut}
-use Rattle.fiduccia_mattheyses_pass.specs.Choice.{Terms}
+use Rattle.fiduccia_mattheyses_choice.specs.Choice.{Terms}
 use Rattle.fiduccia_mattheyses_pass.specs.Pass.{Pass, pass}
 use Rattle.fiduccia_mattheyses_pass.specs.declared.Move.{Move}
 use Rattle.fiduccia_mattheyses_pass.specs.declared.Passed.{Passed}

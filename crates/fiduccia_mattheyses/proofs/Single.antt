@@ -18,9 +18,9 @@ use Rattle.topology.specs.Graph.{into, gain}
 use Rattle.topology.specs.Rule.{Symmetric}
 use Rattle.topology.specs.Cut.{cut}
 use Rattle.topology.proofs.Moves.{cut-move}
-use Rattle.fiduccia_mattheyses_pass.specs.Choice.{Terms, other, flip, member, worth, after, fits, allowed, better, choice, isBad}
+use Rattle.fiduccia_mattheyses_choice.specs.Choice.{Terms, other, flip, member, worth, after, fits, allowed, better, choice, isBad}
 use Rattle.fiduccia_mattheyses_pass.specs.Pass.{State, start, moveOn, next, walk, flips, pass}
-use Rattle.fiduccia_mattheyses_pass.proofs.Chosen.{chosen, none-chosen}
+use Rattle.fiduccia_mattheyses_choice.proofs.Chosen.{chosen, none-chosen}
 use Rattle.fiduccia_mattheyses_pass.proofs.Backs.{flips-long}
 use Rattle.fiduccia_mattheyses_pass.proofs.Walks.{walk-step}
 use Rattle.fiduccia_mattheyses_pass.proofs.Keeps.{walk-keeps}

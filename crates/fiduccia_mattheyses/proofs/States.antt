@@ -10,7 +10,7 @@ use lib.ListN.{length, length-append}
 use Rattle.lists.specs.Sum.{total}
 use Rattle.lists.proofs.Totals.{total-none, total-cons}
 use Rattle.topology.specs.Cut.{cut}
-use Rattle.fiduccia_mattheyses_pass.specs.Choice.{Terms}
+use Rattle.fiduccia_mattheyses_choice.specs.Choice.{Terms}
 use Rattle.fiduccia_mattheyses_pass.specs.Pass.{State, start, next, walk, pass}
 use Rattle.fiduccia_mattheyses_pass.proofs.Walks.{walk-stop, walk-step}
 use Rattle.fiduccia_mattheyses_pass.proofs.MoveLimits.{next-longer}

@@ -8,7 +8,7 @@ use lib.ListN.{length, getD}
 use lib.Dec.{ltb}
 use Rattle.imbalance.specs.Load.{load}
 use Rattle.topology.specs.Cut.{cut}
-use Rattle.fiduccia_mattheyses_pass.specs.Choice.{Terms, flip, fits}
+use Rattle.fiduccia_mattheyses_choice.specs.Choice.{Terms, flip, fits}
 use Rattle.fiduccia_mattheyses_pass.specs.Pass.{State, start, next, pass}
 use Rattle.fiduccia_mattheyses.specs.declared.Report.{Report}
 use Rattle.fiduccia_mattheyses.specs.Entry.{Given, Lent, termsOf}

@@ -9,11 +9,11 @@ use lib.ListN.{length, getD}
 use lib.IntN.{ℤ, pos}
 use Rattle.lists.specs.Best.{best}
 use Rattle.imbalance.specs.Load.{part, load}
-use Rattle.fiduccia_mattheyses_pass.specs.Choice.{Terms, other, member, worth, after, fits, allowed, better, choice}
-use Rattle.fiduccia_mattheyses_pass.specs.inner.Scan.{lock, isFree, picked, may, goesBefore, pickBelow, loadAfter, ceilingAt}
+use Rattle.fiduccia_mattheyses_choice.specs.Choice.{Terms, other, member, worth, after, fits, allowed, better, choice}
+use Rattle.fiduccia_mattheyses_choice.specs.inner.Scan.{lock, isFree, picked, may, goesBefore, pickBelow, loadAfter, ceilingAt}
 use Rattle.fiduccia_mattheyses_pass.specs.inner.Standing.{Gains}
 use Rattle.lists.proofs.Bests.{best-ext}
-use Rattle.fiduccia_mattheyses_pass.proofs.Chosen.{allowed-is, chosen}
+use Rattle.fiduccia_mattheyses_choice.proofs.Chosen.{allowed-is, chosen}
 use Rattle.fiduccia_mattheyses_pass.proofs.Follows.{free-small}
 use Rattle.fiduccia_mattheyses_pass.proofs.Worths.{Light, worth-small}
 

@@ -10,7 +10,7 @@ use Rattle.topology.specs.Rule.{Symmetric}
 use Rattle.topology.specs.Cut.{fall}
 use Rattle.topology.specs.Exchange.{bothFall}
 use Rattle.topology.proofs.TwoMoves.{two-parts-fall}
-use Rattle.fiduccia_mattheyses_pass.specs.Choice.{other, flip}
+use Rattle.fiduccia_mattheyses_choice.specs.Choice.{other, flip}
 
 -- "moving both lowers the cut by the sum of their gains", less or plus twice their shared arc weight: u and v each go to the other part
 pub flips-fall :

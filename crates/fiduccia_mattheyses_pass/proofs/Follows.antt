@@ -13,10 +13,10 @@ use lib.IntN.{ℤ, pos, negsuc, negℤ, _+ℤ_, _-ℤ_, +ℤ-assoc, +ℤ-idr, ne
 use lib.Signed.{mag}
 use borrow.Author.Tests.{eqb-true, eqb-false, lt-ltb}
 use Rattle.lists.specs.Sum.{sum, weigh}
-use Rattle.fiduccia_mattheyses_pass.specs.inner.Scan.{isFree}
+use Rattle.fiduccia_mattheyses_choice.specs.inner.Scan.{isFree}
 use Rattle.fiduccia_mattheyses_pass.specs.inner.Update.{shift, updated}
 use Rattle.lists.proofs.Differences.{mag-up, mag-down}
-use Rattle.fiduccia_mattheyses_pass.specs.inner.Bounds.{mostGain, lockSize}
+use Rattle.fiduccia_mattheyses_choice.specs.inner.Bounds.{mostGain, lockSize}
 
 -- a small gain is no lock
 pub free-small : (z : ℤ) → mag z < lockSize - 1 → isFree z ≡ true

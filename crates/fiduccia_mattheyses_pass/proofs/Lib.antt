@@ -1,12 +1,9 @@
 -- The laws of a pass and its moves, and the machine-made walks of the functions over lists of move records.
 pub mod Moved
-pub mod Beats
-pub mod Looks
-pub mod Scans
+pub mod Nexts
 pub mod Updates
 pub mod Follows
 pub mod Worths
-pub mod Chosen
 pub mod Choices
 pub mod Stands
 pub mod Backs

@@ -9,9 +9,9 @@ use lib.ListN.{length, take, length-set, length-append}
 use Rattle.lists.specs.Sum.{sum, weigh}
 use Rattle.lists.proofs.Totals.{sum-zero}
 use Rattle.imbalance.specs.Load.{part}
-use Rattle.fiduccia_mattheyses_pass.specs.Choice.{Terms, withMoveLimit, other, flip, member, worth, after, fits, allowed, better, choice}
+use Rattle.fiduccia_mattheyses_choice.specs.Choice.{Terms, withMoveLimit, other, flip, member, worth, after, fits, allowed, better, choice}
 use Rattle.fiduccia_mattheyses_pass.specs.Pass.{State, start, moveOn, next, walk, flips, pass}
-use Rattle.fiduccia_mattheyses_pass.proofs.Chosen.{allowed-is, chosen}
+use Rattle.fiduccia_mattheyses_choice.proofs.Chosen.{allowed-is, chosen}
 use Rattle.fiduccia_mattheyses_pass.proofs.Moved.{count-few, count-more, count-leaves-one}
 use Rattle.fiduccia_mattheyses_pass.proofs.Walks.{walk-stop, walk-step}
 use Rattle.fiduccia_mattheyses_pass.proofs.Keeps.{next-moves, walk-keeps}

@@ -11,7 +11,7 @@ use borrow.Author.Tests.{eq-eqb, ne-eqb, eqb-false, ltb-true, ltb-false}
 use Rattle.lists.specs.Sum.{sum, weigh}
 use Rattle.lists.proofs.Bools.{or-true, or-none, or-false, weigh-most}
 use Rattle.lists.proofs.Totals.{sum-change, sum-apart, sum-below}
-use Rattle.fiduccia_mattheyses_pass.specs.Choice.{member}
+use Rattle.fiduccia_mattheyses_choice.specs.Choice.{member}
 use Rattle.fiduccia_mattheyses_pass.specs.inner.Standing.{Apart}
 
 sum-ones : (m : ℕ) → sum m (λ x. 1) ≡ m

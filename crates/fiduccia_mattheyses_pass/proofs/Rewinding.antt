@@ -10,7 +10,7 @@ use Rattle.lists.proofs.Tables.{table-at, length-table}
 use Rattle.imbalance.specs.Load.{part, load}
 use Rattle.imbalance.specs.inner.Moved.{loadsMoved}
 use Rattle.imbalance.proofs.PartLoads.{load-within}
-use Rattle.fiduccia_mattheyses_pass.specs.Choice.{other, flip}
+use Rattle.fiduccia_mattheyses_choice.specs.Choice.{other, flip}
 use Rattle.fiduccia_mattheyses_pass.specs.Pass.{flips}
 use Rattle.fiduccia_mattheyses_pass.specs.inner.Standing.{Apart}
 use Rattle.fiduccia_mattheyses_pass.proofs.Backs.{two-flips, flips-append, flips-other, flips-long, flips-more, rewound}

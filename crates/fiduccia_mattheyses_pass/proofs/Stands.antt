@@ -24,18 +24,20 @@ use Rattle.topology.specs.Graph.{Graph, first, past, arcs, into, gain}
 use Rattle.topology.specs.Rule.{Symmetric}
 use Rattle.topology.specs.Cut.{cut, rowCut}
 use Rattle.topology.proofs.Moves.{cut-move, load-holds, loads-move}
-use Rattle.fiduccia_mattheyses_pass.specs.inner.Bounds.{mostInRow, mostCut, lockSize}
-use Rattle.fiduccia_mattheyses_pass.specs.Choice.{Terms, other, flip, member, worth, fits, choice, isBad}
+use Rattle.fiduccia_mattheyses_choice.specs.inner.Bounds.{mostInRow, mostCut, lockSize}
+use Rattle.fiduccia_mattheyses_choice.specs.Choice.{Terms, other, flip, member, worth, fits, choice, isBad}
 use Rattle.fiduccia_mattheyses_pass.specs.Pass.{State, start, moveOn, next}
-use Rattle.fiduccia_mattheyses_pass.specs.inner.Scan.{lock, picked, pickBelow, loadAfter, ceilingAt, nextOf}
-use Rattle.fiduccia_mattheyses_pass.specs.inner.Standing.{gainsAfter, standingAfter, Scannable, Moveable, Fixed, Stands}
-use Rattle.fiduccia_mattheyses_pass.specs.declared.Pick.the-variants.{Nobody, Vertex}
+use Rattle.fiduccia_mattheyses_choice.specs.inner.Scan.{lock, picked, pickBelow, loadAfter, ceilingAt}
+use Rattle.fiduccia_mattheyses_pass.specs.inner.Next.{nextOf}
+use Rattle.fiduccia_mattheyses_choice.specs.inner.Look.{Scannable}
+use Rattle.fiduccia_mattheyses_pass.specs.inner.Standing.{gainsAfter, standingAfter, Moveable, Fixed, Stands}
+use Rattle.fiduccia_mattheyses_choice.specs.declared.Pick.the-variants.{Nobody, Vertex}
 use Rattle.fiduccia_mattheyses_pass.specs.declared.Next.{Next}
 use Rattle.fiduccia_mattheyses_pass.specs.declared.Next.the-variants.{Stop, Go}
 use Rattle.fiduccia_mattheyses_pass.specs.declared.Standing.{Standing}
 use Rattle.fiduccia_mattheyses_pass.proofs.Moved.{at-more, apart-more, count-more, count-leaves-one}
 use Rattle.fiduccia_mattheyses_pass.proofs.Worths.{Light, arcs-small, worth-small, gains-move}
-use Rattle.fiduccia_mattheyses_pass.proofs.Chosen.{allowed-is, chosen}
+use Rattle.fiduccia_mattheyses_choice.proofs.Chosen.{allowed-is, chosen}
 use Rattle.fiduccia_mattheyses_pass.proofs.Choices.{pick-choice}
 
 -- each weight is at most the total

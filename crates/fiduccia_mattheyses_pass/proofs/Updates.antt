@@ -15,13 +15,13 @@ use mir.Facts.{toZ-ofZ}
 use mir.Val.{toZ, ofZ, SFits, hbits}
 use mir.Syntax.{w64}
 use Rattle.topology.specs.Graph.{change}
-use Rattle.fiduccia_mattheyses_pass.specs.inner.Scan.{isFree, slotOf}
+use Rattle.fiduccia_mattheyses_choice.specs.inner.Scan.{isFree, slotOf}
 use Rattle.fiduccia_mattheyses_pass.specs.inner.Update.{shift, updateAt, updated}
-use Rattle.fiduccia_mattheyses_pass.specs.declared.Slot.{Slot}
-use Rattle.fiduccia_mattheyses_pass.specs.declared.Slot.the-variants.{Locked, Free}
+use Rattle.fiduccia_mattheyses_choice.specs.declared.Slot.{Slot}
+use Rattle.fiduccia_mattheyses_choice.specs.declared.Slot.the-variants.{Locked, Free}
 use Rattle.lists.proofs.Differences.{mag-up, mag-down}
 use Rattle.topology.proofs.Gains.{twice-small}
-use Rattle.fiduccia_mattheyses_pass.specs.inner.Bounds.{pastWeights, mostTwice, mostUpdated}
+use Rattle.fiduccia_mattheyses_choice.specs.inner.Bounds.{pastWeights, mostTwice, mostUpdated}
 
 -- a signed number that went through memory is itself
 pub back : (z : ℤ) → mag z < 2 ^ hbits w64 → toZ w64 (ofZ w64 z) ≡ z

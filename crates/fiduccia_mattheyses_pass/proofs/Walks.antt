@@ -2,7 +2,7 @@
 use mathlib.Core.Path.{_≡_, refl}
 use mathlib.Core.Option.{none, some}
 use Prim.Native.Nat.{ℕ, zero, suc}
-use Rattle.fiduccia_mattheyses_pass.specs.Choice.{Terms}
+use Rattle.fiduccia_mattheyses_choice.specs.Choice.{Terms}
 use Rattle.fiduccia_mattheyses_pass.specs.Pass.{State, next, walk}
 
 -- the walk ends where there is no next state

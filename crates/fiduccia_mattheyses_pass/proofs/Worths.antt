@@ -16,17 +16,17 @@ use Rattle.topology.specs.Graph.{Graph, first, past, neighbour, weight, arcs, i
 use Rattle.imbalance.specs.Limit.{mostArcs}
 use Rattle.imbalance.specs.Load.{part}
 use Rattle.lists.specs.Sum.{between}
-use Rattle.fiduccia_mattheyses_pass.specs.Choice.{Terms, other, flip, member, worth}
+use Rattle.fiduccia_mattheyses_choice.specs.Choice.{Terms, other, flip, member, worth}
 use Rattle.topology.specs.Graph.{joins}
 use Rattle.topology.specs.Rule.{Symmetric}
 use Rattle.topology.proofs.Moves.{into-move}
-use Rattle.fiduccia_mattheyses_pass.specs.inner.Scan.{lock, isFree}
+use Rattle.fiduccia_mattheyses_choice.specs.inner.Scan.{lock, isFree}
 use Rattle.fiduccia_mattheyses_pass.specs.inner.Standing.{Gains}
 use Rattle.fiduccia_mattheyses_pass.proofs.Moved.{member-more}
 use Rattle.fiduccia_mattheyses_pass.specs.inner.Update.{shift, updated}
 use Rattle.lists.proofs.Totals.{sum-most}
 use Rattle.lists.proofs.Differences.{mag-sub, same, plus, take-away}
-use Rattle.fiduccia_mattheyses_pass.specs.inner.Bounds.{pastWeights, mostInRow, mostGain}
+use Rattle.fiduccia_mattheyses_choice.specs.inner.Bounds.{pastWeights, mostInRow, mostGain}
 use Rattle.fiduccia_mattheyses_pass.proofs.Follows.{free-small, updated-at, total, length-updated, moved-on}
 
 weigh-le : (t : Bool) (x m : ℕ) → x ≤ m → weigh t x ≤ m

@@ -9,7 +9,7 @@ use Rattle.imbalance.specs.Load.{part}
 use Rattle.topology.specs.Rule.{Symmetric}
 use Rattle.topology.specs.Cut.{cut}
 use Rattle.topology.proofs.Gains as Gains
-use Rattle.fiduccia_mattheyses_pass.specs.Choice.{Terms, other, flip, worth, isBad}
+use Rattle.fiduccia_mattheyses_choice.specs.Choice.{Terms, other, flip, worth, isBad}
 use Rattle.fiduccia_mattheyses_pass.specs.Pass.{State, moveOn}
 
 module _ (s : Terms) where

@@ -1,7 +1,6 @@
--- The moves of an FM pass: what is chosen, what a pass does, and what the pass's functions say (document 01, "FM").
+-- The moves of an FM pass: what a pass does, and what the pass's functions say (document 01, "FM").
 
 -- ---- What document 01 says
-pub mod Choice
 pub mod Pass
 -- ---- What the inner functions promise each other
 pub mod inner

@@ -7,7 +7,7 @@ use lib.ListN.{length, take}
 use lib.Dec.{ltb, leb}
 use Rattle.topology.specs.Cut.{cut}
 use Rattle.fiduccia_mattheyses_pass.specs.declared.Move.{Move}
-use Rattle.fiduccia_mattheyses_pass.specs.Choice.{Terms, flip, choice, isBad}
+use Rattle.fiduccia_mattheyses_choice.specs.Choice.{Terms, flip, choice, isBad}
 
 -- the vertices vs go to the other part, one after the other
 unfoldable pub flips : List ℕ → List ℕ → List ℕ

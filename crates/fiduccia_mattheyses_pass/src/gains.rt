@@ -9,10 +9,11 @@ ghost use Rattle.imbalance.specs.Limit.{mostArcs};
 ghost use Rattle.imbalance.specs.Load.{part};
 ghost use Rattle.topology.specs.Graph.{inRows};
 ghost use Rattle.topology.specs.Rule.{Rows};
-ghost use Rattle.fiduccia_mattheyses_pass.specs.inner.Bounds.{mostTwice, lockSize, mostUpdated};
+ghost use Rattle.fiduccia_mattheyses_choice.specs.inner.Bounds.{mostTwice, lockSize, mostUpdated};
 ghost use Rattle.fiduccia_mattheyses_pass.specs.inner.Update.{shift, updated};
 ghost use Rattle.fiduccia_mattheyses_pass.specs.inner.Standing.{freshGains};
-use crate::Slot;
+use fiduccia_mattheyses_choice::Slot;
+use fiduccia_mattheyses_choice::scan;
 
 // Each vertex's gain to the other part.
 pub fn fresh_gains(
@@ -57,7 +58,7 @@ pub fn update_neighbours(
 {
     for e in a..b {
         let x = neighbours[e] as usize;
-        let Slot::Free(g) = crate::scan::slot_of(gains[x]) else {
+        let Slot::Free(g) = scan::slot_of(gains[x]) else {
             continue;
         };
         let h = shifted(g, arc_weights[e], labels[x], old);

@@ -1,7 +1,6 @@
 // A pass of FM: coupe's algorithms/fiduccia_mattheyses.rs, what its outer loop repeats. Document 01, "FM".
 mod gains;
 mod moves;
-mod scan;
 mod steps;
 
 ghost use mathlib.Core.Path.{_≡_};
@@ -20,25 +19,6 @@ pub struct Limits {
     pub ceilings: Ceilings,
     pub bad: u64,
     pub moves: usize,
-}
-
-// A vertex's place in the list of gains: a locked vertex has no gain.
-pub enum Slot {
-    Locked,
-    Free(i64),
-}
-
-// What the scan finds: nobody, or a vertex with its gain.
-pub enum Pick {
-    Nobody,
-    Vertex(usize, i64),
-}
-
-// What a scan holds on its way: one past the vertex, its gain, and how far its target's load after the move is above the lesser of the two loads.
-pub struct Held {
-    pub past: usize,
-    pub gain: i64,
-    pub load: u64,
 }
 
 // What a pass does next: it ends, or a vertex moves, with its gain and the bad counter after it.
@@ -127,7 +107,7 @@ fn walk_moves(
     let mut st = first;
     let mut made: usize = 0;
     while made < limits.moves {
-        let next = scan::next_move(gains, labels, weights, st, limits);
+        let next = moves::next_move(gains, labels, weights, st, limits);
         let Next::Go(v, g, bad) = next else {
             return Walked { made, last: st };
         };

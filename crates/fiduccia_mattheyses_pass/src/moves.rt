@@ -1,17 +1,59 @@
-// A move: the label, the loads, the gains and the cut follow. Document 01, "FM".
+// The next move of a pass, or its end; and a move: the label, the loads, the gains and the cut follow. Document 01, "FM".
 ghost use mathlib.Core.Path.{_≡_};
 ghost use Prim.Native.Nat.{ℕ, _≤_, _<_};
 ghost use lib.ListN.{length, getD};
 ghost use lib.IntN.{pos};
 ghost use lib.Signed.{mag};
 ghost use Rattle.imbalance.specs.Load.{part};
+ghost use Rattle.imbalance.specs.Limit.{mostVertices};
 ghost use Rattle.topology.specs.Graph.{inRows};
 ghost use Rattle.topology.specs.Rule.{Rows};
-ghost use Rattle.fiduccia_mattheyses_pass.specs.inner.Bounds.{mostGain, mostCut, lockSize};
-ghost use Rattle.fiduccia_mattheyses_pass.specs.Choice.{flip};
+ghost use Rattle.fiduccia_mattheyses_choice.specs.inner.Bounds.{mostGain, mostCut, lockSize};
+ghost use Rattle.fiduccia_mattheyses_choice.specs.Choice.{flip};
+ghost use Rattle.fiduccia_mattheyses_choice.specs.inner.Scan.{loadAfter, ceilingAt, pickBelow};
+ghost use Rattle.fiduccia_mattheyses_choice.specs.inner.Look.{Scannable};
+ghost use Rattle.fiduccia_mattheyses_pass.specs.inner.Next.{nextOf};
 ghost use Rattle.fiduccia_mattheyses_pass.specs.inner.Standing.{gainsAfter, standingWith, standingAfter, Moveable};
+use crate::Limits;
+use crate::Next;
 use crate::Standing;
+use fiduccia_mattheyses_choice::Pick;
+use fiduccia_mattheyses_choice::scan;
 use imbalance::Loads;
+
+// Where the sample begins: at another vertex after each move that lowers the least cut and after each bad one, so that what one sample misses is met by others.
+fn sample_from(st: Standing) -> usize
+    ensures { λ r. ⌜ r < 64 ⌝ }
+{
+    (st.kept % 64 + (st.bad % 64) as usize) % 64
+}
+
+// The next move, or the pass's end: a gain of 0 or less ends it where the bad counter has reached the limit, and counts as bad otherwise.
+pub fn next_move(
+    gains: &[i64],
+    labels: &[u32],
+    weights: &[u32],
+    st: Standing,
+    limits: Limits,
+) -> Next
+    requires { ⌜ Scannable (now gains) (now labels) (now weights) (st .loads .at) × (length (limits .ceilings .at) ≡ 16) × (st .bad ≤ mostVertices) ⌝ }
+    ensures { λ r. ⌜ r ≡ nextOf (pickBelow (now (gains .entry)) (loadAfter (st .loads .at) (now (weights .entry)) (now (labels .entry))) (ceilingAt (limits .ceilings .at) (now (labels .entry))) (length (now (labels .entry)))) (st .bad) (limits .bad) ⌝ }
+{
+    let loads = st.loads;
+    let ceilings = limits.ceilings;
+    let first = sample_from(st);
+    let Pick::Vertex(v, g) = scan::choose(gains, labels, weights, loads, ceilings, first) else {
+        return Next::Stop;
+    };
+    if g <= 0 {
+        let bad = st.bad;
+        if limits.bad <= bad {
+            return Next::Stop;
+        }
+        return Next::Go(v, g, bad + 1);
+    }
+    Next::Go(v, g, 0)
+}
 
 // The label and the gains after v's move.
 fn move_vertex(
@@ -27,7 +69,7 @@ fn move_vertex(
 {
     let old = labels[v];
     labels[v] = 1 - old;
-    gains[v] = crate::scan::LOCKED;
+    gains[v] = scan::LOCKED;
     let a = starts[v] as usize;
     let b = starts[v + 1] as usize;
     crate::gains::update_neighbours(neighbours, arc_weights, labels, gains, old, a, b);

@@ -21,7 +21,7 @@ use Rattle.topology.specs.Graph.{arcs, into, gain, joins}
 use Rattle.topology.specs.Cut.{cut}
 use Rattle.topology.specs.Rule.{answered, arcOk, graphNumber, hasArc, misfit, oversize, rowsNumber, rowsOk, startsOk}
 use Rattle.topology.specs.EightBlockGrid.{grid, ones, A}
-use Rattle.fiduccia_mattheyses_pass.specs.Choice.{flip, member, worth, after, fits, allowed, better, choice}
+use Rattle.fiduccia_mattheyses_choice.specs.Choice.{flip, member, worth, after, fits, allowed, better, choice}
 use Rattle.fiduccia_mattheyses_pass.specs.Pass.{flips, moveOn, next, walk, pass}
 use Rattle.fiduccia_mattheyses.specs.Run.{run}
 use Rattle.fiduccia_mattheyses.specs.Entry.{answer, left, leftBy, numberOf, reportOf, short, unfit}

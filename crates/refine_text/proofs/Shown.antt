@@ -10,7 +10,7 @@ use lib.Dec.{ltb, eqb}
 use borrow.Author.Tests.{eq-eqb, ne-eqb}
 use Rattle.lists.proofs.Tables.{length-table}
 use Rattle.topology.specs.Cut.{cut}
-use Rattle.fiduccia_mattheyses_pass.specs.Choice.{Terms}
+use Rattle.fiduccia_mattheyses_choice.specs.Choice.{Terms}
 use Rattle.fiduccia_mattheyses_pass.specs.Pass.{pass}
 use Rattle.fiduccia_mattheyses.specs.declared.Report.{Report as TwoReport}
 use Rattle.fiduccia_mattheyses.specs.Run.{Run, run}

@@ -13,7 +13,7 @@ use Rattle.imbalance.specs.Ceiling.{unfitChoice, ceilings}
 use Rattle.topology.specs.Rule.{Sound}
 use Rattle.imbalance.specs.Load.{load, loadsOf}
 use Rattle.topology.specs.Cut.{cut}
-use Rattle.fiduccia_mattheyses_pass.specs.Choice.{Terms}
+use Rattle.fiduccia_mattheyses_choice.specs.Choice.{Terms}
 use Rattle.fiduccia_mattheyses_pass.specs.Pass.{Pass}
 use Rattle.fiduccia_mattheyses_pass.specs.declared.Move.{Move}
 use Rattle.fiduccia_mattheyses.specs.declared.Ended.{Ended}

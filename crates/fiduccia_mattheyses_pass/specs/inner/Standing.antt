@@ -14,10 +14,11 @@ use Rattle.imbalance.specs.inner.Moved.{loadsMoved}
 use Rattle.topology.specs.Graph.{Graph, first, past, gain}
 use Rattle.topology.specs.Rule.{Rows, Symmetric}
 use Rattle.topology.specs.Cut.{cut}
-use Rattle.fiduccia_mattheyses_pass.specs.inner.Bounds.{mostGain, mostCut, lockSize}
-use Rattle.fiduccia_mattheyses_pass.specs.Choice.{Terms, other, flip, member, worth}
+use Rattle.fiduccia_mattheyses_choice.specs.inner.Bounds.{mostGain, mostCut, lockSize}
+use Rattle.fiduccia_mattheyses_choice.specs.Choice.{Terms, other, flip, member, worth}
 use Rattle.fiduccia_mattheyses_pass.specs.Pass.{State}
-use Rattle.fiduccia_mattheyses_pass.specs.inner.Scan.{lock}
+use Rattle.fiduccia_mattheyses_choice.specs.inner.Scan.{lock}
+use Rattle.fiduccia_mattheyses_choice.specs.inner.Look.{Scannable}
 use Rattle.fiduccia_mattheyses_pass.specs.inner.Update.{updated}
 use Rattle.fiduccia_mattheyses_pass.specs.declared.Standing.{Standing}
 
@@ -44,14 +45,6 @@ standingAfter st old w g bad made = standingWith st (loadsMoved (st .loads .at) 
 -- the fresh gains: each vertex's to the other part
 abbrev pub freshGains : Graph → List ℕ → List ℤ → List ℤ
 freshGains g labels gains = written (λ v. gain g labels v (other (part labels v))) (length labels) gains
-
--- What the scan asks: as many gains and weights as labels, labels 0 or 1, loads within the limit.
-pub record Scannable (gains : List ℤ) (labels weights loads : List ℕ) : Type 0 where
-  pub gained : length gains ≡ length labels
-  pub weighed : length weights ≡ length labels
-  pub two-labels : (v : ℕ) → part labels v < 2
-  pub sixteen : length loads ≡ 16
-  pub light : (t : ℕ) → t < 2 → getD loads t 0 ≤ mostWeight
 
 -- What a move of v asks besides: rows in order, v a vertex whose weight stands in its part's load, and numbers far from the ends of their types.
 pub record Moveable (g : Graph) (gains : List ℤ) (labels weights : List ℕ) (st : Standing) (v : ℕ) (gain : ℤ) : Type 0 where

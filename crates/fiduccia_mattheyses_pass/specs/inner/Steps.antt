@@ -12,7 +12,7 @@ use Rattle.imbalance.specs.Load.{part, load}
 use Rattle.imbalance.specs.inner.Moved.{loadsMoved}
 use Rattle.topology.specs.Graph.{inRows}
 use Rattle.topology.specs.Cut.{cut}
-use Rattle.fiduccia_mattheyses_pass.specs.Choice.{Terms, other, flip}
+use Rattle.fiduccia_mattheyses_choice.specs.Choice.{Terms, other, flip}
 use Rattle.fiduccia_mattheyses_pass.specs.Pass.{noMove, State, start, flips, pass}
 use Rattle.fiduccia_mattheyses_pass.specs.inner.Standing.{Fixed, Stands, Apart}
 use Rattle.fiduccia_mattheyses_pass.specs.declared.Limits.{Limits}

@@ -5,7 +5,7 @@ use Prim.Native.Nat.{ℕ, zero, suc, _+_, _*_}
 use lib.ListN.{getD, set}
 use lib.Dec.{eqb}
 use lib.IntN.{ℤ, pos, _+ℤ_, _-ℤ_}
-use Rattle.fiduccia_mattheyses_pass.specs.inner.Scan.{isFree}
+use Rattle.fiduccia_mattheyses_choice.specs.inner.Scan.{isFree}
 
 -- a neighbour left behind in the old part gains twice the arc's weight, one in the new part loses it
 unfoldable pub shift : Bool → ℤ → ℕ → ℤ

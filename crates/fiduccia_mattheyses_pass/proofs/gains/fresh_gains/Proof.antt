@@ -9,7 +9,7 @@ use Rattle.lists.specs.Fill.{written}
 use Rattle.lists.proofs.Fills.{written-none, written-more, length-written}
 use Rattle.imbalance.specs.Load.{part}
 use Rattle.topology.specs.Graph.{inRows, gain}
-use Rattle.fiduccia_mattheyses_pass.specs.Choice.{other}
+use Rattle.fiduccia_mattheyses_choice.specs.Choice.{other}
 use borrow.Author.Needs.{needs}
 use Rattle.fiduccia_mattheyses_pass.proofs.gains.fresh_gains.Statement.{statement}
 use Rattle.fiduccia_mattheyses_pass.proofs.gains.fresh_gains.Tie as tie

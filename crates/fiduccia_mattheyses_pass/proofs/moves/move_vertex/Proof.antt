@@ -3,8 +3,8 @@ use mathlib.Core.Path.{refl, _∙_}
 use Prim.Native.Nat.{_+_}
 use native.Mathlib.Omega.{arith}
 use lib.ListN.{length-set}
-use Rattle.fiduccia_mattheyses_pass.specs.Choice.{flip}
-use Rattle.fiduccia_mattheyses_pass.specs.inner.Scan.{lock}
+use Rattle.fiduccia_mattheyses_choice.specs.Choice.{flip}
+use Rattle.fiduccia_mattheyses_choice.specs.inner.Scan.{lock}
 use Rattle.fiduccia_mattheyses_pass.proofs.Updates.{mag-set}
 use borrow.Author.Needs.{needs}
 use Rattle.fiduccia_mattheyses_pass.proofs.moves.move_vertex.Statement.{statement}

@@ -381,7 +381,7 @@ abbrev b9 : Syntax.Body
 b9 = Syntax.assign (Syntax.place 20 List.[]) (Syntax.aggregate (List._∷_ (Syntax.copy (Syntax.place 19 List.[])) (List._∷_ (Syntax.copy (Syntax.place 5 (List._∷_ (Syntax.field 1) List.[]))) List.[])))
 
 abbrev b10 : Syntax.Body
-b10 = Syntax.call "fiduccia_mattheyses_pass::scan::next_move" (List._∷_ (Syntax.copy (Syntax.place 18 List.[])) (List._∷_ (Syntax.copy (Syntax.place 20 List.[])) (List._∷_ (Syntax.copy (Syntax.place 4 List.[])) (List._∷_ (Syntax.copy (Syntax.place 10 List.[])) (List._∷_ (Syntax.copy (Syntax.place 9 List.[])) List.[]))))) (Syntax.place 12 List.[])
+b10 = Syntax.call "fiduccia_mattheyses_pass::moves::next_move" (List._∷_ (Syntax.copy (Syntax.place 18 List.[])) (List._∷_ (Syntax.copy (Syntax.place 20 List.[])) (List._∷_ (Syntax.copy (Syntax.place 4 List.[])) (List._∷_ (Syntax.copy (Syntax.place 10 List.[])) (List._∷_ (Syntax.copy (Syntax.place 9 List.[])) List.[]))))) (Syntax.place 12 List.[])
 
 abbrev b11 : Syntax.Body
 b11 = Syntax.assign (Syntax.place 13 List.[]) (Syntax.rvOpd (Syntax.copy (Syntax.place 12 (List._∷_ (Syntax.variant 1) (List._∷_ (Syntax.field 1) List.[])))))
@@ -1131,7 +1131,7 @@ module _ (claims· : Claims) where
   module _ (Pre· : (κs : Lifetimes.Lfts 7) → Kinds.Dens κs ps → Type 0) (Post· : (κs : Lifetimes.Lfts 7) → (a : Kinds.Dens κs ps) → Kinds.Plain 7 ps r κs) where
     module _ (M : Type 1) where
       abbrev pub Closed : Type 2
-      Closed = (𝓤 : URA.URA M) (H : Wp.Heap 𝓤) (A : Atoms.Atoms 𝓤) (W : Kit.Given 𝓤 H A) (𝓣 : Wp.Tables 𝓤 H) (known0 : Plain.Known 𝓤 H A W 𝓣 3 ps·0 r·0 (claims· .0) (claims· .1) "fiduccia_mattheyses_pass::scan::next_move") (known1 : Plain.Known 𝓤 H A W 𝓣 0 ps·1 r·1 (claims· .2) (claims· .3) "lists::narrow") (known2 : Plain.Known 𝓤 H A W 𝓣 1 ps·2 r·2 (claims· .4) (claims· .5) "fiduccia_mattheyses_pass::put_move") (known3 : Plain.Known 𝓤 H A W 𝓣 6 ps·3 r·3 (claims· .6) (claims· .7) "fiduccia_mattheyses_pass::moves::make_move") → Statement.Triple 𝓤 (Wp.WpFn 𝓤 H (𝓣 .C) (𝓣 .Λ) (Function.fnOf 7 ps r xs m hs body)) (Function.plainOf 𝓤 H A 7 ps r Pre· Post·)
+      Closed = (𝓤 : URA.URA M) (H : Wp.Heap 𝓤) (A : Atoms.Atoms 𝓤) (W : Kit.Given 𝓤 H A) (𝓣 : Wp.Tables 𝓤 H) (known0 : Plain.Known 𝓤 H A W 𝓣 3 ps·0 r·0 (claims· .0) (claims· .1) "fiduccia_mattheyses_pass::moves::next_move") (known1 : Plain.Known 𝓤 H A W 𝓣 0 ps·1 r·1 (claims· .2) (claims· .3) "lists::narrow") (known2 : Plain.Known 𝓤 H A W 𝓣 1 ps·2 r·2 (claims· .4) (claims· .5) "fiduccia_mattheyses_pass::put_move") (known3 : Plain.Known 𝓤 H A W 𝓣 6 ps·3 r·3 (claims· .6) (claims· .7) "fiduccia_mattheyses_pass::moves::make_move") → Statement.Triple 𝓤 (Wp.WpFn 𝓤 H (𝓣 .C) (𝓣 .Λ) (Function.fnOf 7 ps r xs m hs body)) (Function.plainOf 𝓤 H A 7 ps r Pre· Post·)
 
     module _ (Inv·0 : InvT-loop) (μ·0 : MeasureT-loop) where
       abbrev at0 : Typed.TF T14 O4
@@ -1379,7 +1379,7 @@ module _ (claims· : Claims) where
 
       module _ {M : Type 1} (𝓤 : URA.URA M) (H : Wp.Heap 𝓤) (A : Atoms.Atoms 𝓤) (W : Kit.Given 𝓤 H A) (𝓣 : Wp.Tables 𝓤 H) where
         abbrev Knowns : Type 1
-        Knowns = Plain.Known 𝓤 H A W 𝓣 3 ps·0 r·0 (claims· .0) (claims· .1) "fiduccia_mattheyses_pass::scan::next_move" × Plain.Known 𝓤 H A W 𝓣 0 ps·1 r·1 (claims· .2) (claims· .3) "lists::narrow" × Plain.Known 𝓤 H A W 𝓣 1 ps·2 r·2 (claims· .4) (claims· .5) "fiduccia_mattheyses_pass::put_move" × Plain.Known 𝓤 H A W 𝓣 6 ps·3 r·3 (claims· .6) (claims· .7) "fiduccia_mattheyses_pass::moves::make_move"
+        Knowns = Plain.Known 𝓤 H A W 𝓣 3 ps·0 r·0 (claims· .0) (claims· .1) "fiduccia_mattheyses_pass::moves::next_move" × Plain.Known 𝓤 H A W 𝓣 0 ps·1 r·1 (claims· .2) (claims· .3) "lists::narrow" × Plain.Known 𝓤 H A W 𝓣 1 ps·2 r·2 (claims· .4) (claims· .5) "fiduccia_mattheyses_pass::put_move" × Plain.Known 𝓤 H A W 𝓣 6 ps·3 r·3 (claims· .6) (claims· .7) "fiduccia_mattheyses_pass::moves::make_move"
 
       module _ (κs : Lifetimes.Lfts 7) (qs : Lifetimes.Shares 7) where
         abbrev g8 : List.List Row.Entry
@@ -1876,7 +1876,7 @@ module _ (claims· : Claims) where
           d53 = Typed.t-seq 𝓤 H A W 𝓣 E G23 G24 b19 b44 Δ3 at27 at52 d27 d52
 
           d54 : Typed.Typed 𝓤 H A 𝓣 E G22 b46 Δ3 at54
-          d54 = Typed.s-seq 𝓤 H A W 𝓣 E G22 G23 b10 b45 Δ3 (Typed.both s19) at53 (Plain.t-call-plain 𝓤 H A W 𝓣 3 ps·0 r·0 (claims· .0) (claims· .1) "fiduccia_mattheyses_pass::scan::next_move" (known .0) E (λ pos β. β) G22 (record { pos = 18; ty = Syntax.tyRef Syntax.erased Syntax.imm (Syntax.tyInt Syntax.w64); ref = λ x. x }, (record { pos = 20; ty = Syntax.tyRef Syntax.erased Syntax.imm (Syntax.tyInt Syntax.w32); ref = λ x. x }, (record { pos = 4; ty = Syntax.tyRef (Syntax.named 3) Syntax.imm (Syntax.tyInt Syntax.w32); ref = λ x. x }, (record { pos = 10; st = List.[]; d = 0; at = λ x. x }, (record { pos = 9; st = List.[]; d = 0; at = λ x. x }, tt))))) 12 (List._∷_ 7 (List._∷_ 8 (List._∷_ 3 List.[]))) (Call.sub-id 𝓤 H A W (G22 .slots)) (ShrSlice.spares-sslice 𝓤 H A W (Signed'.SInt Syntax.w64) type·3 7, Shared.reads-sslice 𝓤 H A W (Signed'.SInt Syntax.w64) type·3 7, Path'.refl, (ShrSlice.spares-sslice 𝓤 H A W (Referent.rtF (Referent.fInt Syntax.w32)) type·5 8, Shared.reads-sslice 𝓤 H A W (Referent.rtF (Referent.fInt Syntax.w32)) type·5 8, Path'.refl, (ShrSlice.spares-sslice 𝓤 H A W (Referent.rtF (Referent.fInt Syntax.w32)) type·17 3, Shared.reads-sslice 𝓤 H A W (Referent.rtF (Referent.fInt Syntax.w32)) type·17 3, Path'.refl, ((Yields.yields-copy 𝓤 H A W (λ ρ. Unit) (Declared'.row Standing.the-type) Path'.refl (Copies.cStruct Standing.the-type Laws''.the-laws Laws''.the-copy .copy 𝓤 H A W) (Rows.whole (Declared'.row Standing.the-type)) (λ x. x) (λ x. x) (λ ρ told. Local.mem-whole 𝓤 H A W (Declared'.row Standing.the-type) ρ) λ ρ told. Local.whole-mem 𝓤 H A W (Declared'.row Standing.the-type) ρ, Path'.refl), ((Yields.yields-copy 𝓤 H A W (λ ρ. Unit) (Declared'.row Limits.the-type) Path'.refl (Copies.cStruct Limits.the-type Laws.the-laws Laws.the-copy .copy 𝓤 H A W) (Rows.whole (Declared'.row Limits.the-type)) (λ x. x) (λ x. x) (λ ρ told. Local.mem-whole 𝓤 H A W (Declared'.row Limits.the-type) ρ) λ ρ told. Local.whole-mem 𝓤 H A W (Declared'.row Limits.the-type) ρ, Path'.refl), tt))))) (Reads'.room-gone 𝓤 H A type·2) (tt, (tt, (tt, tt))) Path'.refl) d53
+          d54 = Typed.s-seq 𝓤 H A W 𝓣 E G22 G23 b10 b45 Δ3 (Typed.both s19) at53 (Plain.t-call-plain 𝓤 H A W 𝓣 3 ps·0 r·0 (claims· .0) (claims· .1) "fiduccia_mattheyses_pass::moves::next_move" (known .0) E (λ pos β. β) G22 (record { pos = 18; ty = Syntax.tyRef Syntax.erased Syntax.imm (Syntax.tyInt Syntax.w64); ref = λ x. x }, (record { pos = 20; ty = Syntax.tyRef Syntax.erased Syntax.imm (Syntax.tyInt Syntax.w32); ref = λ x. x }, (record { pos = 4; ty = Syntax.tyRef (Syntax.named 3) Syntax.imm (Syntax.tyInt Syntax.w32); ref = λ x. x }, (record { pos = 10; st = List.[]; d = 0; at = λ x. x }, (record { pos = 9; st = List.[]; d = 0; at = λ x. x }, tt))))) 12 (List._∷_ 7 (List._∷_ 8 (List._∷_ 3 List.[]))) (Call.sub-id 𝓤 H A W (G22 .slots)) (ShrSlice.spares-sslice 𝓤 H A W (Signed'.SInt Syntax.w64) type·3 7, Shared.reads-sslice 𝓤 H A W (Signed'.SInt Syntax.w64) type·3 7, Path'.refl, (ShrSlice.spares-sslice 𝓤 H A W (Referent.rtF (Referent.fInt Syntax.w32)) type·5 8, Shared.reads-sslice 𝓤 H A W (Referent.rtF (Referent.fInt Syntax.w32)) type·5 8, Path'.refl, (ShrSlice.spares-sslice 𝓤 H A W (Referent.rtF (Referent.fInt Syntax.w32)) type·17 3, Shared.reads-sslice 𝓤 H A W (Referent.rtF (Referent.fInt Syntax.w32)) type·17 3, Path'.refl, ((Yields.yields-copy 𝓤 H A W (λ ρ. Unit) (Declared'.row Standing.the-type) Path'.refl (Copies.cStruct Standing.the-type Laws''.the-laws Laws''.the-copy .copy 𝓤 H A W) (Rows.whole (Declared'.row Standing.the-type)) (λ x. x) (λ x. x) (λ ρ told. Local.mem-whole 𝓤 H A W (Declared'.row Standing.the-type) ρ) λ ρ told. Local.whole-mem 𝓤 H A W (Declared'.row Standing.the-type) ρ, Path'.refl), ((Yields.yields-copy 𝓤 H A W (λ ρ. Unit) (Declared'.row Limits.the-type) Path'.refl (Copies.cStruct Limits.the-type Laws.the-laws Laws.the-copy .copy 𝓤 H A W) (Rows.whole (Declared'.row Limits.the-type)) (λ x. x) (λ x. x) (λ ρ told. Local.mem-whole 𝓤 H A W (Declared'.row Limits.the-type) ρ) λ ρ told. Local.whole-mem 𝓤 H A W (Declared'.row Limits.the-type) ρ, Path'.refl), tt))))) (Reads'.room-gone 𝓤 H A type·2) (tt, (tt, (tt, tt))) Path'.refl) d53
 
           d55 : Typed.Typed 𝓤 H A 𝓣 E G21 b47 Δ3 at55
           d55 = Typed.s-seq 𝓤 H A W 𝓣 E G21 G22 b9 b46 Δ3 (Typed.ask s18) at54 (Relend.t-sl-aggregate 𝓤 H A W E (Referent.rtF (Referent.fInt Syntax.w32)) 𝓣 (Relend.asShr (Referent.rtF (Referent.fInt Syntax.w32))) G21 19 20 8 type·5 type·5 (λ x. x) (Scalar.oFld 5 (List._∷_ (Syntax.field 1) List.[]) (Syntax.tyInt Syntax.w64) 8 λ v. Shared.lenV (v .0)) (Reads'.as-is 𝓤 H A (Relend.ssptr (Referent.rtF (Referent.fInt Syntax.w32)) type·5 8)) (Reads'.room-gone 𝓤 H A type·6) (Reshare.reads-owedS-len 𝓤 H A W (Referent.rtF (Referent.fInt Syntax.w32)) type·18 4 8 (Row.lease (κs .1 .1 .1 .1 .0) (qs .1 .1 .1 .1 .0)) 8 Path'.refl, Path'.refl) Path'.refl Path'.refl λ b o k. tt) d54
@@ -2529,6 +2529,6 @@ module _ (claims· : Claims) where
           pub asked : (a : Kinds.Dens κs ps) → (good : Kinds.GoodsP κs ps a) → (pre : Pre· κs a) → (bs : List.List Nat.ℕ) → Φ (Any.wantQ 7 ps r xs m κs qs a (Post· κs a)) (Function.init 7 ps r xs m κs qs a)
           asked = λ a good pre bs. laid record { κs = κs; args = record { starts = a .0; neighbours = a .1 .0; arc-weights = a .1 .1 .0; weights = a .1 .1 .1 .0; labels = a .1 .1 .1 .1 .0; gains = a .1 .1 .1 .1 .1 .0; moves = a .1 .1 .1 .1 .1 .1 .0; first = a .1 .1 .1 .1 .1 .1 .1 .0; limits = a .1 .1 .1 .1 .1 .1 .1 .1 .0 }; good = good; pre = pre }
 
-        module _ {M : Type 1} (𝓤 : URA.URA M) (H : Wp.Heap 𝓤) (A : Atoms.Atoms 𝓤) (W : Kit.Given 𝓤 H A) (𝓣 : Wp.Tables 𝓤 H) (known0 : Plain.Known 𝓤 H A W 𝓣 3 ps·0 r·0 (claims· .0) (claims· .1) "fiduccia_mattheyses_pass::scan::next_move") (known1 : Plain.Known 𝓤 H A W 𝓣 0 ps·1 r·1 (claims· .2) (claims· .3) "lists::narrow") (known2 : Plain.Known 𝓤 H A W 𝓣 1 ps·2 r·2 (claims· .4) (claims· .5) "fiduccia_mattheyses_pass::put_move") (known3 : Plain.Known 𝓤 H A W 𝓣 6 ps·3 r·3 (claims· .6) (claims· .7) "fiduccia_mattheyses_pass::moves::make_move") where
+        module _ {M : Type 1} (𝓤 : URA.URA M) (H : Wp.Heap 𝓤) (A : Atoms.Atoms 𝓤) (W : Kit.Given 𝓤 H A) (𝓣 : Wp.Tables 𝓤 H) (known0 : Plain.Known 𝓤 H A W 𝓣 3 ps·0 r·0 (claims· .0) (claims· .1) "fiduccia_mattheyses_pass::moves::next_move") (known1 : Plain.Known 𝓤 H A W 𝓣 0 ps·1 r·1 (claims· .2) (claims· .3) "lists::narrow") (known2 : Plain.Known 𝓤 H A W 𝓣 1 ps·2 r·2 (claims· .4) (claims· .5) "fiduccia_mattheyses_pass::put_move") (known3 : Plain.Known 𝓤 H A W 𝓣 6 ps·3 r·3 (claims· .6) (claims· .7) "fiduccia_mattheyses_pass::moves::make_move") where
           pub spec : Statement.Triple 𝓤 (Wp.WpFn 𝓤 H (𝓣 .C) (𝓣 .Λ) (Function.fnOf 7 ps r xs m hs body)) (Function.plainOf 𝓤 H A 7 ps r Pre· Post·)
           spec = Plain.t-fn-plain 𝓤 H A W 𝓣 7 ps r xs m hs body (λ κs qs bs. Φ) (λ κs qs bs bd. typed κs qs 𝓤 H A W 𝓣 (known0, known1, known2, known3) bs bd) Pre· Post· asked
