@@ -9,7 +9,7 @@ use lib.ListN.{length, getD, set, length-set, take, drop, take-append-drop}
 use lib.Seq.{getD-set-same, getD-set-other, set-comm, set-out}
 use borrow.Author.Tests.{eqb-true, eqb-false, ltb-true, ltb-false}
 use Rattle.imbalance.specs.Load.{part}
-use Rattle.topology.proofs.TwoMoves.{moved-back}
+use Rattle.exchange.proofs.TwoMoves.{moved-back}
 use Rattle.fiduccia_mattheyses_choice.specs.Choice.{other, flip}
 use Rattle.fiduccia_mattheyses_pass.specs.Pass.{flips}
 

@@ -8,8 +8,8 @@ use Rattle.imbalance.specs.Load.{part}
 use Rattle.topology.specs.Graph.{Graph}
 use Rattle.topology.specs.Rule.{Symmetric}
 use Rattle.topology.specs.Cut.{fall}
-use Rattle.topology.specs.Exchange.{bothFall}
-use Rattle.topology.proofs.TwoMoves.{two-parts-fall}
+use Rattle.exchange.specs.Exchange.{bothFall}
+use Rattle.exchange.proofs.TwoMoves.{two-parts-fall}
 use Rattle.fiduccia_mattheyses_choice.specs.Choice.{other, flip}
 
 -- "moving both lowers the cut by the sum of their gains", less or plus twice their shared arc weight: u and v each go to the other part

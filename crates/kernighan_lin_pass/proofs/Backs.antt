@@ -4,7 +4,7 @@ use mathlib.Core.List.{List}
 use Prim.Native.Nat.{ℕ, zero, suc, _+_, _-_, _≤_, _<_}
 use native.Mathlib.Omega.{arith}
 use lib.ListN.{length, getD}
-use Rattle.topology.proofs.Exchanges.{exchange-twice}
+use Rattle.exchange.proofs.Exchanges.{exchange-twice}
 use Rattle.kernighan_lin_pass.specs.Pass.{Swap, swapped}
 use Rattle.kernighan_lin_pass.specs.inner.Steps.{codeBase, codeOf, swapOf, back}
 

@@ -13,7 +13,7 @@ use Rattle.imbalance.specs.Limit.{mostVertices, mostWeight}
 use Rattle.topology.specs.Graph.{Graph, gain}
 use Rattle.topology.specs.Cut.{cut, fall}
 use Rattle.topology.proofs.Moves.{gain-is-the-fall-of-the-cut}
-use Rattle.topology.proofs.Exchanges.{length-exchange}
+use Rattle.exchange.proofs.Exchanges.{length-exchange}
 use Rattle.kernighan_lin_pass.specs.Pass.{Swap, swapped}
 use Rattle.kernighan_lin_pass.specs.inner.Steps.{Fit, mostGain}
 use Rattle.kernighan_lin_pass.proofs.Sizes.{cut-small}

@@ -10,7 +10,7 @@ use lib.Signed.{leZ}
 use Rattle.lists.specs.Fill.{table}
 use Rattle.topology.specs.Graph.{Graph}
 use Rattle.topology.specs.Cut.{cut}
-use Rattle.topology.specs.Exchange.{exchange}
+use Rattle.exchange.specs.Exchange.{exchange}
 use Rattle.kernighan_lin_pass.specs.Gain.{added, updated, largest}
 
 -- What a swap goes by: the graph, the vertices that may be taken (all of them today), the first part, and the bad limit.

@@ -1,4 +1,4 @@
--- The laws of a graph in rows, of its cuts, of a move and of two.
+-- The laws of a graph in rows, of its cuts and of a move.
 pub mod Starts
 pub mod Rises
 pub mod Rules
@@ -10,9 +10,6 @@ pub mod RowWalks
 pub mod GainSums
 pub mod Pairs
 pub mod Moves
-pub mod TwoMoves
-pub mod Exchanges
-pub mod ExchangesOfTheGrid
 pub mod Gains
 pub mod Unique
 pub mod EqualOpposites

@@ -9,7 +9,5 @@ pub mod Number
 pub mod EightBlockGrid
 pub mod Rules
 pub mod Coupe
--- ---- What document 02 says
-pub mod Exchange
 -- ---- What the inner functions promise each other
 pub mod inner

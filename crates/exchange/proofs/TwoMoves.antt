@@ -13,11 +13,11 @@ use Rattle.lists.specs.Sum.{between, weigh}
 use Rattle.lists.proofs.Totals.{sum-ext, sum-zero}
 use Rattle.lists.proofs.Differences as D
 use Rattle.imbalance.specs.Load.{part, load}
 use Rattle.topology.specs.Graph.{Graph, first, past, neighbour, weight, arcs, into, gain, joins}
 use Rattle.topology.specs.Rule.{Symmetric}
 use Rattle.topology.specs.Cut.{cut, fall}
-use Rattle.topology.specs.Exchange.{twoMoves, OneOf, across, both, Alike, gainSum, bothFall}
 use Rattle.topology.proofs.Moves.{cut-move, into-move}
+use Rattle.exchange.specs.Exchange.{twoMoves, OneOf, across, both, Alike, gainSum, bothFall}
 
 alike : (g : Graph) (ws p q : List ℕ) → p ≡ q → Alike g ws p q
 alike g ws p q e = record { labels = e; loads = λ t. ap (λ (r : List ℕ). load ws r t) e; cuts = ap (cut g) e }

@@ -8,11 +8,11 @@ use lib.ListN.{length, set, length-set}
 use lib.Seq.{getD-set-same, getD-set-other, ext-getD, set-comm}
 use borrow.Author.Tests.{eqb-true, eqb-false}
 use Rattle.imbalance.specs.Load.{part}
 use Rattle.topology.specs.Graph.{Graph}
 use Rattle.topology.specs.Rule.{Symmetric}
 use Rattle.topology.specs.Cut.{fall}
-use Rattle.topology.specs.Exchange.{exchange, exchangeFall}
-use Rattle.topology.proofs.TwoMoves.{apart-fall}
+use Rattle.exchange.specs.Exchange.{exchange, exchangeFall}
+use Rattle.exchange.proofs.TwoMoves.{apart-fall}
 
 -- an exchange of two vertices of different parts, any two of the sixteen, lowers the cut by the sum of their gains, less twice their shared arc weight
 pub exchange-fall :

@@ -2,10 +2,10 @@
 use mathlib.Core.Path.{_≡_, refl}
 use lib.IntN.{pos}
 use Rattle.lists.specs.Sum.{sum, between}
 use Rattle.topology.specs.Graph.{arcs, into, gain, joins}
 use Rattle.topology.specs.Cut.{cut, fall}
 use Rattle.topology.specs.EightBlockGrid.{grid, A, B}
-use Rattle.topology.specs.Exchange.{both, exchange, bothFall, exchangeFall}
+use Rattle.exchange.specs.Exchange.{both, exchange, bothFall, exchangeFall}
 
 -- 5 and 6 have an arc and begin in different parts: 3 + 3 - 2 = 4, and the labels become B
 pub five-and-six : (exchange A 5 6 ≡ B) × (exchangeFall grid A 5 6 ≡ pos 4) × (fall grid A (exchange A 5 6) ≡ pos 4)
