@@ -18,8 +18,8 @@ use Rattle.imbalance.specs.Load.{part}
 use Rattle.imbalance.specs.Limit.{mostWeight}
 use Rattle.fiduccia_mattheyses_choice.specs.inner.Bounds.{pastWeights, lockSize, far}
 use Rattle.fiduccia_mattheyses_choice.specs.Choice.{other}
-use Rattle.fiduccia_mattheyses_choice.specs.inner.Scan.{isFree, beats, picked, loadAfter, ceilingAt, pickBelow}
-use Rattle.fiduccia_mattheyses_choice.specs.inner.Look.{Scannable, lowest, lesser, roomOf, roomsOf, liftsOf, nobody, Sighted, gainOf, loadOf, fitsOf, mayOf, Holds, Swept}
+use Rattle.fiduccia_mattheyses_choice.specs.inner.Scan.{Scannable, isFree, beats, picked, loadAfter, ceilingAt, pickBelow}
+use Rattle.fiduccia_mattheyses_choice.specs.inner.Look.{lowest, lesser, roomOf, roomsOf, liftsOf, nobody, Sighted, gainOf, loadOf, fitsOf, mayOf, Holds, Swept}
 use Rattle.fiduccia_mattheyses_choice.specs.declared.Held.{Held}
 use Rattle.fiduccia_mattheyses_choice.specs.declared.Pick.{Pick}
 use Rattle.fiduccia_mattheyses_choice.specs.declared.Pick.the-variants.{Nobody, Vertex}

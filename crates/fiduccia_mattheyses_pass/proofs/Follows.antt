@@ -16,7 +16,8 @@ use Rattle.lists.specs.Sum.{sum, weigh}
 use Rattle.fiduccia_mattheyses_choice.specs.inner.Scan.{isFree}
 use Rattle.fiduccia_mattheyses_pass.specs.inner.Update.{shift, updated}
 use Rattle.lists.proofs.Differences.{mag-up, mag-down}
-use Rattle.fiduccia_mattheyses_choice.specs.inner.Bounds.{mostGain, lockSize}
+use Rattle.fiduccia_mattheyses_choice.specs.inner.Bounds.{lockSize}
+use Rattle.fiduccia_mattheyses_pass.specs.inner.Bounds.{mostGain}
 
 -- a small gain is no lock
 pub free-small : (z : ℤ) → mag z < lockSize - 1 → isFree z ≡ true

@@ -16,7 +16,7 @@ use Rattle.lists.proofs.Fills.{length-written, written-below}
 use Rattle.imbalance.specs.Load.{load}
 use Rattle.imbalance.specs.declared.Loads.{Loads}
 use Rattle.topology.specs.Cut.{cut}
-use Rattle.fiduccia_mattheyses_choice.specs.inner.Bounds.{mostCut}
+use Rattle.fiduccia_mattheyses_pass.specs.inner.Bounds.{mostCut}
 use Rattle.fiduccia_mattheyses_choice.specs.Choice.{Terms, worth}
 use Rattle.fiduccia_mattheyses_pass.specs.Pass.{State, start, walk, flips, pass}
 use Rattle.fiduccia_mattheyses_pass.specs.inner.Standing.{freshGains}

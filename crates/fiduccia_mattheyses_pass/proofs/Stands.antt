@@ -24,12 +24,12 @@ use Rattle.topology.specs.Graph.{Graph, first, past, arcs, into, gain}
 use Rattle.topology.specs.Rule.{Symmetric}
 use Rattle.topology.specs.Cut.{cut, rowCut}
 use Rattle.topology.proofs.Moves.{cut-move, load-holds, loads-move}
-use Rattle.fiduccia_mattheyses_choice.specs.inner.Bounds.{mostInRow, mostCut, lockSize}
+use Rattle.fiduccia_mattheyses_choice.specs.inner.Bounds.{lockSize}
+use Rattle.fiduccia_mattheyses_pass.specs.inner.Bounds.{mostInRow, mostCut}
 use Rattle.fiduccia_mattheyses_choice.specs.Choice.{Terms, other, flip, member, worth, fits, choice, isBad}
 use Rattle.fiduccia_mattheyses_pass.specs.Pass.{State, start, moveOn, next}
-use Rattle.fiduccia_mattheyses_choice.specs.inner.Scan.{lock, picked, pickBelow, loadAfter, ceilingAt}
+use Rattle.fiduccia_mattheyses_choice.specs.inner.Scan.{Scannable, lock, picked, pickBelow, loadAfter, ceilingAt}
 use Rattle.fiduccia_mattheyses_pass.specs.inner.Next.{nextOf}
-use Rattle.fiduccia_mattheyses_choice.specs.inner.Look.{Scannable}
 use Rattle.fiduccia_mattheyses_pass.specs.inner.Standing.{gainsAfter, standingAfter, Moveable, Fixed, Stands}
 use Rattle.fiduccia_mattheyses_choice.specs.declared.Pick.the-variants.{Nobody, Vertex}
 use Rattle.fiduccia_mattheyses_pass.specs.declared.Next.{Next}

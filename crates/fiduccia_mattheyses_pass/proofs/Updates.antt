@@ -21,7 +21,8 @@ use Rattle.fiduccia_mattheyses_choice.specs.declared.Slot.{Slot}
 use Rattle.fiduccia_mattheyses_choice.specs.declared.Slot.the-variants.{Locked, Free}
 use Rattle.lists.proofs.Differences.{mag-up, mag-down}
 use Rattle.topology.proofs.Gains.{twice-small}
-use Rattle.fiduccia_mattheyses_choice.specs.inner.Bounds.{pastWeights, mostTwice, mostUpdated}
+use Rattle.fiduccia_mattheyses_choice.specs.inner.Bounds.{pastWeights}
+use Rattle.fiduccia_mattheyses_pass.specs.inner.Bounds.{mostTwice, mostUpdated}
 
 -- a signed number that went through memory is itself
 pub back : (z : ℤ) → mag z < 2 ^ hbits w64 → toZ w64 (ofZ w64 z) ≡ z

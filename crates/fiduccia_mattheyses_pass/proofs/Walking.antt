@@ -13,7 +13,7 @@ use Rattle.imbalance.specs.Load.{part}
 use Rattle.topology.specs.Cut.{cut}
 use Rattle.fiduccia_mattheyses_choice.specs.Choice.{Terms, flip}
 use Rattle.fiduccia_mattheyses_pass.specs.Pass.{State, start, moveOn, walk, flips}
-use Rattle.fiduccia_mattheyses_choice.specs.inner.Look.{Scannable}
+use Rattle.fiduccia_mattheyses_choice.specs.inner.Scan.{Scannable}
 use Rattle.fiduccia_mattheyses_pass.specs.inner.Standing.{Fixed, Stands, Moveable, gainsAfter, standingAfter}
 use Rattle.fiduccia_mattheyses_pass.specs.declared.Standing.{Standing}
 use Rattle.fiduccia_mattheyses_pass.specs.declared.Next.{Next}

@@ -26,7 +26,8 @@ use Rattle.fiduccia_mattheyses_pass.proofs.Moved.{member-more}
 use Rattle.fiduccia_mattheyses_pass.specs.inner.Update.{shift, updated}
 use Rattle.lists.proofs.Totals.{sum-most}
 use Rattle.lists.proofs.Differences.{mag-sub, same, plus, take-away}
-use Rattle.fiduccia_mattheyses_choice.specs.inner.Bounds.{pastWeights, mostInRow, mostGain}
+use Rattle.fiduccia_mattheyses_choice.specs.inner.Bounds.{pastWeights}
+use Rattle.fiduccia_mattheyses_pass.specs.inner.Bounds.{mostInRow, mostGain}
 use Rattle.fiduccia_mattheyses_pass.proofs.Follows.{free-small, updated-at, total, length-updated, moved-on}
 
 weigh-le : (t : Bool) (x m : ℕ) → x ≤ m → weigh t x ≤ m

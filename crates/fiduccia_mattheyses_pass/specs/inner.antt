@@ -1,4 +1,5 @@
 -- What the inner functions of this crate promise each other. No public promise cites a definition of these files.
+pub mod Bounds
 pub mod Next
 pub mod Standing
 pub mod Update

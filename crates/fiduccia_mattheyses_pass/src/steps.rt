@@ -4,7 +4,7 @@ ghost use mathlib.Core.Bool.{true};
 ghost use Prim.Native.Nat.{_≤_};
 ghost use lib.IntN.{pos};
 ghost use lib.Signed.{leZ};
-ghost use Rattle.fiduccia_mattheyses_choice.specs.inner.Bounds.{mostCut};
+ghost use Rattle.fiduccia_mattheyses_pass.specs.inner.Bounds.{mostCut};
 ghost use Rattle.fiduccia_mattheyses_pass.specs.inner.Steps.{firstStanding, UndoAsked, UndoDone};
 use crate::Move;
 use crate::Passed;

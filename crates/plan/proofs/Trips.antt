@@ -261,9 +261,9 @@ unfolding numberFor
 renewed-number s file t e p f m = rw (e, p) (rw f at m)
 
 -- a refusal of a file with a number
-read-refused : (s : List ℕ) (t u : Targets) (r : ReadAnswer) (m : ℕ) → Read s t r u → fileNumber s ≡ suc m → (r ≡ refusalOf (suc m)) × (u ≡ t)
+refused-with : (s : List ℕ) (t u : Targets) (r : ReadAnswer) (m : ℕ) → Read s t r u → fileNumber s ≡ suc m → (r ≡ refusalOf (suc m)) × (u ≡ t)
 unfolding numberFor readAnswer readLeft
-read-refused s t u r m h e =
+refused-with s t u r m h e =
     let k = ne-eqb (suc m) 0 (λ z. omega arith) in
     (rw (e, k) at (h .answered), same-targets (rw (e, k) at (h .labels)) (rw (e, k) at (h .weights)) (rw (e, k) at (h .starts)) (rw (e, k) at (h .neighbours)) (rw (e, k) at (h .arcWeights)))
 
@@ -311,8 +311,8 @@ one-word-changed s s′ w t u t′ u′ r r′ h h′ long rest differ read z re
     go (badKind s′) (refused-changed s s′ w h h′ long rest differ f)
   where
     go : (k : Bool) → fileNumber s′ ≡ cond k 11 10 → (r′ ≡ refusalOf (cond k 11 10)) × (u′ ≡ t′)
-    go true e = read-refused s′ t′ u′ r′ 10 read′ e
-    go false e = read-refused s′ t′ u′ r′ 9 read′ e
+    go true e = refused-with s′ t′ u′ r′ 10 read′ e
+    go false e = refused-with s′ t′ u′ r′ 9 read′ e
 
 -- TWO BLOCKS EXCHANGED: s′ is the accepted s, of the new kind, with two of its blocks exchanged; it is refused with 10, and nothing is written
 pub blocks-exchanged : (s s′ : List ℕ) (b c : ℕ) (t u t′ u′ : Targets) (r r′ : ReadAnswer) → Bytes s → kindOf s ≡ newKind → Exchanged s s′ b c
@@ -321,4 +321,4 @@ pub blocks-exchanged : (s s′ : List ℕ) (b c : ℕ) (t u t′ u′ : Targets)
 blocks-exchanged s s′ b c t u t′ u′ r r′ h new x lb lc ne read z read′ =
     let m = read-zero s t u r read z in
     let f = accepted-places s _ _ _ _ _ m .accepted in
-    read-refused s′ t′ u′ r′ 9 read′ (refused-exchanged s s′ b c h x f new lb lc ne)
+    refused-with s′ t′ u′ r′ 9 read′ (refused-exchanged s s′ b c h x f new lb lc ne)

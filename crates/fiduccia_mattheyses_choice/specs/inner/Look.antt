@@ -12,14 +12,6 @@ use Rattle.fiduccia_mattheyses_choice.specs.inner.Bounds.{lockSize, far}
 use Rattle.fiduccia_mattheyses_choice.specs.inner.Scan.{isFree, beats}
 use Rattle.fiduccia_mattheyses_choice.specs.declared.Held.{Held}
 
--- What the scan asks: as many gains and weights as labels, labels 0 or 1, loads within the limit.
-pub record Scannable (gains : List ℤ) (labels weights loads : List ℕ) : Type 0 where
-  pub gained : length gains ≡ length labels
-  pub weighed : length weights ≡ length labels
-  pub two-labels : (v : ℕ) → part labels v < 2
-  pub sixteen : length loads ≡ 16
-  pub light : (t : ℕ) → t < 2 → getD loads t 0 ≤ mostWeight
-
 -- the lesser of the two loads
 abbrev pub lesser : List ℕ → ℕ
 lesser loads = cond (ltb (getD loads 0 0) (getD loads 1 0)) (getD loads 0 0) (getD loads 1 0)

@@ -1,20 +1,30 @@
--- What the scan over the list of gains answers: the next vertex to move, with its gain.
+-- What the scan over the list of gains asks and answers: the next vertex to move, with its gain.
+use mathlib.Core.Path.{_≡_}
 use mathlib.Core.Bool.{Bool, cond, _&&_, _||_}
 use mathlib.Core.List.{List}
 use mathlib.Core.Option.{Option, none, some}
-use Prim.Native.Nat.{ℕ, _+_, _-_}
-use lib.ListN.{getD}
+use Prim.Native.Nat.{ℕ, _+_, _-_, _≤_, _<_}
+use lib.ListN.{length, getD}
 use lib.Dec.{ltb, leb}
 use lib.IntN.{ℤ, pos, negsuc}
 use lib.Signed.{ltZ, leZ}
 use Rattle.lists.specs.Best.{best}
 use Rattle.imbalance.specs.Load.{part}
+use Rattle.imbalance.specs.Limit.{mostWeight}
 use Rattle.fiduccia_mattheyses_choice.specs.Choice.{other}
 use Rattle.fiduccia_mattheyses_choice.specs.inner.Bounds.{lockSize}
 use Rattle.fiduccia_mattheyses_choice.specs.declared.Slot.{Slot}
 use Rattle.fiduccia_mattheyses_choice.specs.declared.Slot.the-variants.{Locked, Free}
 use Rattle.fiduccia_mattheyses_choice.specs.declared.Pick.{Pick}
 use Rattle.fiduccia_mattheyses_choice.specs.declared.Pick.the-variants.{Nobody, Vertex}
+
+-- What the scan asks: as many gains and weights as labels, labels 0 or 1, loads within the limit.
+pub record Scannable (gains : List ℤ) (labels weights loads : List ℕ) : Type 0 where
+  pub gained : length gains ≡ length labels
+  pub weighed : length weights ≡ length labels
+  pub two-labels : (v : ℕ) → part labels v < 2
+  pub sixteen : length loads ≡ 16
+  pub light : (t : ℕ) → t < 2 → getD loads t 0 ≤ mostWeight
 
 -- the list's mark of a locked vertex, a value that no gain can have: `lockSize` with a minus
 abbrev pub lock : ℤ

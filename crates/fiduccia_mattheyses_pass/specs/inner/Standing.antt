@@ -14,11 +14,11 @@ use Rattle.imbalance.specs.inner.Moved.{loadsMoved}
 use Rattle.topology.specs.Graph.{Graph, first, past, gain}
 use Rattle.topology.specs.Rule.{Rows, Symmetric}
 use Rattle.topology.specs.Cut.{cut}
-use Rattle.fiduccia_mattheyses_choice.specs.inner.Bounds.{mostGain, mostCut, lockSize}
+use Rattle.fiduccia_mattheyses_choice.specs.inner.Bounds.{lockSize}
+use Rattle.fiduccia_mattheyses_pass.specs.inner.Bounds.{mostGain, mostCut}
 use Rattle.fiduccia_mattheyses_choice.specs.Choice.{Terms, other, flip, member, worth}
 use Rattle.fiduccia_mattheyses_pass.specs.Pass.{State}
-use Rattle.fiduccia_mattheyses_choice.specs.inner.Scan.{lock}
-use Rattle.fiduccia_mattheyses_choice.specs.inner.Look.{Scannable}
+use Rattle.fiduccia_mattheyses_choice.specs.inner.Scan.{Scannable, lock}
 use Rattle.fiduccia_mattheyses_pass.specs.inner.Update.{updated}
 use Rattle.fiduccia_mattheyses_pass.specs.declared.Standing.{Standing}
 

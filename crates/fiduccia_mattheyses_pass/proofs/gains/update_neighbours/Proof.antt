@@ -10,7 +10,8 @@ use Rattle.fiduccia_mattheyses_pass.specs.inner.Update.{updated}
 use Rattle.fiduccia_mattheyses_pass.proofs.Updates.{back, free-of}
 use Rattle.fiduccia_mattheyses_pass.proofs.Updates.{updated-none, mag-set, turn-passed, turn-updated}
 use borrow.Author.Needs.{needs}
-use Rattle.fiduccia_mattheyses_choice.specs.inner.Bounds.{mostTwice, lockSize}
+use Rattle.fiduccia_mattheyses_choice.specs.inner.Bounds.{lockSize}
+use Rattle.fiduccia_mattheyses_pass.specs.inner.Bounds.{mostTwice}
 use Rattle.fiduccia_mattheyses_pass.proofs.gains.update_neighbours.Statement.{statement}
 use Rattle.fiduccia_mattheyses_pass.proofs.gains.update_neighbours.Tie as tie
 
