@@ -135,7 +135,7 @@ static char details[4096];
 static void fm(uint32_t bad)
 {
     struct daunsrevit_fiduccia_mattheyses_settings s = {.pass_limit = FM_PASSES, .move_limit = graph.n, .bad_limit = bad,
-        .choice = DAUNSREVIT_IMBALANCE, .imbalance = IMBALANCE};
+        .ceiling = {.choice = DAUNSREVIT_IMBALANCE, .imbalance = IMBALANCE}};
     struct daunsrevit_fiduccia_mattheyses_report from_plain, from_port;
     struct reference_run unchanged, lowest;
     uint64_t total = 0, made = 0, count, lowest_count, plain_count, port_count;
@@ -207,7 +207,7 @@ static void kl(void)
 /* The Rust's stack grows. The port's is as long as there are arcs, which suffices here, or the answers would differ. */
 static void arc_swap(void)
 {
-    struct daunsrevit_arc_swap_settings s = {.choice = DAUNSREVIT_IMBALANCE, .imbalance = IMBALANCE};
+    struct daunsrevit_arc_swap_settings s = {.ceiling = {.choice = DAUNSREVIT_IMBALANCE, .imbalance = IMBALANCE}};
     struct daunsrevit_arc_swap_report from_plain, from_port;
     struct daunsrevit_run_record plain_run;
     struct reference_run rust_run;
@@ -304,7 +304,8 @@ static const struct {
  * ceiling can end the pass before the limit, so the moves made are what counts. */
 static void scan(uint32_t ceiling, uint32_t most_moves)
 {
-    struct daunsrevit_fiduccia_mattheyses_settings s = {.pass_limit = 1, .bad_limit = graph.n, .choice = ceiling, .imbalance = IMBALANCE};
+    struct daunsrevit_fiduccia_mattheyses_settings s = {.pass_limit = 1, .bad_limit = graph.n,
+        .ceiling = {.choice = ceiling, .imbalance = IMBALANCE}};
     struct daunsrevit_fiduccia_mattheyses_report from_plain, from_port;
     static uint32_t plain_labels[MOST_N];
     uint64_t plain_count[2], port_count[2];

@@ -134,12 +134,14 @@ struct daunsrevit_cut_answer plain_lambda_cut(const struct graph *g, const uint3
     return answer;
 }
 
-static int ceiling_wrong(uint32_t choice, double e)
+static int ceiling_wrong(struct daunsrevit_ceiling asked)
 {
-    return choice > DAUNSREVIT_IMBALANCE || (choice == DAUNSREVIT_IMBALANCE && !(e >= 0.0 && e <= 64.0));
+    double e = asked.imbalance;
+    return asked.choice > DAUNSREVIT_EACH || (asked.choice == DAUNSREVIT_IMBALANCE && !(e >= 0.0 && e <= 64.0));
 }
 
-static uint64_t ceiling_of(uint32_t choice, uint32_t whole, double e, const struct daunsrevit_loads *loads, uint32_t parts)
+/* The one ceiling of a choice other than DAUNSREVIT_EACH. */
+static uint64_t ceiling_of(struct daunsrevit_ceiling asked, const struct daunsrevit_loads *loads, uint32_t parts)
 {
     uint64_t total = 0, largest = 0;
     for (uint32_t t = 0; t < parts; t++) {
@@ -147,12 +149,22 @@ static uint64_t ceiling_of(uint32_t choice, uint32_t whole, double e, const stru
         if (loads->at[t] > largest)
             largest = loads->at[t];
     }
-    if (choice == DAUNSREVIT_CARRIED)
+    if (asked.choice == DAUNSREVIT_CARRIED)
         return largest;
-    if (choice == DAUNSREVIT_WHOLE)
-        return whole;
-    double ideal = (double)total / (double)parts, share = e * ideal;
+    if (asked.choice == DAUNSREVIT_WHOLE)
+        return asked.whole;
+    double ideal = (double)total / (double)parts, share = asked.imbalance * ideal;
     return (uint64_t)(ideal + share);
+}
+
+/* The ceiling of each part. */
+static struct daunsrevit_loads ceilings_of(struct daunsrevit_ceiling asked, const struct daunsrevit_loads *loads, uint32_t parts)
+{
+    struct daunsrevit_loads ceilings;
+    uint64_t one = asked.choice == DAUNSREVIT_EACH ? 0 : ceiling_of(asked, loads, parts);
+    for (uint32_t t = 0; t < DAUNSREVIT_PARTS; t++)
+        ceilings.at[t] = asked.choice == DAUNSREVIT_EACH ? asked.each[t] : one;
+    return ceilings;
 }
 
 /* Of two parts, the gain of v to the other one. */
@@ -168,7 +180,7 @@ static int64_t gain_to_other(const struct graph *g, const uint32_t *labels, uint
 
 /* Largest gain, then smallest target load, then lowest vertex; n if there is none. */
 static uint32_t choose(const struct graph *g, const uint32_t *labels, const int64_t *gains, const struct daunsrevit_loads *loads,
-    uint64_t ceiling)
+    const struct daunsrevit_loads *ceilings)
 {
     uint32_t best = g->n;
     int64_t best_gain = LOCKED;
@@ -178,7 +190,7 @@ static uint32_t choose(const struct graph *g, const uint32_t *labels, const int6
         if (gain < best_gain || gain == LOCKED)
             continue;
         uint64_t load = loads->at[1 - labels[v]] + g->weights[v];
-        if (load > ceiling)
+        if (load > ceilings->at[1 - labels[v]])
             continue;
         if (gain > best_gain || load < best_load) {
             best = v;
@@ -199,12 +211,12 @@ struct daunsrevit_fiduccia_mattheyses_report plain_fm(const struct graph *g, uin
         return r;
     }
     r.number = graph_number(g, labels, 1);
-    if (r.number == 0 && (s.pass_limit > DAUNSREVIT_MOST_PASSES || ceiling_wrong(s.choice, s.imbalance)))
+    if (r.number == 0 && (s.pass_limit > DAUNSREVIT_MOST_PASSES || ceiling_wrong(s.ceiling)))
         r.number = 7;
     if (r.number != 0)
         return r;
     r.loads = loads_of(g, labels);
-    uint64_t ceiling = ceiling_of(s.choice, s.whole, s.imbalance, &r.loads, 2);
+    struct daunsrevit_loads ceilings = ceilings_of(s.ceiling, &r.loads, 2);
     r.first = cut_of(g, labels);
     int64_t least = (int64_t)r.first;
     while (r.passes < s.pass_limit) {
@@ -213,7 +225,7 @@ struct daunsrevit_fiduccia_mattheyses_report plain_fm(const struct graph *g, uin
         for (uint32_t v = 0; v < g->n; v++)
             gains[v] = gain_to_other(g, labels, v);
         while (count < s.move_limit) {
-            uint32_t v = choose(g, labels, gains, &r.loads, ceiling);
+            uint32_t v = choose(g, labels, gains, &r.loads, &ceilings);
             if (v == g->n)
                 break;
             int64_t gain = gains[v];
@@ -392,7 +404,7 @@ struct daunsrevit_arc_swap_report plain_arc_swap(const struct graph *g, uint32_t
         return r;
     }
     r.number = graph_number(g, labels, DAUNSREVIT_PARTS - 1);
-    if (r.number == 0 && ceiling_wrong(s.choice, s.imbalance))
+    if (r.number == 0 && ceiling_wrong(s.ceiling))
         r.number = 7;
     if (r.number != 0)
         return r;
@@ -402,7 +414,8 @@ struct daunsrevit_arc_swap_report plain_arc_swap(const struct graph *g, uint32_t
         if (labels[v] >= parts)
             parts = labels[v] + 1;
     r.loads = loads_of(g, labels);
-    uint64_t ceiling = ceiling_of(s.choice, s.whole, s.imbalance, &r.loads, parts), before;
+    struct daunsrevit_loads ceilings = ceilings_of(s.ceiling, &r.loads, parts);
+    uint64_t before;
     r.first = r.last = cut_of(g, labels);
     do {
         before = r.last;
@@ -422,7 +435,7 @@ struct daunsrevit_arc_swap_report plain_arc_swap(const struct graph *g, uint32_t
                     run->no_gain++;
                     continue;
                 }
-                if (r.loads.at[target] + g->weights[v] > ceiling) {
+                if (r.loads.at[target] + g->weights[v] > ceilings.at[target]) {
                     run->bad_balance++;
                     continue;
                 }

@@ -37,6 +37,10 @@ __attribute__((noinline)) static size_t depth_of(uint32_t (*call)(void), uint32_
 static uint8_t plan[512 * 1200];
 static uint32_t parts;
 
+static const struct daunsrevit_ceiling TENTH = {.choice = DAUNSREVIT_IMBALANCE, .imbalance = 0.1};
+static const struct daunsrevit_ceiling CARRIED = {.choice = DAUNSREVIT_CARRIED};
+static const struct daunsrevit_ceiling EACH = {.choice = DAUNSREVIT_EACH, .each = {30000, 60000, 90000}};
+
 static uint32_t loads(void)
 {
     return port_loads().number;
@@ -54,12 +58,17 @@ static uint32_t lambda_cut(void)
 
 static uint32_t fm(void)
 {
-    return port_fm((struct daunsrevit_fiduccia_mattheyses_settings){4, 64, 0, DAUNSREVIT_IMBALANCE, 0, 0.1}).number;
+    return port_fm((struct daunsrevit_fiduccia_mattheyses_settings){4, 64, 0, TENTH}).number;
 }
 
 static uint32_t fm_downhill(void)
 {
-    return port_fm((struct daunsrevit_fiduccia_mattheyses_settings){4, 64, 64, DAUNSREVIT_CARRIED, 0, 0.0}).number;
+    return port_fm((struct daunsrevit_fiduccia_mattheyses_settings){4, 64, 64, CARRIED}).number;
+}
+
+static uint32_t fm_by_board(void)
+{
+    return port_fm((struct daunsrevit_fiduccia_mattheyses_settings){4, 64, 64, EACH}).number;
 }
 
 static uint32_t kl(void)
@@ -74,18 +83,33 @@ static uint32_t kl_gainful(void)
 
 static uint32_t arc_swap(void)
 {
-    return port_arc_swap((struct daunsrevit_arc_swap_settings){DAUNSREVIT_IMBALANCE, 0, 0.1}).number;
+    return port_arc_swap((struct daunsrevit_arc_swap_settings){TENTH}).number;
 }
 
 static uint32_t arc_swap_carried(void)
 {
-    return port_arc_swap((struct daunsrevit_arc_swap_settings){DAUNSREVIT_CARRIED, 0, 0.0}).number;
+    return port_arc_swap((struct daunsrevit_arc_swap_settings){CARRIED}).number;
+}
+
+static uint32_t arc_swap_by_board(void)
+{
+    return port_arc_swap((struct daunsrevit_arc_swap_settings){EACH}).number;
+}
+
+static uint32_t write_under(struct daunsrevit_ceiling ceiling)
+{
+    return daunsrevit_write_plan(labels, graph.n, weights, graph.n, starts, graph.n + 1, neighbours, graph.a,
+        arc_weights, graph.a, parts, ceiling, plan, sizeof plan).number;
 }
 
 static uint32_t write_plan(void)
 {
-    return daunsrevit_write_plan(labels, graph.n, weights, graph.n, starts, graph.n + 1, neighbours, graph.a,
-        arc_weights, graph.a, parts, DAUNSREVIT_IMBALANCE, 0, 0.1, plan, sizeof plan).number;
+    return write_under(TENTH);
+}
+
+static uint32_t write_by_board(void)
+{
+    return write_under(EACH);
 }
 
 /* Reads what write_plan wrote last. */
@@ -98,15 +122,15 @@ static uint32_t read_plan(void)
 
 static const struct {
     const char *name;
-    uint32_t (*calls[2])(void);
+    uint32_t (*calls[3])(void);
 } ENTRIES[] = {
     {"daunsrevit_compute_parts_load", {loads}},
     {"daunsrevit_edge_cut", {edge_cut}},
     {"daunsrevit_lambda_cut", {lambda_cut}},
-    {"daunsrevit_fiduccia_mattheyses", {fm, fm_downhill}},
+    {"daunsrevit_fiduccia_mattheyses", {fm, fm_downhill, fm_by_board}},
     {"daunsrevit_kernighan_lin", {kl, kl_gainful}},
-    {"daunsrevit_arc_swap", {arc_swap, arc_swap_carried}},
-    {"daunsrevit_write_plan", {write_plan}},
+    {"daunsrevit_arc_swap", {arc_swap, arc_swap_carried, arc_swap_by_board}},
+    {"daunsrevit_write_plan", {write_plan, write_by_board}},
     {"daunsrevit_read_plan", {read_plan}},
     {"daunsrevit_self_test", {daunsrevit_self_test}},
 };
@@ -129,7 +153,7 @@ int main(void)
     for (size_t i = 0; i < sizeof WORKLOADS / sizeof *WORKLOADS; i++)
         for (int broken = 0; broken < 2; broken++)
             for (size_t k = 0; k < ENTRY_COUNT; k++)
-                for (size_t c = 0; c < 2 && ENTRIES[k].calls[c]; c++) {
+                for (size_t c = 0; c < 3 && ENTRIES[k].calls[c]; c++) {
                     uint32_t number;
                     make(&WORKLOADS[i]);
                     parts = WORKLOADS[i].parts;

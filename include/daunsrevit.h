@@ -1,6 +1,6 @@
 /* SPDX-License-Identifier: MIT OR Apache-2.0 */
 /* Daunsrevit: measures a partition of a graph into parts, refines one of two parts or of up to sixteen, and reads and writes plans,
- * the files that hold a graph, its labels and a ceiling. For x86-64 with the System V calling convention.
+ * the files that hold a graph, its labels and the ceilings. For x86-64 with the System V calling convention.
  *
  * THE GRAPH. n vertices with a weight and a label each, in rows: row u's arcs are those from starts[u] up to, not including,
  * starts[u + 1]; arc e goes to vertex neighbours[e] and weighs arc_weights[e]. n is the length of `labels`, a that of
@@ -23,8 +23,8 @@
  *
  * STACK. Nothing is on the heap. The most stack that a call takes below the caller's frame, in bytes, measured (docs/SPEED.md):
  *
- *     loads 304, edge cut 64, lambda cut 64, FM 1,024, KL 464, arc-swap 1,152, reading a plan 128, writing one 128,
- *     self-test 2,176
+ *     loads 304, edge cut 64, lambda cut 64, FM 1,040, KL 464, arc-swap 1,344, reading a plan 256, writing one 208,
+ *     self-test 2,256
  *
  * What a call writes below the stack pointer is counted in: the calling convention leaves a function 128 bytes there, its red zone,
  * and an interrupt handler on the same stack must not touch them.
@@ -42,7 +42,7 @@
  * The longest calls measured, at 4,096 vertices, in instructions (docs/SPEED.md has their graphs and settings); longer ones are
  * possible within the bounds above:
  *
- *     loads 63,602, edge cut 2,830,939, lambda cut 2,802,201, FM 528,276,670 with 36,864 moves, KL 78,690,175, arc-swap 19,654,723
+ *     loads 63,586, edge cut 2,830,938, lambda cut 2,802,199, FM 531,582,288 with 36,864 moves, KL 78,689,971, arc-swap 18,706,640
  *
  * THREADS. The library keeps no state of its own, so it may be called from several threads at once, each with lent lists of its own.
  *
@@ -112,7 +112,7 @@ extern "C" {
 #define DAUNSREVIT_NO_OPPOSITE 4      /* an arc has no equal opposite */
 #define DAUNSREVIT_TOO_HEAVY 5        /* a weight sum over its limit */
 #define DAUNSREVIT_LABEL 6            /* a label above 15; FM: above 1; KL: also not exactly two different labels */
-#define DAUNSREVIT_SETTING 7          /* FM, KL: pass limit above 1,024; FM, arc-swap: choice above 2, or 2 with e NaN, below 0 or above 64 */
+#define DAUNSREVIT_SETTING 7          /* FM, KL: pass limit above 1,024; FM, arc-swap: choice above 3, or 2 with e NaN, below 0 or above 64 */
 #define DAUNSREVIT_SHORT_LIST 8       /* a lent working list or row list is too short; arc-swap's stack never is */
 #define DAUNSREVIT_PLAN_LENGTH 9      /* plan length not a positive multiple of 512 */
 #define DAUNSREVIT_BLOCK_CHECK 10     /* a block's check fails */
@@ -129,14 +129,14 @@ extern "C" {
  *      4  for each arc from u to v add one from v to u, or give the two the same weight
  *      5  scale the weights, or the arc weights, down until they sum to at most DAUNSREVIT_MOST_WEIGHT
  *      6  name the parts by numbers below 16; for FM by 0 and 1; for KL by exactly two different numbers
- *      7  take a pass limit of at most DAUNSREVIT_MOST_PASSES, a choice of 0, 1 or 2, and an e from 0.0 to 64.0
+ *      7  take a pass limit of at most DAUNSREVIT_MOST_PASSES, a choice from 0 to 3, and with choice 2 an e from 0.0 to 64.0
  *      8  lend lists of the lengths that the call needs: n, n / 2 or settings.pass_limit, as its comment says
  *      9  pass the whole file: a plan is one block of 512 bytes or more, and nothing after them
  *     10  fetch the file again: some of its bytes are not those that were written, or a block is missing, stands twice or has changed its
  *         place
- *     11  pass a plan from its first byte on: the first block is of kind 1 with 3 records, its byte 1 is 0 or 1, and its unused places are
- *         zero
- *     12  take 1 to 4,096 vertices, at most 65,535 arcs, 2 to 16 parts, a choice of 0, 1 or 2 and a value that fits it
+ *     11  pass a plan from its first byte on: the first block is of kind 1 with 3 records, or 11 with choice 3, its byte 1 is 0 or 1, and
+ *         its unused places are zero
+ *     12  take 1 to 4,096 vertices, at most 65,535 arcs, 2 to 16 parts, a choice from 0 to 3 and a value that fits it
  *     13  lay the blocks out by kind, 63 records in each but the last of a kind, unused places zero, as many as n and a ask for, each with
  *         the header's byte 1
  *     14  let the lengths of the rows sum to a, and let every label be below k
@@ -148,11 +148,23 @@ extern "C" {
 #define DAUNSREVIT_STACK_FULL 2       /* arc-swap: a push had no place on the stack */
 #define DAUNSREVIT_EMPTY 3            /* no vertices */
 
-/* The ceiling: no move brings a part's load above it. There are three choices; what the choice does not use is not looked at. In
- * the third, e is `imbalance`, from 0.0 to 64.0, both ends and -0.0 in, and i is the total weight divided by the part count. */
+/* The ceilings: no move brings a part's load above its own. There are four choices; what the choice does not use is not looked at. The
+ * first three give all parts one ceiling. In the third, e is `imbalance`, from 0.0 to 64.0, both ends and -0.0 in, and i is the total
+ * weight divided by the part count. */
 #define DAUNSREVIT_CARRIED 0          /* the largest load at the start */
 #define DAUNSREVIT_WHOLE 1            /* the number `whole` */
 #define DAUNSREVIT_IMBALANCE 2        /* the whole number at or below i + e * i, rounded at each operation */
+#define DAUNSREVIT_EACH 3             /* part t has the number each[t] */
+
+/* What is asked of the ceilings: the choice, and the values of the last three choices. The refiners, the reader and the writer have this
+ * one record, so that `settings.ceiling = read.ceiling` refines a plan under its own ceilings. With DAUNSREVIT_EACH all sixteen numbers
+ * are part of a plan, whatever its k is; a refiner looks at those of the parts that it moves blocks to. */
+struct daunsrevit_ceiling {
+    uint32_t choice;
+    uint32_t whole;
+    double imbalance;
+    uint32_t each[DAUNSREVIT_PARTS];
+};
 
 /* The load of each part: at[t] is the sum of the weights of the vertices that are labelled t. */
 struct daunsrevit_loads {
@@ -201,14 +213,12 @@ struct daunsrevit_move {
     uint32_t part;
 };
 
-/* The most passes, moves in a pass, and moves of gain 0 or less in a row; then the ceiling's choice and its two values. */
+/* The most passes, moves in a pass, and moves of gain 0 or less in a row; then the ceilings. */
 struct daunsrevit_fiduccia_mattheyses_settings {
     uint32_t pass_limit;
     uint32_t move_limit;
     uint32_t bad_limit;
-    uint32_t choice;
-    uint32_t whole;
-    double imbalance;
+    struct daunsrevit_ceiling ceiling;
 };
 
 /* The number; where it is 0 the run's end, its passes, the cut before and after, and the loads after. */
@@ -237,11 +247,9 @@ struct daunsrevit_kernighan_lin_report {
     uint64_t last;
 };
 
-/* The ceiling's choice and its two values. */
+/* The ceilings. */
 struct daunsrevit_arc_swap_settings {
-    uint32_t choice;
-    uint32_t whole;
-    double imbalance;
+    struct daunsrevit_ceiling ceiling;
 };
 
 /* The number; where it is 0 the run's end, its passes, the cut before and after, and the loads after. */
@@ -262,16 +270,13 @@ struct daunsrevit_run_record {
     uint64_t bad_balance;
 };
 
-/* The number; where it is 0 the plan's header: its vertices, arcs and parts, the ceiling's choice, and its value. The value that
- * the choice does not use is 0. */
+/* The number; where it is 0 the plan's header: its vertices, arcs and parts, and its ceilings. What the choice does not use is 0. */
 struct daunsrevit_read_answer {
     uint32_t number;
     uint32_t n;
     uint32_t a;
     uint32_t k;
-    uint32_t choice;
-    uint32_t whole;
-    double imbalance;
+    struct daunsrevit_ceiling ceiling;
 };
 
 /* The number; where it is 0 how many bytes were written. */
@@ -280,7 +285,7 @@ struct daunsrevit_write_answer {
     uint64_t length;
 };
 
-/* FM refines the labels of two parts, 0 and 1, by moves from part to part under the ceiling. What is needed of each lent list:
+/* FM refines the labels of two parts, 0 and 1, by moves from part to part under the ceilings. What is needed of each lent list:
  *
  *     labels                      n elements
  *     gains, moves                n elements or more: working lists
@@ -290,8 +295,8 @@ struct daunsrevit_write_answer {
  *   - On a symmetric graph without loops, which number 0 says it is, with whole weights within the limits, the run leaves the labels of
  *     the least cut among its start and the states after each move made, the earliest of equals.
  *   - If it ended on a gainless pass and each pass was allowed at least one move, no single block can go to the other board within the
- *     load ceiling and lower the cut.
- *   - No board ends above the larger of the ceiling and its starting load.
+ *     target board's ceiling and lower the cut.
+ *   - No board ends above the larger of its own ceiling and its starting load.
  * Pass i made rows_made[i] moves and took rows_rewound[i] of them back; rows after the last pass keep their values. Without vertices,
  * whatever the other lists and the settings: number 0, end 3, all else 0, and nothing is written. Else number is the smallest of 1 to 8
  * that applies (5 for either weight sum), and the report is otherwise 0. */
@@ -328,20 +333,21 @@ DAUNSREVIT_ANSWERS struct daunsrevit_kernighan_lin_report daunsrevit_kernighan_l
     uint32_t *swaps, size_t swaps_count,
     struct daunsrevit_kernighan_lin_settings settings);
 
-/* Arc-swap refines the labels of k parts, k being the largest label + 1 and at least 2, by moves under the ceiling, each of which
+/* Arc-swap refines the labels of k parts, k being the largest label + 1 and at least 2, by moves under the ceilings, each of which
  * lowers the cut. What is needed of each lent list:
  *
  *     labels                      n elements
  *     stack                       any length: a working list, which a done call zeroes whole
  *     run                         one record, not null
  *
- * Done: number 0, the labels are refined, and the run record holds the counts. No part ends above the larger of the ceiling and its
+ * Done: number 0, the labels are refined, and the run record holds the counts. No part ends above the larger of its own ceiling and its
  * starting load. Where the vertices to be pushed have no place on the stack the run ends with 2, with the labels reached so far, by
  * moves that each lowered the cut. No length is proved to be enough, as the stack keeps repeats; 65,535 places were for every graph on
  * which the library was held to coupe. After end 2 it is safe
  *   - to start again, with a longer stack, from the labels as they were before the call, of which you have kept a copy; or
- *   - to go on from the labels reached, with a longer stack, if both calls have DAUNSREVIT_WHOLE and the same ceiling, or both have
- *     DAUNSREVIT_CARRIED: no load is above that ceiling after the first call, so that the second one's is the same or lower.
+ *   - to go on from the labels reached, with a longer stack, if both calls have DAUNSREVIT_WHOLE and the same number, or DAUNSREVIT_EACH
+ *     and the same numbers, or both have DAUNSREVIT_CARRIED: no load is above that ceiling after the first call, so that the second
+ *     one's is the same or lower.
  * With DAUNSREVIT_IMBALANCE do not go on: k is taken anew from the labels, so that where the first call emptied the last parts the second
  * one divides by fewer, and a part can end above both the first ceiling and its first load (tests/c/arc_swap.c has such a case).
  * Without vertices, whatever the other lists and the settings: number 0, end 3, all else 0, and nothing is written but the run record,
@@ -362,7 +368,8 @@ DAUNSREVIT_ANSWERS struct daunsrevit_arc_swap_report daunsrevit_arc_swap(
  * A file of the old kind is read too: byte 1 of its blocks is 0, and each block's words sum to 0. In such a file two full blocks
  * of one kind that changed places are not told; read it and write it once, and what is written is of the new kind.
  *
- *     kind 1, once     n and a; k and the ceiling's choice; its value in 8 bytes: 0, `whole`, or the bits of `imbalance`
+ *     kind 1, once     n and a; k and the ceiling's choice; its value in 8 bytes: 0, `whole`, or the bits of `imbalance`; with
+ *                      DAUNSREVIT_EACH the value is 0, and eight records more have the sixteen numbers, two in each
  *     kind 2           by vertex: its weight, its label in 2 bytes, the length of its row in 2 bytes
  *     kind 3           row by row, by arc: neighbour and weight; no block if a is 0
  *
@@ -397,8 +404,9 @@ static inline uint32_t daunsrevit_plan_arcs(const uint8_t *bytes, size_t bytes_c
  *     neighbours, arc_weights     a elements or more
  *
  * Done: number 0, the header, and the plan's lists in the targets. Else number is the first that applies of 9, 11 for a header whose
- * byte 1 is above 1, and 10 to 15, and the answer is otherwise 0. 12 is also a value that does not fit its choice: not 0 with choice 0,
- * above 4,294,967,295 with choice 1, the bits of no legal e with choice 2. */
+ * byte 1 is above 1, and 10 to 15, and the answer is otherwise 0. 11 is also a record count other than 3, or than 11 with choice 3. 12 is
+ * also a choice above 3, and a value that does not fit its choice: not 0 with choice 0 or 3, above 4,294,967,295 with choice 1, the bits
+ * of no legal e with choice 2. */
 DAUNSREVIT_ANSWERS struct daunsrevit_read_answer daunsrevit_read_plan(
     const uint8_t *bytes, size_t bytes_count,
     uint32_t *labels, size_t labels_count,
@@ -411,7 +419,7 @@ DAUNSREVIT_ANSWERS struct daunsrevit_read_answer daunsrevit_read_plan(
  * and for each 63 arcs or part of them: DAUNSREVIT_PLAN_BYTES(n, a). Done: number 0, and length is how many bytes were written. Else
  * length is 0, and number is the first of these that applies, in this order:
  *
- *     12     n 0 or above DAUNSREVIT_MOST_VERTICES; a above DAUNSREVIT_MOST_ARCS; k below 2 or above DAUNSREVIT_PARTS; a choice above 2; or
+ *     12     n 0 or above DAUNSREVIT_MOST_VERTICES; a above DAUNSREVIT_MOST_ARCS; k below 2 or above DAUNSREVIT_PARTS; a choice above 3; or
  *            choice 2 with an imbalance that is NaN, below 0 or above 64. A row's length always fits, as a does
  *     1      weights not n, starts not n + 1, or neighbours and arc weights differ in count
  *     3      the starts do not begin at 0, fall, or do not end at a
@@ -423,7 +431,7 @@ DAUNSREVIT_ANSWERS struct daunsrevit_write_answer daunsrevit_write_plan(
     const uint32_t *starts, size_t starts_count,
     const uint32_t *neighbours, size_t neighbours_count,
     const uint32_t *arc_weights, size_t arc_weights_count,
-    uint32_t k, uint32_t choice, uint32_t whole, double imbalance,
+    uint32_t k, struct daunsrevit_ceiling ceiling,
     uint8_t *target, size_t target_count);
 
 /* The self-test: runs loads, cuts, gains, FM, KL and arc-swap on a grid of eight blocks and compares ten rows of known results; then

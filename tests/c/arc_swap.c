@@ -1,5 +1,5 @@
 /* Arc-swap: the eight-block grid's row 10 of document 01, stacks that are too short, what may be done after one, the ceiling, sixteen
- * parts, no vertices, every refusal, and what is left in each lent list and in the run record. */
+ * parts, a ceiling for each board, no vertices, every refusal, and what is left in each lent list and in the run record. */
 #include "check.h"
 
 #define STACK 64
@@ -27,9 +27,10 @@ static void set_up(size_t stack_count)
     memset(c.stack, 0xa5, sizeof c.stack);
     memset(&c.run, 0xa5, sizeof c.run);
     c.stack_count = stack_count;
-    c.s.choice = DAUNSREVIT_IMBALANCE;
-    c.s.whole = 0xa5a5a5a5u;
-    c.s.imbalance = 0.25;
+    c.s.ceiling.choice = DAUNSREVIT_IMBALANCE;
+    c.s.ceiling.whole = 0xa5a5a5a5u;
+    c.s.ceiling.imbalance = 0.25;
+    memset(c.s.ceiling.each, 0xa5, sizeof c.s.ceiling.each);
 }
 
 static void on_grid(const uint32_t *labels, size_t stack_count)
@@ -101,22 +102,22 @@ static void grid(void)
 
     /* What the choice does not use is not looked at. */
     on_grid(a, 8);
-    c.s.choice = DAUNSREVIT_WHOLE;
-    c.s.whole = 5;
-    c.s.imbalance = of_bits(NAN_BITS);
+    c.s.ceiling.choice = DAUNSREVIT_WHOLE;
+    c.s.ceiling.whole = 5;
+    c.s.ceiling.imbalance = of_bits(NAN_BITS);
     DONE(b, DAUNSREVIT_GAINLESS, 2, 6, 2, 12, 4, 7, 1);
     on_grid(a, 8);
-    c.s.choice = DAUNSREVIT_CARRIED;
-    c.s.imbalance = of_bits(NAN_BITS);
+    c.s.ceiling.choice = DAUNSREVIT_CARRIED;
+    c.s.ceiling.imbalance = of_bits(NAN_BITS);
     DONE(a, DAUNSREVIT_GAINLESS, 1, 6, 6, 6, 0, 2, 4);
     for (int sign = 0; sign <= 1; sign++) {
         on_grid(a, 8);
-        c.s.imbalance = sign ? -0.0 : 0.0;
+        c.s.ceiling.imbalance = sign ? -0.0 : 0.0;
         DONE(a, DAUNSREVIT_GAINLESS, 1, 6, 6, 6, 0, 2, 4);
     }
     const uint32_t lopsided[8] = {0, 1, 1, 1, 0, 1, 1, 1};
     on_grid(a, 8);
-    c.s.imbalance = 64.0;
+    c.s.ceiling.imbalance = 64.0;
     DONE(lopsided, DAUNSREVIT_GAINLESS, 2, 6, 2, 11, 4, 7, 0);
 }
 
@@ -150,7 +151,7 @@ static void on_five(size_t stack_count)
     memcpy(c.l.labels, labels, sizeof labels);
     set_counts(&c.l, 5, 10);
     set_up(stack_count);
-    c.s.imbalance = 0.5;
+    c.s.ceiling.imbalance = 0.5;
 }
 
 /* The same call once more, on the labels as they stand now, with a longer stack. */
@@ -187,8 +188,17 @@ static void after_end_2(void)
 
     /* Safe: on from the labels reached, with a whole ceiling, which is the same in both calls. */
     on_five(1);
-    c.s.choice = DAUNSREVIT_WHOLE;
-    c.s.whole = 5;
+    c.s.ceiling.choice = DAUNSREVIT_WHOLE;
+    c.s.ceiling.whole = 5;
+    DONE(reached, DAUNSREVIT_STACK_FULL, 1, 8, 7, 1, 1, 0, 0);
+    lend_more();
+    DONE(within, DAUNSREVIT_GAINLESS, 2, 7, 4, 9, 1, 1, 7);
+    CHECK(loads_of(&c.l).loads.at[0] == 5);
+
+    /* Safe: the same with a ceiling for each board, here of 5 for the first three, which are the same in both calls. */
+    on_five(1);
+    cap_none(&c.s.ceiling);
+    c.s.ceiling.each[0] = c.s.ceiling.each[1] = c.s.ceiling.each[2] = 5;
     DONE(reached, DAUNSREVIT_STACK_FULL, 1, 8, 7, 1, 1, 0, 0);
     lend_more();
     DONE(within, DAUNSREVIT_GAINLESS, 2, 7, 4, 9, 1, 1, 7);
@@ -198,7 +208,7 @@ static void after_end_2(void)
      * not above 6 either. */
     const uint32_t carried[5] = {1, 1, 0, 0, 0};
     on_five(1);
-    c.s.choice = DAUNSREVIT_CARRIED;
+    c.s.ceiling.choice = DAUNSREVIT_CARRIED;
     DONE(reached, DAUNSREVIT_STACK_FULL, 1, 8, 7, 1, 1, 0, 0);
     lend_more();
     DONE(carried, DAUNSREVIT_GAINLESS, 2, 7, 3, 8, 2, 4, 2);
@@ -210,13 +220,51 @@ static void sixteen_parts(void)
 {
     const uint32_t apart[8] = {0, 1, 2, 3, 12, 13, 14, 15}, joined[8] = {12, 13, 14, 15, 12, 13, 14, 15};
     on_grid(apart, 20);
-    c.s.choice = DAUNSREVIT_WHOLE;
-    c.s.whole = 2;
+    c.s.ceiling.choice = DAUNSREVIT_WHOLE;
+    c.s.ceiling.whole = 2;
     DONE(joined, DAUNSREVIT_GAINLESS, 2, 10, 6, 19, 4, 15, 0);
     /* The best part is too heavy: no other is tried. */
     on_grid(apart, 20);
-    c.s.choice = DAUNSREVIT_WHOLE;
-    c.s.whole = 1;
+    c.s.ceiling.choice = DAUNSREVIT_WHOLE;
+    c.s.ceiling.whole = 1;
+    DONE(apart, DAUNSREVIT_GAINLESS, 1, 10, 10, 8, 0, 0, 8);
+}
+
+/* A ceiling for each board. Two blocks of weight 1 on two boards, joined: block 0 has its turn first and goes where there is room, else
+ * block 1 does. */
+static void two_boards(void)
+{
+    static const uint32_t ceilings[][2] = {{2, 1}, {1, 2}, {1, 1}, {2, 2}, {4294967295u, 0}};
+    static const uint32_t left[][2] = {{0, 0}, {1, 1}, {0, 1}, {1, 1}, {0, 0}};
+    static const struct run runs[] = {{DAUNSREVIT_GAINLESS, 2, 1, 0, 2, 1, 0, 1}, {DAUNSREVIT_GAINLESS, 2, 1, 0, 1, 1, 0, 0},
+        {DAUNSREVIT_GAINLESS, 1, 1, 1, 2, 0, 0, 2}, {DAUNSREVIT_GAINLESS, 2, 1, 0, 1, 1, 0, 0},
+        {DAUNSREVIT_GAINLESS, 2, 1, 0, 2, 1, 0, 1}};
+    for (size_t i = 0; i < sizeof left / sizeof left[0]; i++) {
+        on_path(2);
+        c.l.labels[0] = 0;
+        c.l.labels[1] = 1;
+        cap_none(&c.s.ceiling);
+        c.s.ceiling.each[0] = ceilings[i][0];
+        c.s.ceiling.each[1] = ceilings[i][1];
+        check_run(left[i], runs[i], __LINE__);
+    }
+}
+
+/* Every block on a board of its own, and board t has room for two blocks, or for its one: a block joins its neighbour where there is
+ * room, whatever its own board's ceiling is. */
+static void sixteen_ceilings(void)
+{
+    const uint32_t apart[8] = {0, 1, 2, 3, 12, 13, 14, 15};
+    const uint32_t upper[8] = {12, 13, 14, 15, 12, 13, 14, 15};
+    on_grid(apart, 20);
+    cap_none(&c.s.ceiling);
+    for (size_t t = 12; t < 16; t++)
+        c.s.ceiling.each[t] = 2;
+    DONE(upper, DAUNSREVIT_GAINLESS, 2, 10, 6, 19, 4, 15, 0);
+    on_grid(apart, 20);
+    cap_none(&c.s.ceiling);
+    for (size_t t = 0; t < 16; t++)
+        c.s.ceiling.each[t] = 1;
     DONE(apart, DAUNSREVIT_GAINLESS, 1, 10, 10, 8, 0, 0, 8);
 }
 
@@ -231,7 +279,7 @@ static void no_vertices(void)
     for (int wrong = 0; wrong <= 1; wrong++) {
         on_path(wrong ? 5 : 0);
         c.l.labels_count = 0;
-        c.s.choice = wrong ? 3 : 0;
+        c.s.ceiling.choice = wrong ? 4 : 0;
         memcpy(&wanted, &c, sizeof c);
         memset(&wanted.run, 0, sizeof wanted.run);
         CHECK(bare(run(), DAUNSREVIT_DONE, DAUNSREVIT_EMPTY));
@@ -270,7 +318,7 @@ static void own_faults(unsigned faults)
     if (has(faults, 6))
         c.l.labels[2] = 16;
     if (has(faults, 7))
-        c.s.choice = 3;
+        c.s.ceiling.choice = 4;
     c.stack_count = 0;
 }
 
@@ -280,6 +328,8 @@ int main(void)
     short_stacks();
     after_end_2();
     sixteen_parts();
+    two_boards();
+    sixteen_ceilings();
     no_vertices();
     no_stack();
     refusals();

@@ -125,6 +125,14 @@ static uint64_t bits_of(double e)
 #define ABOVE_64_BITS 0x4050000000000001u
 #define INFINITY_BITS 0x7ff0000000000000u
 
+/* A ceiling of its own for each board, and all of them 0. */
+static void cap_none(struct daunsrevit_ceiling *ceiling)
+{
+    ceiling->choice = DAUNSREVIT_EACH;
+    for (int t = 0; t < DAUNSREVIT_PARTS; t++)
+        ceiling->each[t] = 0;
+}
+
 static int has(unsigned faults, unsigned fault)
 {
     return faults >> fault & 1;

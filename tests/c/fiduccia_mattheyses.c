@@ -1,4 +1,4 @@
-/* FM: the eight-block grid's rows 4 to 6 of document 01, the limits, no vertices, every refusal, and what is left in each lent list. */
+/* FM: the eight-block grid's rows 4 to 6 of document 01, the limits, a ceiling for each board, no vertices, every refusal, and what is left in each lent list. */
 #include "check.h"
 
 #define ROOM (DAUNSREVIT_MOST_VERTICES + 4)
@@ -39,9 +39,10 @@ static void set_up(uint32_t passes, uint32_t moves, uint32_t bad)
     memset(c.rewound, 0xa5, sizeof c.rewound);
     c.s.move_limit = moves;
     c.s.bad_limit = bad;
-    c.s.choice = DAUNSREVIT_IMBALANCE;
-    c.s.whole = 0xa5a5a5a5u;
-    c.s.imbalance = 0.25;
+    c.s.ceiling.choice = DAUNSREVIT_IMBALANCE;
+    c.s.ceiling.whole = 0xa5a5a5a5u;
+    c.s.ceiling.imbalance = 0.25;
+    memset(c.s.ceiling.each, 0xa5, sizeof c.s.ceiling.each);
     lend(passes, 0);
 }
 
@@ -118,22 +119,22 @@ static void grid(void)
     on_grid(a, 64, 8, 1);
     DONE(b, DAUNSREVIT_GAINLESS, 2, row5, 6, 2);
     on_grid(a, 64, 8, 0);
-    c.s.choice = DAUNSREVIT_CARRIED;
+    c.s.ceiling.choice = DAUNSREVIT_CARRIED;
     DONE(a, DAUNSREVIT_GAINLESS, 1, row6, 6, 6);
 
     /* What the choice does not use is not looked at. */
     on_grid(a, 64, 8, 0);
-    c.s.choice = DAUNSREVIT_CARRIED;
-    c.s.imbalance = of_bits(NAN_BITS);
+    c.s.ceiling.choice = DAUNSREVIT_CARRIED;
+    c.s.ceiling.imbalance = of_bits(NAN_BITS);
     DONE(a, DAUNSREVIT_GAINLESS, 1, row6, 6, 6);
     on_grid(a, 64, 8, 0);
-    c.s.choice = DAUNSREVIT_WHOLE;
-    c.s.whole = 5;
-    c.s.imbalance = of_bits(NAN_BITS);
+    c.s.ceiling.choice = DAUNSREVIT_WHOLE;
+    c.s.ceiling.whole = 5;
+    c.s.ceiling.imbalance = of_bits(NAN_BITS);
     DONE(b, DAUNSREVIT_GAINLESS, 2, row4, 6, 2);
     on_grid(a, 64, 8, 0);
-    c.s.choice = DAUNSREVIT_WHOLE;
-    c.s.whole = 4;
+    c.s.ceiling.choice = DAUNSREVIT_WHOLE;
+    c.s.ceiling.whole = 4;
     DONE(a, DAUNSREVIT_GAINLESS, 1, row6, 6, 6);
 
     /* Lists longer than is needed, and of different lengths. */
@@ -184,7 +185,7 @@ static void on_pair(uint32_t weight0, uint32_t weight1, uint32_t weight2, double
     c.l.arc_weights[0] = c.l.arc_weights[1] = 5;
     set_counts(&c.l, 3, 2);
     set_up(1, 3, 0);
-    c.s.imbalance = imbalance;
+    c.s.ceiling.imbalance = imbalance;
 }
 
 static void ceiling_and_loads(void)
@@ -202,6 +203,41 @@ static void ceiling_and_loads(void)
     check_run(all, DAUNSREVIT_PASS_LIMIT, 1, ROWS_OF({1, 0}), 5, 0, 0, 6, __LINE__);
 }
 
+/* A ceiling for each board: every other number is 0, as no board above 1 bears on the run. */
+static void cap_each(uint32_t first, uint32_t second)
+{
+    cap_none(&c.s.ceiling);
+    c.s.ceiling.each[0] = first;
+    c.s.ceiling.each[1] = second;
+}
+
+/* Two blocks of weight 1 on two boards, joined: the two go to the board that has room for both, and stay apart where none has. */
+static void two_boards(void)
+{
+    static const uint32_t ceilings[][2] = {{2, 1}, {1, 2}, {1, 1}, {0, 0}, {2, 2}, {4294967295u, 0}, {0, 4294967295u}};
+    static const uint32_t left[][2] = {{0, 0}, {1, 1}, {0, 1}, {0, 1}, {1, 1}, {0, 0}, {1, 1}};
+    for (size_t i = 0; i < sizeof left / sizeof left[0]; i++) {
+        int moves = left[i][0] == left[i][1];
+        on_path(2);
+        c.l.labels[0] = 0;
+        c.l.labels[1] = 1;
+        c.s.bad_limit = 0;
+        cap_each(ceilings[i][0], ceilings[i][1]);
+        check_run(left[i], DAUNSREVIT_GAINLESS, 1 + moves, ROWS_OF({moves, 0}, {0, 0}), 1, !moves,
+            (left[i][0] == 0) + (left[i][1] == 0), left[i][0] + left[i][1], __LINE__);
+    }
+    /* What choice 3 does not use is not looked at: not the imbalance, and not the numbers of boards above 1. */
+    for (uint32_t ceiling = 4; ceiling <= 5; ceiling++) {
+        on_grid(a, 64, 8, 0);
+        cap_each(ceiling, ceiling);
+        c.s.ceiling.imbalance = of_bits(NAN_BITS);
+        if (ceiling == 4)
+            DONE(a, DAUNSREVIT_GAINLESS, 1, ROWS_OF({0, 0}), 6, 6);
+        else
+            DONE(b, DAUNSREVIT_GAINLESS, 2, ROWS_OF({2, 0}, {0, 0}), 6, 2);
+    }
+}
+
 /* No vertices come before all checks. */
 static void no_vertices(void)
 {
@@ -210,7 +246,7 @@ static void no_vertices(void)
     on_path(5);
     c.l.labels_count = 0;
     c.s.pass_limit = 1025;
-    c.s.choice = 3;
+    c.s.ceiling.choice = 4;
     check_bare(DAUNSREVIT_DONE, DAUNSREVIT_EMPTY, __LINE__);
     struct daunsrevit_fiduccia_mattheyses_report r =
         daunsrevit_fiduccia_mattheyses(0, 0, 0, 0, 0, 0, 0, 0, 0, 0, 0, 0, 0, 0, 0, 0, 0, 0, c.s);
@@ -237,12 +273,12 @@ static void at_the_limits(void)
     on_path(4096);
     for (int v = 0; v < 4096; v++)
         c.l.labels[v] = labels[v] = 0;
-    c.s.imbalance = 64.0;
+    c.s.ceiling.imbalance = 64.0;
     c.s.bad_limit = 100;
     check_run(labels, DAUNSREVIT_GAINLESS, 1, ROWS_OF({100, 100}), 0, 0, 4096, 0, __LINE__);
     for (int sign = 0; sign <= 1; sign++) {
         on_grid(a, 64, 8, 0);
-        c.s.imbalance = sign ? -0.0 : 0.0;
+        c.s.ceiling.imbalance = sign ? -0.0 : 0.0;
         DONE(a, DAUNSREVIT_GAINLESS, 1, ROWS_OF({0, 0}), 6, 6);
     }
 }
@@ -253,7 +289,7 @@ static void own_faults(unsigned faults)
     if (has(faults, 6))
         c.l.labels[2] = 2;
     if (has(faults, 7))
-        c.s.choice = 3;
+        c.s.ceiling.choice = 4;
     if (has(faults, 8))
         c.rewound_count--;
 }
@@ -263,6 +299,7 @@ int main(void)
     grid();
     pass_and_move_limits();
     ceiling_and_loads();
+    two_boards();
     no_vertices();
     refusals();
     at_the_limits();

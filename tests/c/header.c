@@ -35,11 +35,12 @@ static void bytes_of_a_plan(void)
 static void room_by_the_header(void)
 {
     static const uint32_t labels[8] = {0, 0, 1, 1, 0, 1, 0, 1};
+    static const struct daunsrevit_ceiling carried = {.choice = DAUNSREVIT_CARRIED};
     static struct lists l;
     make_grid(&l, labels);
     for (size_t room = sizeof plan - 1; room <= sizeof plan; room++) {
         struct daunsrevit_write_answer w = daunsrevit_write_plan(l.labels, 8, l.weights, 8, l.starts, 9, l.neighbours, 20,
-            l.arc_weights, 20, 2, DAUNSREVIT_CARRIED, 0, 0.0, plan, room);
+            l.arc_weights, 20, 2, carried, plan, room);
         CHECK(w.number == (room < sizeof plan ? DAUNSREVIT_SHORT_TARGET : DAUNSREVIT_DONE));
         CHECK(w.length == (room < sizeof plan ? 0 : sizeof plan));
     }

@@ -34,7 +34,7 @@ void *raw_read(void *answer, const uint8_t *bytes, size_t bytes_count, uint32_t 
     __asm__("daunsrevit_read_plan");
 struct registers raw_write(const uint32_t *labels, size_t labels_count, const uint32_t *weights, size_t weights_count,
     const uint32_t *starts, size_t starts_count, const uint32_t *neighbours, size_t neighbours_count,
-    const uint32_t *arc_weights, size_t arc_weights_count, uint32_t k, uint32_t choice, uint32_t whole, double imbalance,
+    const uint32_t *arc_weights, size_t arc_weights_count, uint32_t k, struct daunsrevit_ceiling ceiling,
     uint8_t *target, size_t target_count)
     __asm__("daunsrevit_write_plan");
 
@@ -55,13 +55,16 @@ static void sizes(void)
     CHECK(sizeof(struct daunsrevit_move) == 8);
     CHECK(OFFSET(daunsrevit_move, vertex) == 0);
     CHECK(OFFSET(daunsrevit_move, part) == 4);
-    CHECK(sizeof(struct daunsrevit_fiduccia_mattheyses_settings) == 32);
+    CHECK(sizeof(struct daunsrevit_ceiling) == 80);
+    CHECK(OFFSET(daunsrevit_ceiling, choice) == 0);
+    CHECK(OFFSET(daunsrevit_ceiling, whole) == 4);
+    CHECK(OFFSET(daunsrevit_ceiling, imbalance) == 8);
+    CHECK(OFFSET(daunsrevit_ceiling, each) == 16);
+    CHECK(sizeof(struct daunsrevit_fiduccia_mattheyses_settings) == 96);
     CHECK(OFFSET(daunsrevit_fiduccia_mattheyses_settings, pass_limit) == 0);
     CHECK(OFFSET(daunsrevit_fiduccia_mattheyses_settings, move_limit) == 4);
     CHECK(OFFSET(daunsrevit_fiduccia_mattheyses_settings, bad_limit) == 8);
-    CHECK(OFFSET(daunsrevit_fiduccia_mattheyses_settings, choice) == 12);
-    CHECK(OFFSET(daunsrevit_fiduccia_mattheyses_settings, whole) == 16);
-    CHECK(OFFSET(daunsrevit_fiduccia_mattheyses_settings, imbalance) == 24);
+    CHECK(OFFSET(daunsrevit_fiduccia_mattheyses_settings, ceiling) == 16);
     CHECK(sizeof(struct daunsrevit_fiduccia_mattheyses_report) == 160);
     CHECK(OFFSET(daunsrevit_fiduccia_mattheyses_report, number) == 0);
     CHECK(OFFSET(daunsrevit_fiduccia_mattheyses_report, end) == 4);
@@ -79,10 +82,8 @@ static void sizes(void)
     CHECK(OFFSET(daunsrevit_kernighan_lin_report, passes) == 8);
     CHECK(OFFSET(daunsrevit_kernighan_lin_report, first) == 16);
     CHECK(OFFSET(daunsrevit_kernighan_lin_report, last) == 24);
-    CHECK(sizeof(struct daunsrevit_arc_swap_settings) == 16);
-    CHECK(OFFSET(daunsrevit_arc_swap_settings, choice) == 0);
-    CHECK(OFFSET(daunsrevit_arc_swap_settings, whole) == 4);
-    CHECK(OFFSET(daunsrevit_arc_swap_settings, imbalance) == 8);
+    CHECK(sizeof(struct daunsrevit_arc_swap_settings) == 80);
+    CHECK(OFFSET(daunsrevit_arc_swap_settings, ceiling) == 0);
     CHECK(sizeof(struct daunsrevit_arc_swap_report) == 160);
     CHECK(OFFSET(daunsrevit_arc_swap_report, number) == 0);
     CHECK(OFFSET(daunsrevit_arc_swap_report, end) == 4);
@@ -95,14 +96,12 @@ static void sizes(void)
     CHECK(OFFSET(daunsrevit_run_record, moves) == 8);
     CHECK(OFFSET(daunsrevit_run_record, no_gain) == 16);
     CHECK(OFFSET(daunsrevit_run_record, bad_balance) == 24);
-    CHECK(sizeof(struct daunsrevit_read_answer) == 32);
+    CHECK(sizeof(struct daunsrevit_read_answer) == 96);
     CHECK(OFFSET(daunsrevit_read_answer, number) == 0);
     CHECK(OFFSET(daunsrevit_read_answer, n) == 4);
     CHECK(OFFSET(daunsrevit_read_answer, a) == 8);
     CHECK(OFFSET(daunsrevit_read_answer, k) == 12);
-    CHECK(OFFSET(daunsrevit_read_answer, choice) == 16);
-    CHECK(OFFSET(daunsrevit_read_answer, whole) == 20);
-    CHECK(OFFSET(daunsrevit_read_answer, imbalance) == 24);
+    CHECK(OFFSET(daunsrevit_read_answer, ceiling) == 16);
     CHECK(sizeof(struct daunsrevit_write_answer) == 16);
     CHECK(OFFSET(daunsrevit_write_answer, number) == 0);
     CHECK(OFFSET(daunsrevit_write_answer, length) == 8);
@@ -165,7 +164,7 @@ static void reports_as_bytes(void)
     int64_t gains[2];
     struct daunsrevit_move moves[2];
     uint8_t locks[2];
-    struct daunsrevit_fiduccia_mattheyses_settings s = {1, 2, 0, 1, 16, 99.0};
+    struct daunsrevit_fiduccia_mattheyses_settings s = {1, 2, 0, {1, 16, 99.0, {3, 3}}};
     memset(bytes, 0xa5, sizeof bytes);
     CHECK(raw_refine(bytes, starts, 3, neighbours, 2, arc_weights, 2, weights, 2, refined, 2, gains, 2, moves, 2, made, 2,
         rewound, 2, s) == bytes);
@@ -205,7 +204,7 @@ static void run_record_as_bytes(void)
     const uint32_t four_weights[4] = {7, 9, 1, 30};
     uint32_t refined[4] = {0, 1, 2, 3}, stack[3];
     _Alignas(16) unsigned char bytes[192], run[48];
-    struct daunsrevit_arc_swap_settings s = {1, 16, 99.0};
+    struct daunsrevit_arc_swap_settings s = {{1, 16, 99.0, {3, 3}}};
     memset(bytes, 0xa5, sizeof bytes);
     memset(run, 0xa5, sizeof run);
     CHECK(raw_arc_swap(bytes, four_starts, 5, four_neighbours, 4, four_arcs, 4, four_weights, 4, refined, 4, stack, 3, s, run)
@@ -229,13 +228,39 @@ static void run_record_as_bytes(void)
     CHECK(refined[3] == 3);
 }
 
-/* The writer's numbers and its float stand between lists, and the target comes last. */
-static void plan_answers(void)
+/* A ceiling for each board, by which FM and arc-swap have room on board 0 alone: a wrong place of a number in the record would show. */
+static void numbers_by_board(void)
+{
+    static const struct daunsrevit_ceiling each = {3, 1, 99.0, {16, 15}};
+    _Alignas(16) unsigned char bytes[192], run[48];
+    uint32_t refined[2] = {0, 1}, made[2], rewound[2], stack[2];
+    int64_t gains[2];
+    struct daunsrevit_move moves[2];
+    struct daunsrevit_fiduccia_mattheyses_settings s = {1, 2, 0, each};
+    struct daunsrevit_arc_swap_settings t = {each};
+    CHECK(raw_refine(bytes, starts, 3, neighbours, 2, arc_weights, 2, weights, 2, refined, 2, gains, 2, moves, 2, made, 2,
+        rewound, 2, s) == bytes);
+    CHECK(half_at(bytes, 0) == 0);
+    CHECK(refined[0] == 0);
+    CHECK(refined[1] == 0);
+    refined[1] = 1;
+    CHECK(raw_arc_swap(bytes, starts, 3, neighbours, 2, arc_weights, 2, weights, 2, refined, 2, stack, 2, t, run) == bytes);
+    CHECK(half_at(bytes, 0) == 0);
+    CHECK(refined[0] == 0);
+    CHECK(refined[1] == 0);
+}
+
+/* The writer's k and its ceiling stand between lists, and the target comes last. What is read of the ceiling is what was written, and 0 where
+ * its choice does not use it. */
+static void plan_as_bytes(struct daunsrevit_ceiling ceiling)
 {
     static uint8_t plan[1536];
-    _Alignas(16) unsigned char bytes[64];
+    _Alignas(16) unsigned char bytes[128];
     uint32_t read_labels[2], read_weights[2], read_starts[3], read_neighbours[2], read_arc_weights[2];
-    struct registers r = raw_write(parts, 2, weights, 2, starts, 3, neighbours, 2, arc_weights, 2, 13, 2, 77, 0.25, plan, 1536);
+    struct registers r = raw_write(parts, 2, weights, 2, starts, 3, neighbours, 2, arc_weights, 2, 13, ceiling, plan, 1535);
+    CHECK((uint32_t)r.first == 15);
+    CHECK(r.second == 0);
+    r = raw_write(parts, 2, weights, 2, starts, 3, neighbours, 2, arc_weights, 2, 13, ceiling, plan, 1536);
     CHECK((uint32_t)r.first == 0);
     CHECK(r.second == 1536);
     memset(bytes, 0xa5, sizeof bytes);
@@ -245,25 +270,24 @@ static void plan_answers(void)
     CHECK(half_at(bytes, 4) == 2);
     CHECK(half_at(bytes, 8) == 2);
     CHECK(half_at(bytes, 12) == 13);
-    CHECK(half_at(bytes, 16) == 2);
-    CHECK(half_at(bytes, 20) == 0);
-    CHECK(word_at(bytes, 24) == bits_of(0.25));
-    past(bytes, 32, sizeof bytes);
+    CHECK(half_at(bytes, 16) == ceiling.choice);
+    CHECK(half_at(bytes, 20) == (ceiling.choice == 1 ? ceiling.whole : 0));
+    CHECK(word_at(bytes, 24) == (ceiling.choice == 2 ? bits_of(ceiling.imbalance) : 0));
+    for (size_t t = 0; t < 16; t++)
+        CHECK(half_at(bytes, 32 + 4 * t) == (ceiling.choice == 3 ? ceiling.each[t] : 0));
+    past(bytes, 96, sizeof bytes);
     CHECK(memcmp(read_labels, parts, sizeof parts) == 0);
     CHECK(memcmp(read_weights, weights, sizeof read_weights) == 0);
     CHECK(memcmp(read_starts, starts, sizeof starts) == 0);
     CHECK(memcmp(read_neighbours, neighbours, sizeof neighbours) == 0);
     CHECK(memcmp(read_arc_weights, arc_weights, sizeof arc_weights) == 0);
-    r = raw_write(parts, 2, weights, 2, starts, 3, neighbours, 2, arc_weights, 2, 13, 1, 77, 0.25, plan, 1535);
-    CHECK((uint32_t)r.first == 15);
-    CHECK(r.second == 0);
-    r = raw_write(parts, 2, weights, 2, starts, 3, neighbours, 2, arc_weights, 2, 13, 1, 77, 0.25, plan, 1536);
-    CHECK((uint32_t)r.first == 0);
-    CHECK(raw_read(bytes, plan, 1536, read_labels, 2, read_weights, 2, read_starts, 3, read_neighbours, 2, read_arc_weights, 2)
-        == bytes);
-    CHECK(half_at(bytes, 16) == 1);
-    CHECK(half_at(bytes, 20) == 77);
-    CHECK(word_at(bytes, 24) == 0);
+}
+
+static void plan_answers(void)
+{
+    struct daunsrevit_ceiling ceiling = {0, 77, 0.25, {5, 6, 7, 8, 9, 10, 11, 12, 13, 14, 15, 16, 17, 18, 19, 4294967295u}};
+    for (; ceiling.choice < 4; ceiling.choice++)
+        plan_as_bytes(ceiling);
 }
 
 int main(void)
@@ -273,6 +297,7 @@ int main(void)
     cut_as_registers();
     reports_as_bytes();
     run_record_as_bytes();
+    numbers_by_board();
     plan_answers();
     return finish("layout");
 }

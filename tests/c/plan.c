@@ -9,7 +9,7 @@ static const uint32_t a[8] = {0, 0, 1, 1, 0, 1, 0, 1};
 static struct daunsrevit_write_answer write_to(uint8_t *target, size_t target_count)
 {
     return daunsrevit_write_plan(p.l.labels, p.l.labels_count, p.l.weights, p.l.weights_count, p.l.starts, p.l.starts_count,
-        p.l.neighbours, p.l.neighbours_count, p.l.arc_weights, p.l.arc_weights_count, p.k, p.choice, p.whole, p.imbalance,
+        p.l.neighbours, p.l.neighbours_count, p.l.arc_weights, p.l.arc_weights_count, p.k, p.ceiling,
         target, target_count);
 }
 
@@ -26,9 +26,11 @@ static struct daunsrevit_read_answer check_read(size_t extra, int line)
     memcpy(wanted.arc_weights, p.l.arc_weights, 4 * arcs);
     struct daunsrevit_read_answer r = read_into_targets();
     check(r.number == DAUNSREVIT_DONE, "read", __FILE__, line);
-    check(r.n == n && r.a == arcs && r.k == p.k && r.choice == p.choice, "the header read", __FILE__, line);
-    check(r.whole == (p.choice == 1 ? p.whole : 0), "the whole number read", __FILE__, line);
-    check(bits_of(r.imbalance) == (p.choice == 2 ? bits_of(p.imbalance) : 0), "the imbalance read", __FILE__, line);
+    check(r.n == n && r.a == arcs && r.k == p.k && r.ceiling.choice == p.ceiling.choice, "the header read", __FILE__, line);
+    check(r.ceiling.whole == (p.ceiling.choice == 1 ? p.ceiling.whole : 0), "the whole number read", __FILE__, line);
+    check(bits_of(r.ceiling.imbalance) == (p.ceiling.choice == 2 ? bits_of(p.ceiling.imbalance) : 0), "the imbalance read", __FILE__, line);
+    for (size_t t = 0; t < DAUNSREVIT_PARTS; t++)
+        check(r.ceiling.each[t] == number_of(t), "the number of each part read", __FILE__, line);
     check(memcmp(&targets, &wanted, sizeof targets) == 0, "the lists read, and the targets past them", __FILE__, line);
     check(memcmp(bytes, by_hand, bytes_count) == 0, "the bytes are not changed", __FILE__, line);
     return r;
@@ -57,7 +59,8 @@ static void check_round(size_t extra, int line)
     struct daunsrevit_read_answer r = check_read(extra, line);
     set_counts(&targets, p.l.labels_count, p.l.neighbours_count);
     memcpy(&p.l, &targets, sizeof p.l);
-    set_ceiling(r.k, r.choice, r.whole, r.imbalance);
+    p.k = r.k;
+    p.ceiling = r.ceiling;
     memcpy(again, blank, sizeof again);
     w = write_to(again, length);
     check(w.number == DAUNSREVIT_DONE && w.length == length, "written again", __FILE__, line);
@@ -91,6 +94,16 @@ static void rounds(void)
     make_grid(&p.l, a);
     set_ceiling(2, DAUNSREVIT_WHOLE, 0, 1.5);
     ROUND(0);
+
+    /* A number for each part: all sixteen are part of the plan, whatever k is, and nothing else of the ceiling is looked at. */
+    for (uint32_t k = 2; k <= DAUNSREVIT_PARTS; k += 7)
+        for (size_t t = 0; t < DAUNSREVIT_PARTS; t++) {
+            make_grid(&p.l, a);
+            set_ceiling(k, DAUNSREVIT_EACH, 7, of_bits(NAN_BITS));
+            memset(p.ceiling.each, 0, sizeof p.ceiling.each);
+            p.ceiling.each[t] = t % 2 ? 7 : 4294967295u;
+            ROUND(0);
+        }
 
     /* Labels up to k - 1; the row rules but for the starts, opposites and weight sums are left to the refiners. */
     make_grid(&p.l, a);
@@ -149,11 +162,12 @@ static void writer_refusals(void)
     UNWRITTEN(p.k = 0, 12);
     UNWRITTEN(p.k = 1, 12);
     UNWRITTEN(p.k = 17, 12);
-    UNWRITTEN(p.choice = 3, 12);
-    UNWRITTEN(p.imbalance = of_bits(NAN_BITS), 12);
-    UNWRITTEN(p.imbalance = of_bits(BELOW_ZERO_BITS), 12);
-    UNWRITTEN(p.imbalance = of_bits(ABOVE_64_BITS), 12);
-    UNWRITTEN(p.imbalance = of_bits(INFINITY_BITS), 12);
+    UNWRITTEN(p.ceiling.choice = 4, 12);
+    UNWRITTEN(p.ceiling.choice = 4294967295u, 12);
+    UNWRITTEN(p.ceiling.imbalance = of_bits(NAN_BITS), 12);
+    UNWRITTEN(p.ceiling.imbalance = of_bits(BELOW_ZERO_BITS), 12);
+    UNWRITTEN(p.ceiling.imbalance = of_bits(ABOVE_64_BITS), 12);
+    UNWRITTEN(p.ceiling.imbalance = of_bits(INFINITY_BITS), 12);
     UNWRITTEN(p.l.weights_count--, 1);
     UNWRITTEN(p.l.weights_count++, 1);
     UNWRITTEN(p.l.starts_count--, 1);
@@ -181,7 +195,7 @@ static void writing_order(void)
             first++;
         set_up();
         if (has(faults, 0))
-            p.choice = 3;
+            p.ceiling.choice = 4;
         if (has(faults, 1))
             p.l.weights_count--;
         if (has(faults, 2))

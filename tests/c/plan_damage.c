@@ -5,8 +5,10 @@
 /* The reader answers the bytes with this number and zeros. */
 static int refusal(uint32_t number)
 {
+    static const uint32_t no_numbers[DAUNSREVIT_PARTS];
     struct daunsrevit_read_answer r = read_into_targets();
-    return r.number == number && r.n == 0 && r.a == 0 && r.k == 0 && r.choice == 0 && r.whole == 0 && bits_of(r.imbalance) == 0;
+    return r.number == number && r.n == 0 && r.a == 0 && r.k == 0 && r.ceiling.choice == 0 && r.ceiling.whole == 0
+        && bits_of(r.ceiling.imbalance) == 0 && memcmp(r.ceiling.each, no_numbers, sizeof no_numbers) == 0;
 }
 
 /* The targets are as they were. */
@@ -91,7 +93,8 @@ static void damaged_header(void)
     WORD(0, 3, 0, DAUNSREVIT_HEADER_RANGE);
     WORD(0, 3, 1, DAUNSREVIT_HEADER_RANGE);
     WORD(0, 3, 17, DAUNSREVIT_HEADER_RANGE);
-    WORD(0, 4, 3, DAUNSREVIT_HEADER_RANGE);
+    WORD(0, 4, 4, DAUNSREVIT_HEADER_RANGE);
+    WORD(0, 4, 4294967295u, DAUNSREVIT_HEADER_RANGE);
     VALUE(0, 1);
     VALUE(0, 0x100000000u);
     VALUE(1, 0x100000000u);
@@ -99,7 +102,56 @@ static void damaged_header(void)
     VALUE(2, BELOW_ZERO_BITS);
     VALUE(2, ABOVE_64_BITS);
     VALUE(2, INFINITY_BITS);
-    VALUE(3, 0);
+    VALUE(4, 0);
+}
+
+/* A header with this choice, this many records and this value, and numbers by part in the first `words` of its further places; the check
+ * holds. */
+static void put_choice(uint32_t choice, uint32_t records, uint64_t value, size_t words)
+{
+    set_up();
+    put_word(bytes, 0, opening(1, records));
+    put_word(bytes, 4, choice);
+    put_word(bytes, 5, (uint32_t)value);
+    put_word(bytes, 6, (uint32_t)(value >> 32));
+    for (size_t t = 0; t < words; t++)
+        put_word(bytes, 7 + t, 100 + (uint32_t)t);
+    mend(bytes, 0);
+}
+
+/* The record count is judged by the choice: eleven records with choice 3, three with every other, also with one above 3. What is past the
+ * count is 11; a choice above 3 and a value that is not 0 with choice 3 are 12. */
+static void records_by_choice(void)
+{
+    for (uint32_t records = 0; records < 64; records++) {
+        put_choice(3, records, 0, 0);
+        CHECK(records == 11 ? read_into_targets().number == DAUNSREVIT_DONE : refused(DAUNSREVIT_HEADER));
+        for (uint32_t choice = 4; choice < 9; choice++) {
+            put_choice(choice, records, 0, 0);
+            CHECK(refused(records == 3 ? DAUNSREVIT_HEADER_RANGE : DAUNSREVIT_HEADER));
+        }
+        for (uint32_t choice = 0; choice < 3; choice++) {
+            put_choice(choice, records, 0, 0);
+            CHECK(records == 3 ? read_into_targets().number == DAUNSREVIT_DONE : refused(DAUNSREVIT_HEADER));
+        }
+    }
+    for (int bit = 0; bit < 64; bit++) {
+        put_choice(3, 11, (uint64_t)1 << bit, 16);
+        CHECK(refused(DAUNSREVIT_HEADER_RANGE));
+    }
+    for (uint32_t choice = 0; choice < 6; choice++) {
+        put_choice(choice, choice == 3 ? 11 : 3, 0, choice == 3 ? 17 : 1);
+        CHECK(refused(DAUNSREVIT_HEADER));
+    }
+    put_choice(3, 11, 0, 16);
+    struct daunsrevit_read_answer r = read_into_targets();
+    CHECK(r.number == DAUNSREVIT_DONE);
+    CHECK(r.k == 2);
+    CHECK(r.ceiling.choice == DAUNSREVIT_EACH);
+    CHECK(r.ceiling.whole == 0);
+    CHECK(bits_of(r.ceiling.imbalance) == 0);
+    for (uint32_t t = 0; t < DAUNSREVIT_PARTS; t++)
+        CHECK(r.ceiling.each[t] == 100 + t);
 }
 
 static void damaged_later_blocks(void)
@@ -187,7 +239,7 @@ static void reading_order(void)
         if (has(faults, 3))
             put_word(bytes, 126, 1);
         if (has(faults, 4))
-            put_word(bytes, 4, 3);
+            put_word(bytes, 4, 4);
         if (has(faults, 5))
             bytes[1025] ^= 1;
         if (has(faults, 6))
@@ -304,7 +356,7 @@ static void moved_old_blocks(void)
     }
 }
 
-/* The number by document 01 and document 02's A2, in plain steps: of the bytes, and of the targets' lengths. */
+/* The number by document 01 and document 02's A2 and A4, in plain steps: of the bytes, and of the targets' lengths. */
 static int block_laid(size_t block, uint32_t kind, uint32_t count)
 {
     const uint8_t *at = bytes + 512 * block;
@@ -317,7 +369,7 @@ static int block_laid(size_t block, uint32_t kind, uint32_t count)
 static int value_fits(uint32_t choice, uint64_t value)
 {
     double e = of_bits(value);
-    return choice == 0 ? value == 0 : choice == 1 ? value <= 4294967295u : choice == 2 && e >= 0.0 && e <= 64.0;
+    return choice == 0 || choice == 3 ? value == 0 : choice == 1 ? value <= 4294967295u : choice == 2 && e >= 0.0 && e <= 64.0;
 }
 
 static int blocks_laid(size_t n, size_t arcs)
@@ -356,7 +408,7 @@ static uint32_t number_by_hand(void)
         if (sum != (bytes[1] == 0 ? 0 : block))
             return 10;
     }
-    if (!block_laid(0, 1, 3))
+    if (!block_laid(0, 1, word_of(bytes, 4) == 3 ? 11 : 3))
         return 11;
     size_t n = word_of(bytes, 1), arcs = word_of(bytes, 2);
     uint32_t k = word_of(bytes, 3);
@@ -421,8 +473,11 @@ static int accepted(void)
     uint64_t value = word_of(bytes, 5) | (uint64_t)word_of(bytes, 6) << 32;
     struct daunsrevit_read_answer r = read_into_targets();
     want_places(word_of(bytes, 1), word_of(bytes, 2));
+    for (size_t t = 0; t < DAUNSREVIT_PARTS; t++)
+        if (r.ceiling.each[t] != (choice == 3 ? word_of(bytes, 7 + t) : 0))
+            return 0;
     return r.number == DAUNSREVIT_DONE && r.n == word_of(bytes, 1) && r.a == word_of(bytes, 2) && r.k == word_of(bytes, 3)
-        && r.choice == choice && r.whole == (choice == 1 ? value : 0) && bits_of(r.imbalance) == (choice == 2 ? value : 0)
+        && r.ceiling.choice == choice && r.ceiling.whole == (choice == 1 ? value : 0) && bits_of(r.ceiling.imbalance) == (choice == 2 ? value : 0)
         && first_as_wanted();
 }
 
@@ -438,7 +493,7 @@ static void draw_fault(uint32_t blocks)
 {
     uint32_t block = draw(blocks), other = (block + 1 + draw(blocks - 1)) % blocks, word = draw(128), small = draw(70), large = draw(70000);
     uint8_t *at = bytes + 512 * block, *there = bytes + 512 * other;
-    switch (draw(13)) {
+    switch (draw(15)) {
     case 0: at[4 * word + small % 4] ^= (uint8_t)(1u << large % 8); break;
     case 1: put_word(at, word, draw(4294967295u)); break;
     case 2: put_word(bytes, 1 + word % 6, small); break;
@@ -455,6 +510,8 @@ static void draw_fault(uint32_t blocks)
     case 9: bytes_count = 512 * (1 + small % (blocks + 2)); break;
     case 10: bytes_count += small % 3; break;
     case 11: put_word(bytes + 512 * (1 + block % (blocks - 1)), 2 + 2 * (word % 63), small % 20 | large % 4 << 16); break;
+    case 12: bytes[2] = small % 2 ? 11 : 3; break;
+    case 13: put_word(bytes, 4, small % 6); break;
     default: shorten(small % 2 ? &targets.starts_count : &targets.arc_weights_count); break;
     }
 }
@@ -500,6 +557,7 @@ int main(void)
         plan_length();
         flipped_bits();
         damaged_header();
+        records_by_choice();
         damaged_later_blocks();
         summed_by_the_header();
         damaged_records();

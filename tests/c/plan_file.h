@@ -1,5 +1,5 @@
-/* Plan files of both kinds, made here word by word as document 01 and document 02's A2 lay them out, and the call of the reader on
- * them. */
+/* Plan files of both kinds, made here word by word as document 01 and document 02's A2 and A4 lay them out, and the call of the reader
+ * on them. */
 #include "check.h"
 
 /* The largest plan that there is: 1 header, 66 blocks of vertices, 1,041 of arcs. */
@@ -9,8 +9,8 @@
 /* What is written, or read: the lists, the header and the ceiling. */
 struct plan {
     struct lists l;
-    uint32_t k, choice, whole;
-    double imbalance;
+    uint32_t k;
+    struct daunsrevit_ceiling ceiling;
 };
 
 static struct plan p;
@@ -28,12 +28,20 @@ static struct daunsrevit_read_answer read_into_targets(void)
         targets.arc_weights, targets.arc_weights_count);
 }
 
+/* A ceiling by one of the first three choices, which do not look at the numbers by part: these are painted. */
 static void set_ceiling(uint32_t k, uint32_t choice, uint32_t whole, double imbalance)
 {
     p.k = k;
-    p.choice = choice;
-    p.whole = whole;
-    p.imbalance = imbalance;
+    p.ceiling.choice = choice;
+    p.ceiling.whole = whole;
+    p.ceiling.imbalance = imbalance;
+    memset(p.ceiling.each, 0xa5, sizeof p.ceiling.each);
+}
+
+/* Part t's number in a plan: part of it with choice 3 alone. */
+static uint32_t number_of(size_t t)
+{
+    return p.ceiling.choice == DAUNSREVIT_EACH ? p.ceiling.each[t] : 0;
 }
 
 /* Word w of a block, or of a file: four bytes, the lowest first. */
@@ -90,10 +98,12 @@ static size_t make_by_hand(uint32_t kind)
 {
     file_kind = kind;
     size_t n = p.l.labels_count, arcs = p.l.neighbours_count, blocks = 1 + blocks_for(n) + blocks_for(arcs);
-    uint64_t value = p.choice == 1 ? p.whole : p.choice == 2 ? bits_of(p.imbalance) : 0;
-    const uint32_t header[6] = {(uint32_t)n, (uint32_t)arcs, p.k, p.choice, (uint32_t)value, (uint32_t)(value >> 32)};
+    uint64_t value = p.ceiling.choice == 1 ? p.ceiling.whole : p.ceiling.choice == 2 ? bits_of(p.ceiling.imbalance) : 0;
+    uint32_t header[22] = {(uint32_t)n, (uint32_t)arcs, p.k, p.ceiling.choice, (uint32_t)value, (uint32_t)(value >> 32)};
+    for (size_t t = 0; t < DAUNSREVIT_PARTS; t++)
+        header[6 + t] = number_of(t);
     memset(by_hand, 0, 512 * (blocks + 2));
-    for (size_t i = 0; i < 3; i++) {
+    for (size_t i = 0; i < (p.ceiling.choice == DAUNSREVIT_EACH ? 11 : 3); i++) {
         uint8_t *at = put_record(0, 1, i);
         put_word(at, 0, header[2 * i]);
         put_word(at, 1, header[2 * i + 1]);
@@ -138,9 +148,11 @@ static void make_drawn(size_t n, size_t arcs)
 {
     paint(&p.l);
     p.k = 2 + draw(15);
-    p.choice = draw(3);
-    p.whole = draw(4294967295u);
-    p.imbalance = draw(4096) / 64.0;
+    p.ceiling.choice = draw(4);
+    p.ceiling.whole = draw(4294967295u);
+    p.ceiling.imbalance = draw(4096) / 64.0;
+    for (size_t t = 0; t < DAUNSREVIT_PARTS; t++)
+        p.ceiling.each[t] = draw(4294967295u);
     p.l.starts[0] = 0;
     for (size_t v = 0; v < n; v++) {
         size_t left = arcs - p.l.starts[v];

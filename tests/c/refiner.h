@@ -34,12 +34,12 @@ static void graph_refusals(void)
 /* The refusals of a ceiling's choice, for the refiners that have one. */
 #define CHOICE_REFUSALS() \
     do { \
-        AFTER(c.s.choice = 3, 7); \
-        AFTER(c.s.choice = 4294967295u, 7); \
-        AFTER(c.s.imbalance = of_bits(NAN_BITS), 7); \
-        AFTER(c.s.imbalance = of_bits(BELOW_ZERO_BITS), 7); \
-        AFTER(c.s.imbalance = of_bits(ABOVE_64_BITS), 7); \
-        AFTER(c.s.imbalance = of_bits(INFINITY_BITS), 7); \
+        AFTER(c.s.ceiling.choice = 4, 7); \
+        AFTER(c.s.ceiling.choice = 4294967295u, 7); \
+        AFTER(c.s.ceiling.imbalance = of_bits(NAN_BITS), 7); \
+        AFTER(c.s.ceiling.imbalance = of_bits(BELOW_ZERO_BITS), 7); \
+        AFTER(c.s.ceiling.imbalance = of_bits(ABOVE_64_BITS), 7); \
+        AFTER(c.s.ceiling.imbalance = of_bits(INFINITY_BITS), 7); \
     } while (0)
 
 /* The smallest number that applies: every choice of faults 1 to `most`, where fault i alone gives the number i. The faults from 6

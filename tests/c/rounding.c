@@ -25,12 +25,17 @@ static void reset(void)
     labels[1] = labels[2] = 1;
 }
 
+static struct daunsrevit_ceiling by_imbalance(double e)
+{
+    return (struct daunsrevit_ceiling){.choice = DAUNSREVIT_IMBALANCE, .imbalance = e};
+}
+
 static struct daunsrevit_fiduccia_mattheyses_report by_moves(double e)
 {
     static int64_t gains[3];
     static struct daunsrevit_move moves[3];
     static uint32_t made[4], rewound[4];
-    struct daunsrevit_fiduccia_mattheyses_settings s = {.pass_limit = 4, .move_limit = 3, .bad_limit = 0, .choice = DAUNSREVIT_IMBALANCE, .imbalance = e};
+    struct daunsrevit_fiduccia_mattheyses_settings s = {.pass_limit = 4, .move_limit = 3, .bad_limit = 0, .ceiling = by_imbalance(e)};
     reset();
     return daunsrevit_fiduccia_mattheyses(starts, 4, neighbours, 2, arc_weights, 2, weights, 3, labels, 3, gains, 3, moves, 3, made, 4, rewound, 4, s);
 }
@@ -39,7 +44,7 @@ static struct daunsrevit_arc_swap_report by_attempts(double e)
 {
     static uint32_t stack[8];
     static struct daunsrevit_run_record run;
-    struct daunsrevit_arc_swap_settings s = {.choice = DAUNSREVIT_IMBALANCE, .imbalance = e};
+    struct daunsrevit_arc_swap_settings s = {.ceiling = by_imbalance(e)};
     reset();
     return daunsrevit_arc_swap(starts, 4, neighbours, 2, arc_weights, 2, weights, 3, labels, 3, stack, 8, s, &run);
 }
@@ -48,7 +53,7 @@ static struct daunsrevit_write_answer written(double e)
 {
     static uint8_t target[3 * DAUNSREVIT_BLOCK];
     reset();
-    return daunsrevit_write_plan(labels, 3, weights, 3, starts, 4, neighbours, 2, arc_weights, 2, 2, DAUNSREVIT_IMBALANCE, 0, e, target, sizeof target);
+    return daunsrevit_write_plan(labels, 3, weights, 3, starts, 4, neighbours, 2, arc_weights, 2, 2, by_imbalance(e), target, sizeof target);
 }
 
 static void check_joined(uint32_t label)

@@ -1,12 +1,13 @@
-"""Arc-swap as document 01 has it, in plain steps, for what coupe has not: a lent stack that may be too short, and a whole ceiling.
-The comparison holds it to coupe wherever coupe has an answer, and the library to it everywhere."""
+"""Arc-swap as document 01 and document 02's A4 have it, in plain steps, for what coupe has not: a lent stack that may be too short, a
+whole ceiling, and a ceiling for each board. The comparison holds it to coupe wherever coupe has an answer, and the library to it
+everywhere."""
 
 NO_GAIN, BAD_BALANCE, MOVED = range(3)
 
 
 class Run:
-    def __init__(self, graph, ceiling, room):
-        self.graph, self.ceiling, self.room = graph, ceiling, room
+    def __init__(self, graph, ceilings, room):
+        self.graph, self.ceilings, self.room = graph, ceilings, room
         self.labels = list(graph.labels)
         self.parts = max(2, max(self.labels) + 1)
         self.loads = [0] * self.parts
@@ -37,7 +38,7 @@ class Run:
         gain, target = self.best(v)
         if gain <= 0:
             self.counts[NO_GAIN] += 1
-        elif self.loads[target] + self.graph.weights[v] > self.ceiling:
+        elif self.loads[target] + self.graph.weights[v] > self.ceilings[target]:
             self.counts[BAD_BALANCE] += 1
         else:
             self.counts[MOVED] += 1

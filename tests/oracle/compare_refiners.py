@@ -3,8 +3,9 @@ and prints for each source of graphs the cases that were run and those that diff
 both answers. compare.py is the command.
 
 Compared are the number, end, passes, cuts and labels, for FM and arc-swap the loads, for FM the rows and for arc-swap the counts
-too. `FM` is held to coupe with ties to the lowest vertex, `FM without ties` to coupe unchanged, `arc-swap model` to
-arc_swap_model.py, which has the cases that coupe has not.
+too. `FM` is held to coupe with ties to the lowest vertex, `FM without ties` to coupe unchanged, `arc-swap model` and
+`FM model` to arc_swap_model.py and fiduccia_mattheyses_model.py, which have the cases that coupe has not; `by board` are those of them
+with a ceiling for each board.
 """
 
 import itertools
@@ -13,8 +14,8 @@ from collections import Counter
 
 from make_cases import SPARSE_FAMILIES, at_limits, drawn, exhaustive, small
 from programs import build_driver, driver_answers
-from refiners import (CARRIED, FM, IMBALANCE, KL, Answer, ArcSwap, answers_of, arc_swap_asks, fm_asks, kl_answers, kl_asks,
-                      modelled_asks, tie_free)
+from refiners import (CARRIED, FM, IMBALANCE, KL, Answer, ArcSwap, answers_of, arc_swap_asks, asks_by_board, fm_asks, kl_answers,
+                      kl_asks, modelled_asks, tie_free)
 
 
 def graphs_of(seed, count):
@@ -84,6 +85,11 @@ class Comparison:
         swap = [ask for ask in asks[2] if ask.graph.n <= 12]
         modelled = swap + list(modelled_asks(rng, swap))
         self.add(label, "arc-swap model", modelled, [ask.modelled() for ask in modelled])
+        two = [ask for ask in asks[0] if ask.graph.n <= 12 and max(ask.graph.labels, default=0) < 2]
+        self.add(label, "FM model", two, [ask.modelled() for ask in two])
+        for name, given in (("FM by board", two[::3]), ("arc-swap by board", swap[::3])):
+            by_board = list(asks_by_board(rng, given))
+            self.add(label, name, by_board, [ask.modelled() for ask in by_board])
 
     def compare_asks(self, label, fm, kl, swap=()):
         self.add(label, "FM", fm, answers_of(fm))

@@ -1,11 +1,11 @@
 /* Puts cases to the C entry points of the refiners: one case a line of standard input, one answer a line of standard output.
  *
- *   fm P M B CHOICE WHOLE E n a  weights[n] starts[n+1] neighbours[a] arcs[a] labels[n]
+ *   fm P M B CEILING n a  weights[n] starts[n+1] neighbours[a] arcs[a] labels[n]
  *   kl P M B n a  weights[n] starts[n+1] neighbours[a] arcs[a] labels[n]
- *   as CHOICE WHOLE E LENGTH n a  weights[n] starts[n+1] neighbours[a] arcs[a] labels[n]
+ *   as CEILING LENGTH n a  weights[n] starts[n+1] neighbours[a] arcs[a] labels[n]
  *
- * all separated by blanks. P pass limit, M move or swap limit, B bad limit; E the imbalance's bits, a decimal number; LENGTH
- * that of arc-swap's stack. The lent lists are painted, and otherwise just as long as is needed. Answers:
+ * all separated by blanks. P pass limit, M move or swap limit, B bad limit; CEILING the choice, the whole number, the imbalance's bits, a
+ * decimal number, and with choice 3 the sixteen numbers; LENGTH that of arc-swap's stack. The lent lists are painted, and otherwise just as long as is needed. Answers:
  * `number=v end=v passes=v cut=first,last labels=v,v,..`, for FM and arc-swap `loads=v,v,..` too, for FM `rows=made/rewound,..`
  * and for arc-swap `counts=attempts,moves,no-gain,bad-balance`. Ends with 1 at a line that is not a case. */
 #include "../c/check.h"
@@ -48,6 +48,18 @@ static void read_list(uint32_t *list, size_t count)
         list[i] = (uint32_t)read_number();
 }
 
+static struct daunsrevit_ceiling read_ceiling(void)
+{
+    struct daunsrevit_ceiling ceiling;
+    ceiling.choice = (uint32_t)read_number();
+    ceiling.whole = (uint32_t)read_number();
+    ceiling.imbalance = of_bits(read_number());
+    memset(ceiling.each, 0xa5, sizeof ceiling.each);
+    if (ceiling.choice == DAUNSREVIT_EACH)
+        read_list(ceiling.each, DAUNSREVIT_PARTS);
+    return ceiling;
+}
+
 static int read_graph(void)
 {
     size_t n = read_number(), a = read_number();
@@ -77,9 +89,7 @@ static int fiduccia_mattheyses(void)
     s.pass_limit = (uint32_t)read_number();
     s.move_limit = (uint32_t)read_number();
     s.bad_limit = (uint32_t)read_number();
-    s.choice = (uint32_t)read_number();
-    s.whole = (uint32_t)read_number();
-    s.imbalance = of_bits(read_number());
+    s.ceiling = read_ceiling();
     if (!read_graph() || s.pass_limit > DAUNSREVIT_MOST_PASSES)
         return 0;
     size_t n = l.labels_count;
@@ -123,9 +133,7 @@ static int kernighan_lin(void)
 static int arc_swap(void)
 {
     struct daunsrevit_arc_swap_settings s;
-    s.choice = (uint32_t)read_number();
-    s.whole = (uint32_t)read_number();
-    s.imbalance = of_bits(read_number());
+    s.ceiling = read_ceiling();
     size_t length = read_number(), parts = 2;
     if (!read_graph() || length > STACK)
         return 0;

@@ -12,6 +12,8 @@ coupe says neither its end nor, where it panics, its cuts; they follow from what
   - A whole ceiling (choice 1) is put to FM of coupe as an imbalance that has this ceiling.
   - Arc-swap's run ends with a gainless pass: coupe has no other end, as its stack grows and it has no pass limit. A short stack
     and a whole ceiling are put to arc_swap_model.py, which is held to coupe's answers too.
+  - A ceiling for each board (choice 3), which coupe has not, is put to arc_swap_model.py and to fiduccia_mattheyses_model.py, which
+    is held to coupe's answers too.
 """
 
 import struct
@@ -19,6 +21,7 @@ from collections import Counter
 from dataclasses import dataclass, replace
 
 import arc_swap_model
+import fiduccia_mattheyses_model
 from algorithms import Disagreement, fields, numbers
 from make_cases import PARTS, Graph
 from programs import oracle_answers
@@ -29,7 +32,7 @@ EXHAUSTED = ("kernighan_lin.rs:102", "kernighan_lin.rs:124")
 SWAPLESS = "kernighan_lin.rs:152"
 DONE, REFUSED_LABEL = 0, 6
 PASS_LIMIT, GAINLESS, STACK_FULL, EMPTY = 0, 1, 2, 3
-CARRIED, WHOLE, IMBALANCE = 0, 1, 2
+CARRIED, WHOLE, IMBALANCE, EACH = 0, 1, 2, 3
 LONG_STACK = 65535  # no run that is compared here needs more
 
 
@@ -40,6 +43,15 @@ def bits(number):
 def ceiling(total, imbalance, parts=2):
     ideal = total / float(parts)
     return int(ideal + imbalance * ideal)
+
+
+def ceilings(ask, loads):
+    """The ceiling of each part, by the choice, from the loads at the start."""
+    if ask.choice == EACH:
+        return ask.each
+    if ask.choice == CARRIED:
+        return (max(loads),) * PARTS
+    return (ask.whole if ask.choice == WHOLE else ceiling(sum(loads), ask.imbalance, len(loads)),) * PARTS
 
 
 def imbalance_for(total, whole):
@@ -101,6 +113,7 @@ class FM:
     choice: int
     whole: int = 0
     imbalance: float = 0.0
+    each: tuple = ()  # sixteen numbers with choice 3, which the replay program has not
 
     name = "FM"  # as the replay program prints it
     code = 4  # as the replay program reads it
@@ -116,7 +129,18 @@ class FM:
         return " ".join(map(str, ("fm", *self.settings(), *self.graph.numbers())))
 
     def settings(self):
-        return self.passes, self.moves, self.bad, self.choice, self.whole, bits(self.imbalance)
+        return self.passes, self.moves, self.bad, self.choice, self.whole, bits(self.imbalance), *self.each
+
+    def modelled(self):
+        """The answer that the model asks, of labels 0 and 1."""
+        if self.graph.n == 0:
+            return self.answered("")
+        run = fiduccia_mattheyses_model.Run(self.graph, (), self.moves, self.bad)
+        run.ceilings = ceilings(self, (run.load(0), run.load(1)))
+        first, (rows, gainless) = run.cut(), run.passes(self.passes)
+        told = tuple(f"{made}/{rewound}" for made, rewound in rows)
+        loads = run.load(0), run.load(1)
+        return Answer(DONE, GAINLESS if gainless else PASS_LIMIT, len(rows), (first, run.cut()), tuple(run.labels), loads, told)
 
     def replay_line(self, answer):
         rows = [number for row in answer.rows for number in row.split("/")]
@@ -172,6 +196,7 @@ class ArcSwap:
     choice: int
     whole: int = 0
     imbalance: float = 0.0
+    each: tuple = ()
     room: int = LONG_STACK
 
     name = "arc-swap"
@@ -185,19 +210,14 @@ class ArcSwap:
         return " ".join(map(str, ("as", *self.settings(), *self.graph.numbers())))
 
     def settings(self):
-        return self.choice, self.whole, bits(self.imbalance), self.room
-
-    def ceiling(self, loads):
-        if self.choice == CARRIED:
-            return max(loads)
-        return self.whole if self.choice == WHOLE else ceiling(sum(loads), self.imbalance, len(loads))
+        return self.choice, self.whole, bits(self.imbalance), *self.each, self.room
 
     def modelled(self):
         """The answer that the model asks."""
         if self.graph.n == 0:
             return self.answered("")
-        run = arc_swap_model.Run(self.graph, 0, self.room)
-        run.ceiling = self.ceiling(run.loads)
+        run = arc_swap_model.Run(self.graph, (), self.room)
+        run.ceilings = ceilings(self, run.loads)
         passes, (no_gain, bad_balance, moved) = run.passes(), run.counts
         cut = (edge_cut(self.graph, self.graph.labels), edge_cut(self.graph, run.labels))
         counts = (sum(run.counts), moved, no_gain, bad_balance)
@@ -316,6 +336,18 @@ def modelled_asks(rng, asks):
     for ask in asks:
         yield replace(ask, room=rng.choice((0, 1, 1, 2, 2, 3, 4, 5, 8)))
         yield replace(ask, choice=WHOLE, whole=rng.randint(0, sum(ask.graph.weights) + 1))
+
+
+def asks_by_board(rng, asks):
+    """Cases with a ceiling for each board: every board's drawn, the largest load on all, one board full and the others wide, and the most
+    that there is."""
+    for ask in asks:
+        total = sum(ask.graph.weights)
+        loads = [sum(w for w, label in zip(ask.graph.weights, ask.graph.labels) if label == part) for part in range(PARTS)]
+        full = rng.randrange(PARTS)
+        for each in ([rng.randint(0, total + 1) for _ in loads], [max(loads)] * PARTS, [load + rng.randint(0, 3) for load in loads],
+                     [load if part == full else MOST_U32 for part, load in enumerate(loads)]):
+            yield replace(ask, choice=EACH, whole=rng.randint(0, MOST_U32), each=tuple(min(number, MOST_U32) for number in each))
 
 
 def kl_asks(rng, graph):

@@ -10,8 +10,8 @@ int sprintf(char *, const char *, ...);
 enum { CREATE = 0x241, BLOCK = DAUNSREVIT_BLOCK, MOST = 44 * BLOCK, STACK = 4096, PASSES = 64 };
 
 static struct lists l;
-static uint32_t k, choice, whole;
-static double imbalance;
+static uint32_t k;
+static struct daunsrevit_ceiling ceiling;
 static uint8_t plan[MOST];
 static size_t plan_length;
 static char text[32768];
@@ -36,7 +36,7 @@ static void put_case(const char *name)
 static void write_plan(void)
 {
     struct daunsrevit_write_answer r = daunsrevit_write_plan(l.labels, l.labels_count, l.weights, l.weights_count, l.starts,
-        l.starts_count, l.neighbours, l.neighbours_count, l.arc_weights, l.arc_weights_count, k, choice, whole, imbalance, plan, MOST);
+        l.starts_count, l.neighbours, l.neighbours_count, l.arc_weights, l.arc_weights_count, k, ceiling, plan, MOST);
     CHECK(r.number == DAUNSREVIT_DONE);
     plan_length = r.length;
 }
@@ -70,7 +70,7 @@ static void run_two(const char *name)
     static int64_t gains[512];
     static struct daunsrevit_move moves[512];
     static uint32_t made[PASSES], rewound[PASSES];
-    struct daunsrevit_fiduccia_mattheyses_settings s = {PASSES, (uint32_t)l.labels_count, 0, choice, whole, imbalance};
+    struct daunsrevit_fiduccia_mattheyses_settings s = {PASSES, (uint32_t)l.labels_count, 0, ceiling};
     write_plan();
     struct daunsrevit_fiduccia_mattheyses_report r = daunsrevit_fiduccia_mattheyses(l.starts, l.starts_count,
         l.neighbours, l.neighbours_count, l.arc_weights, l.arc_weights_count, l.weights, l.weights_count,
@@ -87,7 +87,7 @@ static void run_two(const char *name)
 static void run_many(const char *name, uint32_t end)
 {
     static uint32_t stack[STACK];
-    struct daunsrevit_arc_swap_settings s = {choice, whole, imbalance};
+    struct daunsrevit_arc_swap_settings s = {ceiling};
     struct daunsrevit_run_record run;
     uint32_t parts = 2;
     for (size_t v = 0; v < l.labels_count; v++)
@@ -108,9 +108,16 @@ static void run_many(const char *name, uint32_t end)
 static void set_header(uint32_t parts, uint32_t by, uint32_t number, double e)
 {
     k = parts;
-    choice = by;
-    whole = number;
-    imbalance = e;
+    ceiling = (struct daunsrevit_ceiling){.choice = by, .whole = number, .imbalance = e};
+}
+
+/* One large board and the others small, each with a ceiling of its own. */
+static void set_rack(uint32_t parts, uint32_t large, uint32_t small)
+{
+    set_header(parts, DAUNSREVIT_EACH, 0, 0.0);
+    ceiling.each[0] = large;
+    for (uint32_t t = 1; t < parts; t++)
+        ceiling.each[t] = small;
 }
 
 /* Every vertex v is joined to v + 1 and to v + `far`, by weights that differ, in as many parts. */
@@ -186,6 +193,16 @@ static void make_lift_group(size_t cars, uint32_t boards)
     set_counts(&l, n, a);
 }
 
+/* The same ten cars in a rack of one large board and three small ones. A car weighs 41, so the large board, which may bear 220, takes five
+ * of them, and a small one, which may bear 95, two. Again every fifth block is one board on. */
+static void make_rack(void)
+{
+    static const uint32_t home[10] = {0, 0, 0, 0, 0, 1, 1, 2, 2, 3};
+    make_lift_group(10, 4);
+    for (size_t u = 0; u < l.labels_count; u++)
+        l.labels[u] = (home[u / 12] + (u % 5 == 0)) % 4;
+}
+
 static void runs(void)
 {
     static const uint32_t a[8] = {0, 0, 1, 1, 0, 1, 0, 1};
@@ -209,6 +226,12 @@ static void runs(void)
     set_header(5, DAUNSREVIT_IMBALANCE, 0, 0.25);
     make_lift_group(10, 5);
     run_many("lift_group", DAUNSREVIT_GAINLESS);
+    set_rack(4, 220, 95);
+    make_rack();
+    run_many("rack", DAUNSREVIT_GAINLESS);
+    set_rack(2, 5, 4);
+    make_grid(&l, a);
+    run_two("two_boards");
     set_header(2, DAUNSREVIT_CARRIED, 0, 0.0);
     make_path(&l, 1);
     run_two("one_vertex");
@@ -268,6 +291,9 @@ static void reader_refusals(void)
     refused("header_kind_and_10", 11);
     spoilt("header", 0, 2, 4, 11);
     spoilt("parts", 0, 12, 17, 12);
+    /* Choice 4 with three records, choice 3 with three records. */
+    spoilt("choice", 0, 16, 4, 12);
+    spoilt("records", 0, 16, 3, 11);
     spoilt("kind", 1, 0, 3, 13);
     spoilt("old_kind", 1, 1, 0, 13);
     spoilt("label", 1, 8, 2, 14);

@@ -21,6 +21,6 @@ int main(void)
     if (r.number != DAUNSREVIT_DONE)
         return 1;
     struct daunsrevit_write_answer w = daunsrevit_write_plan(l.labels, r.n, l.weights, r.n, l.starts, r.n + 1, l.neighbours, r.a,
-        l.arc_weights, r.a, r.k, r.choice, r.whole, r.imbalance, renewed, MOST);
+        l.arc_weights, r.a, r.k, r.ceiling, renewed, MOST);
     return w.number != DAUNSREVIT_DONE || w.length != length || write(1, renewed, w.length) != (long)w.length ? 2 : 0;
 }

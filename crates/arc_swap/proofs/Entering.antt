@@ -10,12 +10,12 @@ use Rattle.lists.specs.Sum.{total}
 use Rattle.lists.specs.Fill.{filled, table}
 use Rattle.lists.proofs.Fills.{filled-whole}
 use Rattle.lists.proofs.Numbers.{or-else-zero, not-given}
-use Rattle.lists.proofs.Tables.{length-table}
 use Rattle.imbalance.specs.Limit.{labelAbove, mostWeight}
 use Rattle.imbalance.specs.Load.{load, loadsOf}
-use Rattle.imbalance.specs.Ceiling.{unfitChoice, ceiling, ceilings}
+use Rattle.imbalance.specs.Ceiling.{unfitChoice, ceilings}
 use Rattle.imbalance.specs.declared.Ceilings.{Ceilings}
 use Rattle.imbalance.specs.declared.Loads.{Loads}
+use Rattle.imbalance.proofs.Choices.{ceilings-long}
 use Rattle.topology.specs.Rule.{graphNumber}
 use Rattle.topology.specs.Cut.{cut}
 use Rattle.topology.proofs.Numbers.{sound}
@@ -69,8 +69,7 @@ module _ (p : Given) (labels : List ℕ) (ok : Ready p labels) where
 
   module _ (stack : List ℕ) (b : Begun) (is : Begins p labels b) where
     capped : length (b .limits .ceilings .at) ≡ 16
-    unfolding ceilings
-    capped = ap length (is .capped) ∙ length-table 16 (λ u. ceiling (table 16 (load (p .weights) labels)) (total (p .weights)) (partsOf labels) (p .settings .ceiling))
+    capped = ap length (is .capped) ∙ ceilings-long _ _ _ _
 
     pub passes-asked : (counts : RunRecord) → counts ≡ noCounts → TurnAsked (set-by p stack b) labels stack (b .st) counts 0 × (counts ≡ noCounts) × (b .st .cut ≤ mostWeight)
     passes-asked counts empty =

@@ -59,7 +59,7 @@ module _ (p : Given) (l : Lent) (r : Report) (k : Lent) (some : length (l .label
   pub counts-sum : Summed (k .run)
   counts-sum = rw run-is (all-kept .summed)
 
-  -- no part ends above the larger of its ceiling and its starting load
+  -- no part ends above the larger of its own ceiling and its starting load
   pub no-part-above : NoPartAbove (termsOf p l) (l .labels) (k .labels)
   no-part-above = rw labels-are (all-kept .loads)
 

@@ -3,6 +3,7 @@ use mathlib.Core.Path.{_≡_, refl}
 use mathlib.Core.Bool.{true, false}
 use mathlib.Core.List.{List, [], _∷_}
 use Prim.Native.Nat.{ℕ}
+use lib.ListN.{replicate}
 use lib.IntN.{pos, negsuc}
 use lib.Ieee.{fin, add, div, ofInt, mul}
 use Rattle.lists.specs.Sum.{sum, between, total}
@@ -26,7 +27,7 @@ plan =
       neighbours = grid .neighbours;
       arcs = grid .weights;
       weights = ones;
-      settings = record { ceiling = record { choice = 2; whole = 0; imbalance = fin false 1 (negsuc 1) } };
+      settings = record { ceiling = record { choice = 2; whole = 0; imbalance = fin false 1 (negsuc 1); each = replicate 16 0 } };
     }
 
 -- A, and a stack

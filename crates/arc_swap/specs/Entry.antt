@@ -30,7 +30,7 @@ pub record Lent : Type 0 where
   pub stack : List ℕ
   pub run : RunRecord
 
--- "The smallest number that applies is given; 0 only if none does." 6: a label above 15. 7: "choice 2 with e NaN, below 0 or above 64, or choice above 2". The stack "never gives 8".
+-- "The smallest number that applies is given; 0 only if none does." 6: a label above 15. 7: "choice 2 with e NaN, below 0 or above 64", and "7 and 12 now begin at choice 4". The stack "never gives 8".
 unfoldable pub number : Given → List ℕ → ℕ
 number p labels =
     orElse (graphNumber (length labels) (p .weights) (graphOf p))

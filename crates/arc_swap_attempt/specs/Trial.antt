@@ -30,7 +30,7 @@ module _ (g : Graph) (k : ℕ) where
       let u = neighbour g (first g v + n) in
       cond (movable u && hasGain p u) (u ∷ pushed movable p v n) (pushed movable p v n)
 
-  -- "Gain 0 or less: no-gain count. Else target load above the ceiling: bad-balance count. Else it moves": to part t, with its gain, which is then above 0
+  -- "Gain 0 or less: no-gain count. Else target load above the ceiling: bad-balance count. Else it moves": the ceiling is "the target's own" (document 02, A4), and it goes to part t with its gain, which is then above 0
   unfoldable pub trial : List ℕ → List ℕ → List ℕ → ℕ → Trial
   trial weights ceilings p v =
       elim (aim p v) [

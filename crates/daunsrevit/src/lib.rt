@@ -178,22 +178,15 @@ pub extern "C" fn daunsrevit_write_plan(
     neighbours: &[u32],
     arc_weights: &[u32],
     k: u32,
-    choice: u32,
-    whole: u32,
-    imbalance: f64,
+    ceiling: Ceiling,
     target: &mut [u8],
 ) -> WriteAnswer
     ensures { λ r. ⌜ Written
-        (record { labels = now (labels .entry); weights = now (weights .entry); starts = now (starts .entry); neighbours = now (neighbours .entry); arcWeights = now («arc_weights» .entry); k = k; ceiling = record { choice = choice; whole = whole; imbalance = imbalance } })
+        (record { labels = now (labels .entry); weights = now (weights .entry); starts = now (starts .entry); neighbours = now (neighbours .entry); arcWeights = now («arc_weights» .entry); k = k; ceiling = ceiling })
         (now (target .entry))
         r
         (now (target .exit)) ⌝ }
 {
-    let asked = Ceiling {
-        choice,
-        whole,
-        imbalance,
-    };
     plan::write_plan(
         labels,
         weights,
@@ -201,7 +194,7 @@ pub extern "C" fn daunsrevit_write_plan(
         neighbours,
         arc_weights,
         k,
-        asked,
+        ceiling,
         target,
     )
 }

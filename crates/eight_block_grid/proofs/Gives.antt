@@ -35,7 +35,7 @@ use Rattle.kernighan_lin.specs.Entry as KL
 use Rattle.kernighan_lin.specs.declared.Report as KLReport
 use Rattle.arc_swap.specs.Entry as Swap
 use Rattle.arc_swap.specs.declared.Report as SwapReport
-use Rattle.eight_block_grid.specs.Inputs.{zeros, noGains, quarter, fmPlan, fmLists, klPlan, klLent, swapPlan, swapLent, totalsPlan, totalsLists}
+use Rattle.eight_block_grid.specs.Inputs.{zeros, noGains, quarter, asked, fmPlan, fmLists, klPlan, klLent, swapPlan, swapLent, totalsPlan, totalsLists}
 use Rattle.eight_block_grid.specs.SelfTest.{same, sameGains, row3, cutsSeen, loadsSeen, klSeen, swapSeen, sixTenths, twoTwentyEight, two, ceilingsSeen, totals, rounds, cutsGive, loadsGive, fmGives, klGives, swapGives}
 
 -- 0.25, as the code has it
@@ -139,7 +139,7 @@ swapPlanBy e =
       neighbours = grid .neighbours;
       arcs = grid .weights;
       weights = ones;
-      settings = record { ceiling = record { choice = 2; whole = 0; imbalance = e } };
+      settings = record { ceiling = asked 2 e };
     }
 
 pub swap-gives : (labels numbers : List ℕ) (e : Float) (r : SwapReport.Report) (k : Swap.Lent) (x y b : Bool) →

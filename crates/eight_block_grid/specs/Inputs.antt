@@ -5,6 +5,7 @@ use Prim.Native.Nat.{ℕ}
 use lib.IntN.{ℤ, pos, negsuc}
 use lib.ListN.{replicate}
 use lib.Ieee.{Float, fin}
+use Rattle.imbalance.specs.declared.Ceiling.{Ceiling}
 use Rattle.topology.specs.EightBlockGrid.{grid, ones, A}
 use Rattle.fiduccia_mattheyses.specs.Entry as FM
 use Rattle.fiduccia_mattheyses_records.specs.Own.{Lists, lentWith}
@@ -22,6 +23,10 @@ noGains m = replicate m (pos 0)
 abbrev pub quarter : Float
 quarter = fin false 1 (negsuc 1)
 
+-- what is asked of the ceiling by one of the choices that have no number for each part
+abbrev pub asked : ℕ → Float → Ceiling
+asked choice e = record { choice = choice; whole = 0; imbalance = e; each = zeros 16 }
+
 -- FM: "P = 64, moves 8", by the ceiling's choice and the bad limit
 abbrev pub fmPlan : ℕ → ℕ → FM.Given
 fmPlan choice bad =
@@ -30,7 +35,7 @@ fmPlan choice bad =
       neighbours = grid .neighbours;
       arcs = grid .weights;
       weights = ones;
-      settings = record { passes = 64; moves = 8; bad = bad; choice = choice; whole = 0; imbalance = quarter };
+      settings = record { passes = 64; moves = 8; bad = bad; ceiling = asked choice quarter };
     }
 
 -- FM on A: eight gains, and two row lists of 64; the function itself adds eight move records
@@ -48,7 +53,7 @@ totalsPlan e =
       neighbours = grid .neighbours;
       arcs = grid .weights;
       weights = 5 ∷ 75 ∷ zeros 6;
-      settings = record { passes = 0; moves = 0; bad = 0; choice = 0; whole = 0; imbalance = e };
+      settings = record { passes = 0; moves = 0; bad = 0; ceiling = asked 0 e };
     }
 
 abbrev pub totalsLists : Lists
@@ -77,7 +82,7 @@ swapPlan =
       neighbours = grid .neighbours;
       arcs = grid .weights;
       weights = ones;
-      settings = record { ceiling = record { choice = 2; whole = 0; imbalance = quarter } };
+      settings = record { ceiling = asked 2 quarter };
     }
 
 abbrev pub swapLent : Swap.Lent

@@ -105,13 +105,17 @@ fn loads_give(numbers: &[u64]) -> bool
 fn fm_settings(choice: u32, bad: u32) -> fiduccia_mattheyses::Settings
     ensures { λ r. ⌜ r ≡ fmPlan choice bad .settings ⌝ }
 {
+    let ceiling = Ceiling {
+        choice,
+        whole: 0,
+        imbalance: 0.25,
+        each: [0; 16],
+    };
     fiduccia_mattheyses::Settings {
         passes: 64,
         moves: 8,
         bad,
-        choice,
-        whole: 0,
-        imbalance: 0.25,
+        ceiling,
     }
 }
 
@@ -195,6 +199,7 @@ fn swap_gives(labels: &[u32], numbers: &[u64]) -> bool
         choice: 2,
         whole: 0,
         imbalance: 0.25,
+        each: [0; 16],
     };
     let s = arc_swap::Settings { ceiling };
     let answered = arc_swap::arc_swap_counted(
@@ -305,13 +310,17 @@ fn rounds_well() -> bool
     let mut gains: [i64; 8] = [0; 8];
     let mut made: [u32; 1] = [0; 1];
     let mut rewound: [u32; 1] = [0; 1];
+    let ceiling = Ceiling {
+        choice: 0,
+        whole: 0,
+        imbalance: 0.0,
+        each: [0; 16],
+    };
     let s = fiduccia_mattheyses::Settings {
         passes: 0,
         moves: 0,
         bad: 0,
-        choice: 0,
-        whole: 0,
-        imbalance: 0.0,
+        ceiling,
     };
     let r = fiduccia_mattheyses_records::with_8_moves(
         &STARTS,

@@ -1,4 +1,4 @@
--- Demand 3, last sentence: no board ends above the larger of the ceiling and its starting load. Assumes nothing.
+-- Demand 3, last sentence: no board ends above the larger of its own ceiling and its starting load. Assumes nothing.
 use mathlib.Core.Path.{_≡_, refl, ap}
 use mathlib.Core.Bool.{Bool, true, false, cond}
 use mathlib.Core.List.{List}
@@ -38,7 +38,7 @@ fitting s p v t l f = go (eqb (other (part p v)) t) refl
     go false e = let m : load (s .weights) (flip p v) t + weigh (eqb (part p v) t) (getD (s .weights) v 0) ≡ load (s .weights) p t + 0 = rw e at moved in omega arith
 
 module _ (s : Terms) (p : List ℕ) where
-  -- labels whose loads are within the larger of the ceiling and the loads of p
+  -- labels by which each board's load is within the larger of its ceiling and its load by p
   abbrev Within : List ℕ → Type 0
   Within q = (t : ℕ) → t < 2 → load (s .weights) q t ≤ max (getD (s .ceilings) t 0) (load (s .weights) p t)
 
@@ -70,7 +70,7 @@ module _ (s : Terms) (p : List ℕ) where
   unfolding pass flips
   pass-within = walk-keeps s p Bounded bounded-move (s .moveLimit) (start s p) (record { keeps = keeps-start s p; now = λ t lt. omega arith; back = λ t lt. omega arith }) .back
 
--- "No board ends above the larger of the ceiling and its starting load."
+-- "No board ends above the larger of its own ceiling and its starting load."
 pub no-board-above : (s : Terms) (k : ℕ) (p : List ℕ) → NoBoardAbove s p (run s k p .labels)
 unfolding run
 no-board-above s zero p t lt = omega arith

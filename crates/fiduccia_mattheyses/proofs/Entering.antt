@@ -15,13 +15,12 @@ use Rattle.lists.proofs.Bools.{or-false}
 use Rattle.lists.proofs.Numbers.{or-else-zero, not-given}
 use Rattle.lists.proofs.Alls.{any-nowhere}
 use Rattle.lists.proofs.Fills.{length-written, written-below, written-past}
-use Rattle.lists.proofs.Tables.{length-table}
 use Rattle.imbalance.specs.Limit.{mostPasses, labelAbove}
 use Rattle.imbalance.specs.Load.{part, load, loadsOf, Loadable}
 use Rattle.imbalance.specs.Ceiling.{unfitChoice, ceilings}
-use Rattle.imbalance.specs.declared.Ceiling.{Ceiling}
 use Rattle.imbalance.specs.declared.Loads.{Loads}
 use Rattle.imbalance.proofs.Limits.{label-most}
+use Rattle.imbalance.proofs.Choices.{ceilings-long}
 use Rattle.topology.specs.Rule.{graphNumber}
 use Rattle.topology.specs.Cut.{cut}
 use Rattle.topology.proofs.Numbers.{sound}
@@ -36,7 +35,7 @@ use Rattle.fiduccia_mattheyses.specs.declared.Ended.{Ended}
 use Rattle.fiduccia_mattheyses.specs.Run.{Run, run}
 use Rattle.topology.specs.Given.{graphOf}
 use Rattle.fiduccia_mattheyses_pass.specs.Pass.{noMove}
-use Rattle.fiduccia_mattheyses.specs.Entry.{Given, Lent, askedCeiling, unfit, short, lengthsOf, numberOf, number, termsOf, runOf, bare, refused, empty, reportOf, leftBy, answer, left, Refined}
+use Rattle.fiduccia_mattheyses.specs.Entry.{Given, Lent, unfit, short, lengthsOf, numberOf, number, termsOf, runOf, bare, refused, empty, reportOf, leftBy, answer, left, Refined}
 use Rattle.fiduccia_mattheyses_pass.specs.inner.Steps.{termsBy}
 use Rattle.fiduccia_mattheyses.specs.inner.Steps.{callOf, Beginnable, Begins, PassesAsked, PassesDone, Ready, Ran}
 
@@ -62,7 +61,7 @@ ready p l k s e z =
     let six = not-given (labelAbove 1 (l .labels)) 5 (cond (unfit (p .settings)) 7 (cond (short n q r) 8 0)) (both .1) in
     let seven = not-given (unfit (p .settings)) 6 (cond (short n q r) 8 0) (six .1) in
     let eight = not-given (short n q r) 7 0 (seven .1) in
-    let u = or-false (ltb mostPasses q) (unfitChoice (askedCeiling (p .settings))) (seven .0) in
+    let u = or-false (ltb mostPasses q) (unfitChoice (p .settings .ceiling)) (seven .0) in
     let s0 = or-false (ltb (r .gains) n) (ltb (r .moves) n || (ltb (r .made) q || ltb (r .rewound) q)) (eight .0) in
     let s1 = or-false (ltb (r .moves) n) (ltb (r .made) q || ltb (r .rewound) q) (s0 .1) in
     let s2 = or-false (ltb (r .made) q) (ltb (r .rewound) q) (s1 .1) in
@@ -108,8 +107,8 @@ module _ (p : Given) (labels : List ℕ) (a : Beginnable p labels) where
     named = any-nowhere (length labels) (λ v. ltb 15 (getD labels v 0)) (λ v k. (let h = two-labels v in le-ltb 15 (getD labels v 0) (omega arith)));
   }
 
-  pub begins : (loads : Loads) (total′ : ℕ) (asked : Ceiling) → loads ≡ loadsOf (p .weights) labels → total′ ≡ total (p .weights) → asked ≡ askedCeiling (p .settings) → (b : Begun) → b .limits .ceilings .at ≡ ceilings (loads .at) total′ 2 asked → b .limits .bad ≡ p .settings .bad → b .limits .moves ≡ p .settings .moves → b .loads ≡ loads → b .cut ≡ cut (graphOf p) labels → Begins p labels b
-  begins loads total′ asked el et ea b ec eb em eo eu = record { capped = ec ∙ rw (el, et, ea); bad-is = eb; moves-are = em; loaded = eo ∙ el; cut-is = eu }
+  pub begins : (loads : Loads) (total′ : ℕ) → loads ≡ loadsOf (p .weights) labels → total′ ≡ total (p .weights) → (b : Begun) → b .limits .ceilings .at ≡ ceilings (loads .at) total′ 2 (p .settings .ceiling) → b .limits .bad ≡ p .settings .bad → b .limits .moves ≡ p .settings .moves → b .loads ≡ loads → b .cut ≡ cut (graphOf p) labels → Begins p labels b
+  begins loads total′ el et b ec eb em eo eu = record { capped = ec ∙ rw (el, et); bad-is = eb; moves-are = em; loaded = eo ∙ el; cut-is = eu }
 
 -- ---- the run
 module _ (p : Given) (l : Lent) (a : Ready p l) where
@@ -125,7 +124,6 @@ module _ (p : Given) (l : Lent) (a : Ready p l) where
     same-terms = λ i. record { graph = graphOf p; weights = p .weights; ceilings = g .capped i; movable = λ v. true; badLimit = g .bad-is i; moveLimit = g .moves-are i }
 
     fixed : Fixed s n
-    unfolding ceilings
     fixed =
         let r = a .beginnable .sound in
         record {
@@ -134,7 +132,7 @@ module _ (p : Given) (l : Lent) (a : Ready p l) where
           weighed = r .weighed;
           light = r .light;
           lightArcs = r .lightArcs;
-          capped = ap length (g .capped) ∙ length-table 16 _;
+          capped = ap length (g .capped) ∙ ceilings-long _ _ _ _;
           all-movable = λ v. refl;
         }
 

@@ -20,7 +20,7 @@ use Rattle.topology.proofs.Refusals.{graph-first}
 use Rattle.fiduccia_mattheyses.specs.declared.Settings.{Settings}
 use Rattle.fiduccia_mattheyses.specs.declared.Report.{Report}
 use Rattle.topology.specs.Given.{graphOf}
-use Rattle.fiduccia_mattheyses.specs.Entry.{Given, Lent, askedCeiling, lengthsOf, unfit, short, numberOf, number, empty, reportOf, refused, answer, Refined}
+use Rattle.fiduccia_mattheyses.specs.Entry.{Given, Lent, lengthsOf, unfit, short, numberOf, number, empty, reportOf, refused, answer, Refined}
 use Rattle.fiduccia_mattheyses.specs.Rules.{FitSettings, LongEnough, rules}
 use Rattle.fiduccia_mattheyses.proofs.Entering.{at-empty}
 use Rattle.fiduccia_mattheyses.proofs.Unique.{unique}
@@ -28,7 +28,7 @@ use Rattle.fiduccia_mattheyses.proofs.Unique.{unique}
 fit-settings : (s : Settings) → (unfit s ≡ false) ↔ FitSettings s
 unfolding unfit
 fit-settings s =
-    let b = either-fails (ltb mostPasses (s .passes)) (unfitChoice (askedCeiling s)) (at-most mostPasses (s .passes)) (fit-choice (askedCeiling s)) in
+    let b = either-fails (ltb mostPasses (s .passes)) (unfitChoice (s .ceiling)) (at-most mostPasses (s .passes)) (fit-choice (s .ceiling)) in
     ((λ h. let k = b .0 h in record { fewPasses = k .0; fitChoice = k .1 }), λ k. b .1 (k .fewPasses, k .fitChoice))
 
 long-enough : (passes : ℕ) (l : Lent) → (short (length (l .labels)) passes (lengthsOf l) ≡ false) ↔ LongEnough passes l

@@ -1,4 +1,4 @@
--- Demand 3, in its own words: what a run of two-part FM leaves (document 01, "FM").
+-- Demand 3, in its own words: what a run of two-part FM leaves (document 01, "FM"; document 02, A4: `Demand 3 reads "the target board's ceiling" and "its own ceiling" from then on`).
 use mathlib.Core.Path.{_≡_}
 use mathlib.Core.Bool.{true, cond}
 use mathlib.Core.List.{List, [], _∷_, _++_}
@@ -44,11 +44,11 @@ module _ (s : Terms) where
   abbrev pub LeavesTheLeast : ℕ → List ℕ → List ℕ → Type 0
   LeavesTheLeast k p left = left ≡ earliest (cut (s .graph)) p (states k p)
 
-  -- no block that may move can go from the labels p to the other board within the load ceiling and lower the cut
+  -- no block that may move can go from the labels p to the other board within the target board's ceiling and lower the cut
   abbrev pub NoSingleBlock : List ℕ → Type 0
   NoSingleBlock p = (v : ℕ) → v < length p → s .movable v ≡ true → fits s p v ≡ true → cut (s .graph) p ≤ cut (s .graph) (flip p v)
 
-  -- no board's load is above the larger of its ceiling and its load at the start p
+  -- no board's load is above the larger of its own ceiling and its load at the start p
   abbrev pub NoBoardAbove : List ℕ → List ℕ → Type 0
   NoBoardAbove p left = (t : ℕ) → t < 2 → load (s .weights) left t ≤ max (getD (s .ceilings) t 0) (load (s .weights) p t)
 
@@ -56,7 +56,7 @@ module _ (s : Terms) where
 pub record DemandThree (p : Given) (l : Lent) (r : Report) (k : Lent) : Type 0 where
   -- "On a symmetric graph without loops, whole weights within the limits, the two-part FM run leaves the labels of the least cut among its start and the states after each move made, the earliest of equals."
   pub least : LeavesTheLeast (termsOf p l) (p .settings .passes) (l .labels) (k .labels)
-  -- "If it ended on a gainless pass and each pass was allowed at least one move, no single block can go to the other board within the load ceiling and lower the cut."
+  -- "If it ended on a gainless pass and each pass was allowed at least one move, no single block can go to the other board within the target board's ceiling and lower the cut."
   pub single : r .end ≡ 1 → 0 < p .settings .moves → NoSingleBlock (termsOf p l) (k .labels)
-  -- "No board ends above the larger of the ceiling and its starting load."
+  -- "No board ends above the larger of its own ceiling and its starting load."
   pub boards : NoBoardAbove (termsOf p l) (l .labels) (k .labels)

@@ -13,7 +13,6 @@ use Rattle.imbalance.specs.Limit.{mostPasses, labelAbove}
 use Rattle.imbalance.specs.Load.{load, loadsOf}
 use Rattle.imbalance.specs.Ceiling.{unfitChoice, ceilings}
 use Rattle.imbalance.specs.Number.{noLoads}
-use Rattle.imbalance.specs.declared.Ceiling.{Ceiling}
 use Rattle.topology.specs.Graph.{Graph}
 use Rattle.topology.specs.Given.{GivenWith, graphOf}
 use Rattle.topology.specs.Rule.{graphNumber}
@@ -38,7 +37,7 @@ withMoves p k =
       neighbours = p .neighbours;
       arcs = p .arcs;
       weights = p .weights;
-      settings = record { passes = p .settings .passes; moves = k; bad = p .settings .bad; choice = p .settings .choice; whole = p .settings .whole; imbalance = p .settings .imbalance };
+      settings = record { passes = p .settings .passes; moves = k; bad = p .settings .bad; ceiling = p .settings .ceiling };
     }
 
 -- what is lent: the labels, the gains, the moves and the two row lists
@@ -49,13 +48,9 @@ pub record Lent : Type 0 where
   pub made : List ℕ
   pub rewound : List ℕ
 
--- what the settings ask of the ceiling
-abbrev pub askedCeiling : Settings → Ceiling
-askedCeiling s = record { choice = s .choice; whole = s .whole; imbalance = s .imbalance }
-
--- 7: "pass limit above 1,024 (FM, KL); choice 2 with e NaN, below 0 or above 64, or choice above 2 (FM, arc-swap)"
+-- 7: "pass limit above 1,024 (FM, KL); choice 2 with e NaN, below 0 or above 64" (FM, arc-swap), and "7 and 12 now begin at choice 4"
 unfoldable pub unfit : Settings → Bool
-unfit s = ltb mostPasses (s .passes) || unfitChoice (askedCeiling s)
+unfit s = ltb mostPasses (s .passes) || unfitChoice (s .ceiling)
 
 -- the lengths of the lent lists
 abbrev pub lengthsOf : Lent → Lengths
@@ -82,7 +77,7 @@ termsOf p l =
     record {
       graph = graphOf p;
       weights = p .weights;
-      ceilings = ceilings (table 16 (load (p .weights) (l .labels))) (total (p .weights)) 2 (askedCeiling (p .settings));
+      ceilings = ceilings (table 16 (load (p .weights) (l .labels))) (total (p .weights)) 2 (p .settings .ceiling);
       movable = λ v. true;
       badLimit = p .settings .bad;
       moveLimit = p .settings .moves;

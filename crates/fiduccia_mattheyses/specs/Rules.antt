@@ -7,12 +7,12 @@ use Rattle.imbalance.specs.Rules.{NoneAbove, FitChoice}
 use Rattle.topology.specs.Rules.{graphRules}
 use Rattle.fiduccia_mattheyses.specs.declared.Settings.{Settings}
 use Rattle.topology.specs.Given.{graphOf}
-use Rattle.fiduccia_mattheyses.specs.Entry.{Given, Lent, askedCeiling}
+use Rattle.fiduccia_mattheyses.specs.Entry.{Given, Lent}
 
 -- 7: not "pass limit above 1,024", and the ceiling's choice is fit
 pub record FitSettings (s : Settings) : Type 0 where
   pub fewPasses : s .passes ≤ mostPasses
-  pub fitChoice : FitChoice (askedCeiling s)
+  pub fitChoice : FitChoice (s .ceiling)
 
 -- 8: no "lent working list is too short". "Lists: gains n, moves n, two row lists of P."
 pub record LongEnough (passes : ℕ) (l : Lent) : Type 0 where

@@ -1,4 +1,4 @@
-// Fiduccia-Mattheyses between two parts: coupe's algorithms/fiduccia_mattheyses.rs. Document 01, "FM".
+// Fiduccia-Mattheyses between two parts: coupe's algorithms/fiduccia_mattheyses.rs. Document 01, "FM"; document 02, A4.
 mod answers;
 mod number;
 mod steps;
@@ -8,17 +8,16 @@ ghost use Rattle.fiduccia_mattheyses.specs.Entry.{Refined};
 ghost use Rattle.fiduccia_mattheyses.specs.inner.Steps.{PassesAsked, PassesDone, Ready, Ran};
 use fiduccia_mattheyses_pass::Limits;
 use fiduccia_mattheyses_pass::Move;
+use imbalance::Ceiling;
 use imbalance::Loads;
 
-// The pass, move and bad limits, the ceiling's choice, its whole number, and the imbalance.
+// The pass, move and bad limits, and what is asked of the ceiling.
 #[repr(C)]
 pub struct Settings {
     pub passes: u32,
     pub moves: u32,
     pub bad: u32,
-    pub choice: u32,
-    pub whole: u32,
-    pub imbalance: f64,
+    pub ceiling: Ceiling,
 }
 
 // What a call answers: document 01's number, the run's end, its passes, the first and the last cut, and the loads left.

@@ -2,23 +2,11 @@
 ghost use mathlib.Core.Path.{_≡_};
 ghost use lib.ListN.{length};
 ghost use Rattle.topology.specs.Graph.{inRows};
-ghost use Rattle.fiduccia_mattheyses.specs.Entry.{askedCeiling, unfit, short, numberOf};
+ghost use Rattle.fiduccia_mattheyses.specs.Entry.{unfit, short, numberOf};
 ghost use Rattle.fiduccia_mattheyses.specs.inner.Steps.{callOf};
 use crate::Call;
 use crate::Lengths;
 use crate::Settings;
-use imbalance::Ceiling;
-
-// What the settings ask of the ceiling.
-pub fn asked_ceiling(s: Settings) -> Ceiling
-    ensures { λ r. ⌜ r ≡ askedCeiling s ⌝ }
-{
-    Ceiling {
-        choice: s.choice,
-        whole: s.whole,
-        imbalance: s.imbalance,
-    }
-}
 
 // Number 7's test.
 fn unfit_settings(s: Settings) -> bool
@@ -28,8 +16,7 @@ fn unfit_settings(s: Settings) -> bool
     if imbalance::MOST_PASSES < passes {
         return true;
     }
-    let asked = asked_ceiling(s);
-    imbalance::unfit_choice(asked)
+    imbalance::unfit_choice(s.ceiling)
 }
 
 // Number 8's test.

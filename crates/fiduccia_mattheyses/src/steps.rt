@@ -42,9 +42,8 @@ pub fn begin_run(
 {
     let loads = imbalance::parts_load(weights, labels);
     let total = imbalance::total_weight(weights);
-    let asked = crate::number::asked_ceiling(s);
     let limits = Limits {
-        ceilings: imbalance::ceilings_of(loads, total, 2, asked),
+        ceilings: imbalance::ceilings_of(loads, total, 2, s.ceiling),
         bad: lists::wide(s.bad),
         moves: lists::index(s.moves),
     };

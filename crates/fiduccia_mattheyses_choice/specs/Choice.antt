@@ -46,7 +46,7 @@ module _ (s : Terms) where
   unfoldable pub after : List ℕ → ℕ → ℕ
   after p v = load (s .weights) p (other (part p v)) + getD (s .weights) v 0
 
-  -- "whose target load after the move is not above the ceiling"
+  -- "whose target load after the move is not above the ceiling": document 02's A4 has "compare the target's load with the target's own ceiling"
   unfoldable pub fits : List ℕ → ℕ → Bool
   fits p v = leb (after p v) (getD (s .ceilings) (other (part p v)) 0)
 

@@ -33,7 +33,7 @@ labelled most labels =
 
 pub fit-choice : (asked : Ceiling) → (unfitChoice asked ≡ false) ↔ FitChoice asked
 unfolding unfitChoice legalE
-fit-choice asked = (there, λ k. rw (le-ltb 2 choice (k .known)) (back k (eqb choice 2) refl))
+fit-choice asked = (there, λ k. rw (le-ltb 3 choice (k .known)) (back k (eqb choice 2) refl))
   where
     choice : ℕ
     choice = asked .choice
@@ -42,12 +42,12 @@ fit-choice asked = (there, λ k. rw (le-ltb 2 choice (k .known)) (back k (eqb ch
     e = asked .imbalance
 
     legal : unfitChoice asked ≡ false → choice ≡ 2 → le zero64 e && le e most64 ≡ true
-    legal h two = not-false (le zero64 e && le e most64) (rw (eq-eqb choice 2 two) at (or-false (ltb 2 choice) (eqb choice 2 && not (legalE e)) h .1))
+    legal h two = not-false (le zero64 e && le e most64) (rw (eq-eqb choice 2 two) at (or-false (ltb 3 choice) (eqb choice 2 && not (legalE e)) h .1))
 
     there : unfitChoice asked ≡ false → FitChoice asked
     there h =
         record {
-          known = ltb-false 2 choice (or-false (ltb 2 choice) (eqb choice 2 && not (legalE e)) h .0);
+          known = ltb-false 3 choice (or-false (ltb 3 choice) (eqb choice 2 && not (legalE e)) h .0);
           least = λ two. and-left (le zero64 e) (le e most64) (legal h two);
           most = λ two. and-right (le zero64 e) (le e most64) (legal h two);
         }

@@ -1,4 +1,4 @@
--- The ceiling of a part's load (document 01, "Ceiling").
+-- The ceilings on the parts' loads (document 01, "Ceiling"; document 02, A4).
 use mathlib.Core.Bool.{Bool, true, false, not, cond, _&&_, _||_}
 use mathlib.Core.List.{List}
 use Prim.Native.Nat.{ℕ, zero, suc, _*_, _/_}
@@ -43,17 +43,20 @@ unfoldable pub largest : ℕ → (ℕ → ℕ) → ℕ
 largest zero f = 0
 largest (suc n) f = cond (ltb (largest n f) (f n)) (f n) (largest n f)
 
--- number 7's test of the choice: above 2, or 2 with e NaN, below 0 or above 64. "What the choice does not use is not looked at."
+-- number 7's test of the choice: "7 and 12 now begin at choice 4", or 2 with e NaN, below 0 or above 64. "What the choice does not use is not looked at."
 unfoldable pub unfitChoice : Ceiling → Bool
-unfitChoice asked = ltb 2 (asked .choice) || (eqb (asked .choice) 2 && not (legalE (asked .imbalance)))
+unfitChoice asked = ltb 3 (asked .choice) || (eqb (asked .choice) 2 && not (legalE (asked .imbalance)))
 
--- "0 carried (the largest starting load), 1 a whole u32 (added), 2 imbalance e"
+-- the one number of the old choices: "0 carried (the largest starting load), 1 a whole u32 (added), 2 imbalance e"
 unfoldable pub ceiling : List ℕ → ℕ → ℕ → Ceiling → ℕ
 ceiling loads total parts asked =
     cond (eqb (asked .choice) 0) (largest 16 (λ t. getD loads t 0))
     (cond (eqb (asked .choice) 1) (asked .whole)
     (ceilingOf total parts (asked .imbalance)))
 
--- the ceilings by part: today's choices give one number sixteen times
+-- "The ceiling routine shall yield one number per part, from a new choice 3 with sixteen whole numbers in the settings, and the old choices give the same number sixteen times"
 unfoldable pub ceilings : List ℕ → ℕ → ℕ → Ceiling → List ℕ
-ceilings loads total parts asked = table 16 (λ t. ceiling loads total parts asked)
+ceilings loads total parts asked =
+    cond (eqb (asked .choice) 3)
+    (table 16 (λ t. getD (asked .each) t 0))
+    (table 16 (λ t. ceiling loads total parts asked))

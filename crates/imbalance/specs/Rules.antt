@@ -15,9 +15,9 @@ use Rattle.imbalance.specs.declared.Ceiling.{Ceiling}
 abbrev pub NoneAbove : ℕ → List ℕ → Type 0
 NoneAbove most labels = (v : ℕ) → v < length labels → getD labels v 0 ≤ most
 
--- 7, of the ceiling: not "choice 2 with e NaN, below 0 or above 64, or choice above 2". "Legal e: 0.0 to 64.0, both ends and -0.0 in."
+-- 7, of the ceiling: not "choice 2 with e NaN, below 0 or above 64", nor a choice from 4 on, where document 02's A4 has it begin. "Legal e: 0.0 to 64.0, both ends and -0.0 in."
 pub record FitChoice (asked : Ceiling) : Type 0 where
-  pub known : asked .choice ≤ 2
+  pub known : asked .choice ≤ 3
   pub least : asked .choice ≡ 2 → le zero64 (asked .imbalance) ≡ true
   pub most : asked .choice ≡ 2 → le (asked .imbalance) most64 ≡ true
 

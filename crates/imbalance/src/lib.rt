@@ -1,4 +1,4 @@
-// Loads of the parts and the ceiling on them: coupe's imbalance.rs. Document 01, "The graph and its numbers".
+// Loads of the parts and the ceilings on them: coupe's imbalance.rs. Document 01, "The graph and its numbers"; document 02, A4.
 ghost use mathlib.Core.Path.{_≡_};
 ghost use mathlib.Core.Bool.{false};
 ghost use Prim.Native.Nat.{_<_, _≤_};
@@ -6,6 +6,7 @@ ghost use lib.Dec.{T};
 ghost use lib.Ieee.{binary64, ofBits};
 ghost use lib.ListN.{length, getD};
 ghost use Rattle.lists.specs.Sum.{total};
+ghost use Rattle.lists.specs.Fill.{table};
 ghost use Rattle.imbalance.specs.Limit.{mostWeight, heavy, labelAbove};
 ghost use Rattle.imbalance.specs.Load.{loadsOf, Loadable};
 ghost use Rattle.imbalance.specs.Ceiling.{legalE, ceilingOf, largest, unfitChoice, ceiling, ceilings};
@@ -37,12 +38,13 @@ pub struct LoadsAnswer {
     pub loads: Loads,
 }
 
-// What a caller asks of the ceiling: its choice, the whole number and the imbalance e. What the choice does not use is not looked at.
+// What a caller asks of the ceiling: its choice, the whole number, the imbalance e, and the whole number of each part. What the choice does not use is not looked at.
 #[repr(C)]
 pub struct Ceiling {
     pub choice: u32,
     pub whole: u32,
     pub imbalance: f64,
+    pub each: [u32; 16],
 }
 
 // The ceiling of each of the sixteen parts.
@@ -179,11 +181,11 @@ pub fn legal_e(e: f64) -> bool
     legal_bits(f64::to_bits(e))
 }
 
-// Number 7's test of the choice. What the choice does not use is not looked at: e may be a NaN with choice 0 or 1.
+// Number 7's test of the choice. What the choice does not use is not looked at: e may be a NaN with every choice but 2.
 pub fn unfit_choice(asked: Ceiling) -> bool
     ensures { λ r. ⌜ r ≡ unfitChoice asked ⌝ }
 {
-    if 2 < asked.choice {
+    if 3 < asked.choice {
         return true;
     }
     if asked.choice != 2 {
@@ -221,9 +223,9 @@ fn largest_load(loads: Loads) -> u64
     most
 }
 
-// The ceiling of the choice: the largest starting load, a whole number, or from the imbalance.
+// The one ceiling of a choice up to 2: the largest starting load, a whole number, or from the imbalance.
 fn ceiling_of(loads: Loads, total: u64, parts: u32, asked: Ceiling) -> u64
-    requires { ⌜ (total ≤ mostWeight) × (0 < parts) × (parts ≤ 16) × (unfitChoice asked ≡ false) ⌝ }
+    requires { ⌜ (total ≤ mostWeight) × (0 < parts) × (parts ≤ 16) × (unfitChoice asked ≡ false) × (asked .choice ≤ 2) ⌝ }
     ensures { λ r. ⌜ r ≡ ceiling (loads .at) total parts asked ⌝ }
 {
     if asked.choice == 0 {
@@ -235,11 +237,28 @@ fn ceiling_of(loads: Loads, total: u64, parts: u32, asked: Ceiling) -> u64
     ceiling_by(total, parts, asked.imbalance)
 }
 
-// The ceilings by part.
+// The whole number of each part, as ceilings.
+fn ceilings_by_part(asked: Ceiling) -> Ceilings
+    ensures { λ r. ⌜ r .at ≡ table 16 (λ t. getD (asked .each) t 0) ⌝ }
+{
+    let each = asked.each;
+    let mut at = [0u64; 16];
+    let mut part: usize = 0;
+    while part < 16 {
+        at[part] = lists::wide(each[part]);
+        part += 1;
+    }
+    Ceilings { at }
+}
+
+// The ceilings by part: with choice 3 each part has its own, with the others all have one.
 pub fn ceilings_of(loads: Loads, total: u64, parts: u32, asked: Ceiling) -> Ceilings
     requires { ⌜ (total ≤ mostWeight) × (0 < parts) × (parts ≤ 16) × (unfitChoice asked ≡ false) ⌝ }
     ensures { λ r. ⌜ r .at ≡ ceilings (loads .at) total parts asked ⌝ }
 {
+    if asked.choice == 3 {
+        return ceilings_by_part(asked);
+    }
     let c = ceiling_of(loads, total, parts, asked);
     Ceilings { at: [c; 16] }
 }

@@ -10,7 +10,7 @@ use lib.Seq.{ext-getD}
 use lib.Dec.{T, ltb, eqb}
 use lib.Ieee.{Float, binary64, ofBits, toBits, fits}
 use lib.Ieee.Bits.{ofBits-toBits, toBits-ofBits, toBits-lt, ofBits-fits}
-use borrow.Author.Tests.{eq-eqb, ne-eqb, le-ltb, lt-ltb, lt-leb, eqb-true, ltb-false, not-false}
+use borrow.Author.Tests.{eq-eqb, ne-eqb, le-ltb, lt-ltb, lt-leb, eqb-true, eqb-false, ltb-false, not-false}
 use Rattle.lists.specs.Sum.{sum}
 use Rattle.lists.specs.Fill.{table}
 use Rattle.lists.proofs.Orders.{clash}
@@ -18,55 +18,57 @@ use Rattle.lists.proofs.Bools.{or-false}
 use Rattle.lists.proofs.Sums.{sum-none, sum-more}
 use Rattle.lists.proofs.Totals.{sum-ext}
 use Rattle.lists.proofs.Alls.{all-every}
-use Rattle.lists.proofs.Tables.{length-table, table-at}
+use Rattle.lists.proofs.Tables.{length-table, table-at, table-ext, table-of}
 use Rattle.imbalance.specs.Ceiling.{zero64, legalE, unfitChoice}
 use Rattle.imbalance.specs.declared.Ceiling.{Ceiling}
 use Rattle.imbalance.proofs.Choices.{fit-legal}
 use Rattle.topology.proofs.Starts.{start-first, start-last, start-rises, starts-hold}
 use Rattle.plan_blocks.specs.Word.{wrap}
-use Rattle.plan_blocks.specs.Plan.{Plan, Legal, outOfRange, unfitValue, valueOf}
+use Rattle.plan_blocks.specs.Plan.{Plan, Legal, headerIn, outOfRange, unfitValue, valueOf, eachOf}
 use Rattle.imbalance.proofs.Patterns.{legal-number}
-use Rattle.plan_blocks.proofs.Bits.{fit-whole}
+use Rattle.plan_blocks.proofs.Bits.{fit-whole, choice-above}
 use Rattle.plan_blocks.proofs.Accepts.{in-range}
-use Rattle.plan.specs.Read.{startsOf}
+use Rattle.plan.specs.Read.{startsOf, ceilingIn}
 use Rattle.plan.specs.Write.{Given, planWith, planFrom, vertices, arcs, unfit, miscounted, badStarts, badLabels, sizeOf, writeNumber}
 use Rattle.plan.proofs.WriteEntry.{rowsIn, Fits}
 
--- what the types say of what is given: each element is a u32, and so is the whole number; the imbalance is an f64
+-- what the types say of what is given: each element is a u32, and so are the whole number and the number of each part; the imbalance is an f64
 pub record Typed (g : Given) : Type 0 where
   pub weights : (v : ℕ) → getD (g .weights) v 0 < wrap
   pub neighbours : (e : ℕ) → getD (g .neighbours) e 0 < wrap
   pub arcWeights : (e : ℕ) → getD (g .arcWeights) e 0 < wrap
   pub whole : g .ceiling .whole < wrap
   pub imbalance : T (fits binary64 (g .ceiling .imbalance))
+  pub each : (t : ℕ) → t < 16 → getD (g .ceiling .each) t 0 < wrap
 
-abbrev asks : ℕ → ℕ → Float → Ceiling
-asks choice whole e = record { choice = choice; whole = whole; imbalance = e }
+abbrev asks : ℕ → ℕ → Float → List ℕ → Ceiling
+asks choice whole e each = record { choice = choice; whole = whole; imbalance = e; each = each }
 
--- there is no choice above 2
-no-more : (whole : ℕ) (e : Float) (c : ℕ) → unfitChoice (asks (suc (suc (suc c))) whole e) ≡ false → ⊥
+-- there is no choice above 3
+no-more : (asked : Ceiling) → unfitChoice asked ≡ false → 3 < asked .choice → ⊥
 unfolding unfitChoice
-no-more whole e c h =
-    let p = or-false (ltb 2 (suc (suc (suc c)))) (eqb (suc (suc (suc c))) 2 && not (legalE e)) h in
-    let m = ltb-false 2 (suc (suc (suc c))) (p .0) in
+no-more asked h above =
+    let p = or-false (ltb 3 (asked .choice)) (eqb (asked .choice) 2 && not (legalE (asked .imbalance))) h in
+    let m = ltb-false 3 (asked .choice) (p .0) in
     omega arith
 
 -- the value of a choice that fits
-module _ (whole : ℕ) (e : Float) (small : whole < wrap) (float : T (fits binary64 e)) where
-  pub value-fit : (choice : ℕ) → unfitChoice (asks choice whole e) ≡ false → unfitValue choice (valueOf (asks choice whole e)) ≡ false
+module _ (whole : ℕ) (e : Float) (each : List ℕ) (small : whole < wrap) (float : T (fits binary64 e)) where
+  pub value-fit : (choice : ℕ) → unfitChoice (asks choice whole e each) ≡ false → unfitValue choice (valueOf (asks choice whole e each)) ≡ false
   unfolding unfitValue valueOf
   value-fit zero h = refl
   value-fit (suc zero) h = lt-leb wrap whole small
   value-fit (suc (suc zero)) h =
-      let l = fit-legal (asks 2 whole e) h (λ z. omega arith) (λ z. omega arith) in
+      let l = fit-legal (asks 2 whole e each) h refl in
       rw (ofBits-toBits binary64 e float) (ap not (true-of (legalE e) l))
     where
       true-of : (t : Bool) → T t → t ≡ true
       true-of true x = refl
       true-of false x = absurd x
-  value-fit (suc (suc (suc c))) h = absurd (no-more whole e c h)
+  value-fit (suc (suc (suc zero))) h = refl
+  value-fit (suc (suc (suc (suc c)))) h = absurd (no-more (asks (suc (suc (suc (suc c)))) whole e each) h (omega arith))
 
-  pub value-eight : (choice : ℕ) → valueOf (asks choice whole e) < wrap * wrap
+  pub value-eight : (choice : ℕ) → valueOf (asks choice whole e each) < wrap * wrap
   unfolding valueOf
   value-eight choice = go (eqb choice 1) (eqb choice 2)
     where
@@ -74,6 +76,28 @@ module _ (whole : ℕ) (e : Float) (small : whole < wrap) (float : T (fits binar
       go true t = omega arith
       go false true = toBits-lt binary64 e float
       go false false = omega arith
+
+-- the number of each part that is written, with choice 3 and with any other
+module _ (asked : Ceiling) (t : ℕ) (l : t < 16) where
+  pub each-written : asked .choice ≡ 3 → getD (eachOf asked) t 0 ≡ getD (asked .each) t 0
+  unfolding eachOf
+  each-written new = table-at 16 t 0 _ l ∙ rw new
+
+  pub each-left-out : (asked .choice ≡ 3 → ⊥) → getD (eachOf asked) t 0 ≡ 0
+  unfolding eachOf
+  each-left-out other = table-at 16 t 0 _ l ∙ rw (ne-eqb (asked .choice) 3 other)
+
+-- there are sixteen of them, and each is a u32
+each-sixteen : (asked : Ceiling) → length (eachOf asked) ≡ 16
+unfolding eachOf
+each-sixteen asked = length-table 16 _
+
+each-fits : (asked : Ceiling) → ((t : ℕ) → t < 16 → getD (asked .each) t 0 < wrap) → (t : ℕ) → t < 16 → getD (eachOf asked) t 0 < wrap
+each-fits asked typed t l = go (eqb (asked .choice) 3) refl
+  where
+    go : (b : Bool) → eqb (asked .choice) 3 ≡ b → getD (eachOf asked) t 0 < wrap
+    go true e = rw (each-written asked t l (eqb-true (asked .choice) 3 e)) (typed t l)
+    go false e = rw (each-left-out asked t l (eqb-false (asked .choice) 3 e)) (omega arith)
 
 -- rows' lengths sum to the last start
 pub telescope : (starts : List ℕ) (n m : ℕ) → ((v : ℕ) → v < n → getD starts v 0 ≤ getD starts (v + 1) 0) → m ≤ n → sum m (λ v. getD starts (v + 1) 0 - getD starts v 0) + getD starts 0 0 ≡ getD starts m 0
@@ -96,8 +120,11 @@ legal-given g places t f =
     let e : sum n d ≡ arcs g = omega arith in
     record {
       ranged = f .numbers;
-      fit = value-fit (g .ceiling .whole) (g .ceiling .imbalance) (t .whole) (t .imbalance) (g .ceiling .choice) (f .fit);
-      eight = value-eight (g .ceiling .whole) (g .ceiling .imbalance) (t .whole) (t .imbalance) (g .ceiling .choice);
+      fit = value-fit (g .ceiling .whole) (g .ceiling .imbalance) (g .ceiling .each) (t .whole) (t .imbalance) (g .ceiling .choice) (f .fit);
+      eight = value-eight (g .ceiling .whole) (g .ceiling .imbalance) (g .ceiling .each) (t .whole) (t .imbalance) (g .ceiling .choice);
+      sixteen = each-sixteen (g .ceiling);
+      eachFits = each-fits (g .ceiling) (t .each);
+      eachUsed = λ other i k. each-left-out (g .ceiling) i k other;
       weighed = f .weighed;
       labelled = refl;
       degreed = length-table n d;
@@ -111,11 +138,8 @@ legal-given g places t f =
     }
 
 -- a choice with the two uses of its value, as the reader hands them over
-abbrev handedOver : ℕ → ℕ → Ceiling
-handedOver choice value = asks choice (cond (eqb choice 1) value 0) (cond (eqb choice 2) (ofBits binary64 value) zero64)
-
-abbrev pub ceilingIn : Plan → Ceiling
-ceilingIn p = handedOver (p .choice) (p .value)
+abbrev handedOver : ℕ → ℕ → List ℕ → Ceiling
+handedOver choice value each = asks choice (cond (eqb choice 1) value 0) (cond (eqb choice 2) (ofBits binary64 value) zero64) each
 
 -- what the writer is to be given for a plan
 abbrev pub givenOf : Plan → Given
@@ -127,31 +151,29 @@ givenOf p =
       neighbours = p .neighbours;
       arcWeights = p .arcWeights;
       k = p .k;
-      ceiling = ceilingIn p;
+      ceiling = ceilingIn (headerIn p);
     }
 
 -- a value that fits its choice is kept
-value-kept : (choice value : ℕ) → unfitValue choice value ≡ false → value < wrap * wrap → valueOf (handedOver choice value) ≡ value
+value-kept : (choice value : ℕ) (each : List ℕ) → unfitValue choice value ≡ false → value < wrap * wrap → valueOf (handedOver choice value each) ≡ value
 unfolding valueOf unfitValue
-value-kept zero value h l = sym (eqb-true value 0 (not-false (eqb value 0) h))
-value-kept (suc zero) value h l = refl
-value-kept (suc (suc zero)) value h l = toBits-ofBits binary64 value l (legal-number (ofBits binary64 value) (legal-two value h))
+value-kept zero value each h l = sym (eqb-true value 0 (not-false (eqb value 0) h))
+value-kept (suc zero) value each h l = refl
+value-kept (suc (suc zero)) value each h l = toBits-ofBits binary64 value l (legal-number (ofBits binary64 value) (legal-two value h))
   where
     legal-two : (value : ℕ) → not (legalE (ofBits binary64 value)) ≡ false → T (legalE (ofBits binary64 value))
     legal-two value h = subst T (sym (not-false (legalE (ofBits binary64 value)) h)) tt
-value-kept (suc (suc (suc c))) value h l =
-    let no : true ≡ false = simp (ne-eqb (suc (suc (suc c))) 0 (λ e. omega arith), ne-eqb (suc (suc (suc c))) 1 (λ e. omega arith), ne-eqb (suc (suc (suc c))) 2 (λ e. omega arith)) at h in
-    clash true refl no
+value-kept (suc (suc (suc zero))) value each h l = sym (eqb-true value 0 (not-false (eqb value 0) h))
+value-kept (suc (suc (suc (suc c)))) value each h l = clash _ (choice-above (suc (suc (suc (suc c)))) value (omega arith)) h
 
 -- its choice fits too
-choice-kept : (choice value : ℕ) → unfitValue choice value ≡ false → unfitChoice (handedOver choice value) ≡ false
+choice-kept : (choice value : ℕ) (each : List ℕ) → unfitValue choice value ≡ false → unfitChoice (handedOver choice value each) ≡ false
 unfolding unfitChoice unfitValue
-choice-kept zero value h = refl
-choice-kept (suc zero) value h = refl
-choice-kept (suc (suc zero)) value h = h
-choice-kept (suc (suc (suc c))) value h =
-    let no : true ≡ false = simp (ne-eqb (suc (suc (suc c))) 0 (λ e. omega arith), ne-eqb (suc (suc (suc c))) 1 (λ e. omega arith), ne-eqb (suc (suc (suc c))) 2 (λ e. omega arith)) at h in
-    clash true refl no
+choice-kept zero value each h = refl
+choice-kept (suc zero) value each h = refl
+choice-kept (suc (suc zero)) value each h = h
+choice-kept (suc (suc (suc zero))) value each h = refl
+choice-kept (suc (suc (suc (suc c)))) value each h = clash _ (choice-above (suc (suc (suc (suc c)))) value (omega arith)) h
 
 imbalance-float : (choice value : ℕ) → T (fits binary64 (cond (eqb choice 2) (ofBits binary64 value) zero64))
 unfolding fits
@@ -177,6 +199,16 @@ module _ (p : Plan) (h : Legal p) where
       let m = sum-more v (λ u. getD (p .degrees) u 0) in
       omega arith
 
+  -- the numbers by part are kept: those that the choice does not use are 0 already
+  each-kept : eachOf (ceilingIn (headerIn p)) ≡ p .each
+  unfolding eachOf
+  each-kept =
+      table-ext 16 _ _ (λ t l. at t l (eqb (p .choice) 3) refl) ∙ sym (table-of 16 0 (p .each) (h .sixteen))
+    where
+      at : (t : ℕ) → t < 16 → (b : Bool) → eqb (p .choice) 3 ≡ b → cond b (getD (p .each) t 0) 0 ≡ getD (p .each) t 0
+      at t l true e = refl
+      at t l false e = sym (h .eachUsed (eqb-false (p .choice) 3 e) t l)
+
   -- EVERY LEGAL PLAN is one that the writer is given
   pub plan-given : planFrom (givenOf p) ≡ p
   unfolding planWith
@@ -186,7 +218,8 @@ module _ (p : Plan) (h : Legal p) where
         a = h .joined i;
         k = p .k;
         choice = p .choice;
-        value = value-kept (p .choice) (p .value) (h .fit) (h .eight) i;
+        value = value-kept (p .choice) (p .value) (p .each) (h .fit) (h .eight) i;
+        each = each-kept i;
         weights = p .weights;
         labels = p .labels;
         degrees = degrees-are i;
@@ -210,6 +243,7 @@ module _ (p : Plan) (h : Legal p) where
         arcWeights = a;
         whole = small (eqb (p .choice) 1) refl;
         imbalance = imbalance-float (p .choice) (p .value);
+        each = h .eachFits;
       }
     where
       small : (t : Bool) → eqb (p .choice) 1 ≡ t → cond t (p .value) 0 < wrap
@@ -226,7 +260,7 @@ module _ (p : Plan) (h : Legal p) where
       record {
         numbers = ranged;
         ranged = in-range (length (p .labels)) (length (p .neighbours)) (p .k) ranged;
-        fit = choice-kept (p .choice) (p .value) (h .fit);
+        fit = choice-kept (p .choice) (p .value) (p .each) (h .fit);
         weighed = h .weighed ∙ sym en;
         started = starts-long ∙ ap (λ (m : ℕ). m + 1) (sym en);
         paired = ea ∙ sym (h .paired);

@@ -30,6 +30,14 @@ module _ (at x : ℕ → ℕ) where
   word-kept (suc m) s w h =
       put-word-other (putWords at x m s) (at m) (x m) w (h m (omega arith)) ∙ word-kept m s w (λ i l. h i (omega arith))
 
+-- words that are put after others, at the places that come next, are a longer run of them
+pub puts-then : (at x at′ x′ : ℕ → ℕ) (m n : ℕ) (s : List ℕ) → ((i : ℕ) → i < n → at′ i ≡ at (m + i)) → ((i : ℕ) → i < n → x′ i ≡ x (m + i)) → putWords at′ x′ n (putWords at x m s) ≡ putWords at x (m + n) s
+unfolding putWords
+puts-then at x at′ x′ m zero s ea ex = ap (λ (k : ℕ). putWords at x k s) (let e : m ≡ m + 0 = omega arith in e)
+puts-then at x at′ x′ m (suc n) s ea ex =
+    let e : m + suc n ≡ suc (m + n) = omega arith in
+    rw (e, puts-then at x at′ x′ m n s (λ i l. ea i (omega arith)) (λ i l. ex i (omega arith)), ea n (omega arith), ex n (omega arith))
+
 -- the first i of `most` words are put
 pub record PutTo (at x : ℕ → ℕ) (most : ℕ) (s₀ s : List ℕ) (i : ℕ) : Type 0 where
   pub within : i ≤ most

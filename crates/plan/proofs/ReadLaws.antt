@@ -100,27 +100,32 @@ long-enough s h =
 pub sized-by : (s : List ℕ) (header : Header) (file : ℕ) → badLength s ≡ false → badLater file header s ≡ false → length s ≡ 512 * blocksOf (header .n) (header .a)
 unfolding badLater
 sized-by s header file h l =
-    let q = or-false (not (eqb (blocksIn s) (blocksOf (header .n) (header .a)))) (not (laterLaid file (header .n) (header .a) s)) l in
+    let q = or-false (not (eqb (blocksIn s) (blocksOf (header .n) (header .a)))) (not (laterLaid file header s)) l in
     counted s _ h (eqb-true _ _ (not-false _ (q .0)))
 
 -- number 13, block by block
-abbrev pub laterTo : List ℕ → ℕ → ℕ → ℕ → ℕ → Bool
-laterTo s file n a b = allFrom 1 b (λ b. laidOut file (kindAt n b) (countAt n a b) (inBlock s b))
+abbrev pub laterTo : List ℕ → ℕ → ℕ → ℕ → ℕ → ℕ → Bool
+laterTo s file choice n a b = allFrom 1 b (λ b. laidOut file (kindAt n b) (countAt choice n a b) (inBlock s b))
 
-module _ (s : List ℕ) (file n a b kind count : ℕ) (r : Bool) (ek : kind ≡ kindAt n b) (ec : count ≡ countAt n a b) (er : r ≡ laidOut file kind count (inBlock s b)) where
-  laid-here : laidOut file (kindAt n b) (countAt n a b) (inBlock s b) ≡ r
+-- block b of a header's file is laid out
+abbrev asLaid : List ℕ → ℕ → Header → ℕ → Bool
+asLaid s file header b =
+    laidOut file (kindAt (header .n) b) (countAt (header .choice) (header .n) (header .a) b) (inBlock s b)
+
+module _ (s : List ℕ) (file : ℕ) (header : Header) (b kind count : ℕ) (r : Bool) (ek : kind ≡ kindAt (header .n) b) (ec : count ≡ countAt (header .choice) (header .n) (header .a) b) (er : r ≡ laidOut file kind count (inBlock s b)) where
+  laid-here : asLaid s file header b ≡ r
   laid-here = sym (er ∙ ap₂ (λ (x y : ℕ). laidOut file x y (inBlock s b)) ek ec)
 
-  pub later-more : 1 ≤ b → r ≡ true → laterTo s file n a b ≡ true → laterTo s file n a (b + 1) ≡ true
-  later-more l t h = from-more 1 b (λ b. laidOut file (kindAt n b) (countAt n a b) (inBlock s b)) l h (laid-here ∙ t)
+  pub later-more : 1 ≤ b → r ≡ true → laterTo s file (header .choice) (header .n) (header .a) b ≡ true → laterTo s file (header .choice) (header .n) (header .a) (b + 1) ≡ true
+  later-more l t h = from-more 1 b (asLaid s file header) l h (laid-here ∙ t)
 
-  pub later-fails : 1 ≤ b → b < blocksIn s → r ≡ false → false ≡ laterLaid file n a s
+  pub later-fails : 1 ≤ b → b < blocksIn s → r ≡ false → false ≡ laterLaid file header s
   unfolding laterLaid
-  later-fails l m f = sym (from-fails 1 (blocksIn s) (λ b. laidOut file (kindAt n b) (countAt n a b) (inBlock s b)) b l m (laid-here ∙ f))
+  later-fails l m f = sym (from-fails 1 (blocksIn s) (asLaid s file header) b l m (laid-here ∙ f))
 
-pub later-all : (s : List ℕ) (file n a b : ℕ) → b ≡ blocksIn s → laterTo s file n a b ≡ true → true ≡ laterLaid file n a s
+pub later-all : (s : List ℕ) (file : ℕ) (header : Header) (b : ℕ) → b ≡ blocksIn s → laterTo s file (header .choice) (header .n) (header .a) b ≡ true → true ≡ laterLaid file header s
 unfolding laterLaid
-later-all s file n a b e h = sym (rw e at h)
+later-all s file header b e h = sym (rw e at h)
 
 -- number 13, by its two tests
 module _ (s : List ℕ) (file m : ℕ) (header : Header) (em : m ≡ blocksOf (header .n) (header .a)) where
@@ -128,7 +133,7 @@ module _ (s : List ℕ) (file m : ℕ) (header : Header) (em : m ≡ blocksOf (h
   unfolding badLater
   blocks-differ ne = sym (rw (← em, ne-eqb (blocksIn s) m ne))
 
-  pub later-judged : (r : Bool) (read : ℕ) → blocksIn s ≡ m → read ≡ file → r ≡ laterLaid read (header .n) (header .a) s → not r ≡ badLater file header s
+  pub later-judged : (r : Bool) (read : ℕ) → blocksIn s ≡ m → read ≡ file → r ≡ laterLaid read header s → not r ≡ badLater file header s
   unfolding badLater
   later-judged r read e ef er = sym (rw (← em, eq-eqb (blocksIn s) m e, ← ef, ← er))
 

@@ -15,10 +15,11 @@ use Rattle.lists.specs.Fill.{table, over}
 use Rattle.lists.proofs.Totals.{sum-ext}
 use Rattle.lists.proofs.Tables.{length-table, table-at}
 use Rattle.imbalance.specs.Ceiling.{zero64}
+use Rattle.imbalance.specs.declared.Ceiling.{Ceiling}
 use Rattle.topology.proofs.Starts.{start-first, start-rises}
 use Rattle.plan_blocks.specs.Word.{wrap, word}
 use Rattle.plan_blocks.specs.Block.{newKind}
-use Rattle.plan_blocks.specs.Plan.{Plan, Legal, valueOf}
+use Rattle.plan_blocks.specs.Plan.{Plan, Legal, headerIn, valueOf, eachOf}
 use Rattle.plan_blocks.specs.Encode.{encode}
 use Rattle.plan_blocks.specs.Decode.{blocksIn, kindOf, badKind, vertexAt, arcAt, planOf, fileNumber}
 use Rattle.plan_blocks.specs.Exchanged.{Exchanged}
@@ -31,12 +32,12 @@ use Rattle.plan_blocks.proofs.Changed.{refused-changed}
 use Rattle.plan_blocks.proofs.Exchanges.{refused-exchanged}
 use Rattle.plan.specs.declared.ReadAnswer.{ReadAnswer}
 use Rattle.plan.specs.declared.WriteAnswer.{WriteAnswer}
-use Rattle.plan.specs.Read.{Targets, short, numberFor, readNumber, startsOf, headerOf, refusalOf, handed, readAnswer, readLeft, Read}
+use Rattle.plan.specs.Read.{Targets, short, numberFor, readNumber, startsOf, ceilingIn, headerOf, refusalOf, handed, readAnswer, readLeft, Read}
 use Rattle.plan.specs.Write.{Given, planWith, planFrom, vertices, arcs, sizeOf, writeNumber, writeAnswer, writeLeft, Written}
 use Rattle.plan.proofs.ReadLaws.{accepted-places}
 use Rattle.plan.proofs.ReadEntry.{same-targets}
 use Rattle.plan.proofs.WriteEntry.{rowsIn, Fits, fits}
-use Rattle.plan.proofs.LegalPlans.{Typed, givenOf, legal-given, plan-given, typed-given, fits-given, fits-number, telescope, ceilingIn}
+use Rattle.plan.proofs.LegalPlans.{Typed, givenOf, legal-given, plan-given, typed-given, fits-given, fits-number, telescope, each-written}
 
 -- what the promises say where the number is 0
 module _ (s : List ℕ) (t u : Targets) (r : ReadAnswer) (h : Read s t r u) where
@@ -129,7 +130,7 @@ givenBy r u =
       neighbours = take (r .a) (u .neighbours);
       arcWeights = take (r .a) (u .arcWeights);
       k = r .k;
-      ceiling = record { choice = r .choice; whole = r .whole; imbalance = r .imbalance };
+      ceiling = r .ceiling;
     }
 
 given-handed : (p : Plan) → Legal p → (t : Targets) → givenBy (headerOf p) (handed p t) ≡ givenOf p
@@ -142,7 +143,7 @@ given-handed p l t =
       neighbours = take-at (p .neighbours) (drop (length (p .neighbours)) (t .neighbours)) (p .a) (l .joined) i;
       arcWeights = take-at (p .arcWeights) (drop (length (p .arcWeights)) (t .arcWeights)) (p .a) (l .paired) i;
       k = p .k;
-      ceiling = ceilingIn p;
+      ceiling = ceilingIn (headerIn p);
     }
   where
     starts : List ℕ
@@ -173,6 +174,15 @@ read-then-written s t u r b c q h new read z places wrote =
     (d .0, d .1, d .2 ∙ ap (λ (x : List ℕ). over x b) e)
 
 -- what the reader is to hand over of what the writer was given; a value that the choice does not use is no part of a plan
+abbrev pub ceilingGiven : Ceiling → Ceiling
+ceilingGiven asked =
+    record {
+      choice = asked .choice;
+      whole = cond (eqb (asked .choice) 1) (asked .whole) 0;
+      imbalance = cond (eqb (asked .choice) 2) (asked .imbalance) zero64;
+      each = eachOf asked;
+    }
+
 abbrev pub headerGiven : Given → ReadAnswer
 headerGiven g =
     record {
@@ -180,9 +190,7 @@ headerGiven g =
       n = vertices g;
       a = arcs g;
       k = g .k;
-      choice = g .ceiling .choice;
-      whole = cond (eqb (g .ceiling .choice) 1) (g .ceiling .whole) 0;
-      imbalance = cond (eqb (g .ceiling .choice) 2) (g .ceiling .imbalance) zero64;
+      ceiling = ceilingGiven (g .ceiling);
     }
 
 abbrev pub listsGiven : Given → Targets → Targets
@@ -204,9 +212,13 @@ module _ (g : Given) (places : ℕ) (typed : Typed g) (fit : Fits g places) wher
         n = vertices g;
         a = arcs g;
         k = g .k;
-        choice = g .ceiling .choice;
-        whole = whole-is (eqb (g .ceiling .choice) 1) i;
-        imbalance = imbalance-is (g .ceiling .choice) i;
+        ceiling =
+            record {
+              choice = g .ceiling .choice;
+              whole = whole-is (eqb (g .ceiling .choice) 1) i;
+              imbalance = imbalance-is (g .ceiling .choice) i;
+              each = eachOf (g .ceiling);
+            };
       }
     where
       whole-is : (t : Bool) → cond t (cond t (g .ceiling .whole) (cond (eqb (g .ceiling .choice) 2) (toBits binary64 (g .ceiling .imbalance)) 0)) 0 ≡ cond t (g .ceiling .whole) 0
@@ -267,7 +279,7 @@ refused-with s t u r m h e =
     let k = ne-eqb (suc m) 0 (λ z. omega arith) in
     (rw (e, k) at (h .answered), same-targets (rw (e, k) at (h .labels)) (rw (e, k) at (h .weights)) (rw (e, k) at (h .starts)) (rw (e, k) at (h .neighbours)) (rw (e, k) at (h .arcWeights)))
 
--- A PLAN WRITTEN AND READ is the same plan: the header, the bits of e among it, and every list
+-- A PLAN WRITTEN AND READ is the same plan: the header, the bits of e and the numbers by part among it, and every list
 pub written-then-read : (g : Given) (b c : List ℕ) (q : WriteAnswer) (t u : Targets) (r : ReadAnswer) → Typed g → Written g b q c → q .number ≡ 0
     → short (vertices g) (arcs g) (length (t .labels)) (length (t .weights)) (length (t .starts)) (length (t .neighbours)) (length (t .arcWeights)) ≡ false
     → Read (take (q .length) c) t r u → (r ≡ headerGiven g) × (u ≡ listsGiven g t)
@@ -282,6 +294,14 @@ written-then-read g b c q t u r typed wrote z roomy read =
       read-header (encode newKind (planFrom g)) t u r d n ∙ ap headerOf p ∙ header-given g (length b) typed f,
       read-lists (encode newKind (planFrom g)) t u r d n ∙ ap (λ (p : Plan). handed p t) p ∙ lists-given g (length b) typed f t,
     )
+
+-- WITH CHOICE 3 THE SIXTEEN NUMBERS COME BACK
+pub numbers-come-back : (g : Given) (b c : List ℕ) (q : WriteAnswer) (t u : Targets) (r : ReadAnswer) → Typed g → Written g b q c → q .number ≡ 0
+    → short (vertices g) (arcs g) (length (t .labels)) (length (t .weights)) (length (t .starts)) (length (t .neighbours)) (length (t .arcWeights)) ≡ false
+    → Read (take (q .length) c) t r u → g .ceiling .choice ≡ 3 → (i : ℕ) → i < 16 → getD (r .ceiling .each) i 0 ≡ getD (g .ceiling .each) i 0
+numbers-come-back g b c q t u r typed wrote z roomy read new i l =
+    ap (λ (x : ReadAnswer). getD (x .ceiling .each) i 0) (written-then-read g b c q t u r typed wrote z roomy read .0)
+    ∙ each-written (g .ceiling) i l new
 
 -- AN OLD FILE READ AND WRITTEN gives the new file of the same plan: what was written, read into such targets, gives the same answer and leaves the same lists
 pub old-renewed : (s : List ℕ) (t u : Targets) (r : ReadAnswer) (b c : List ℕ) (q : WriteAnswer) (v : Targets) (r′ : ReadAnswer) → Bytes s → Read s t r u → r .number ≡ 0 → length s ≤ length b → Written (givenBy r u) b q c

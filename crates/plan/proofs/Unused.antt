@@ -2,17 +2,18 @@
 use mathlib.Core.Path.{_≡_, refl, ap}
 use mathlib.Core.Bool.{Bool, true, false, cond}
 use mathlib.Core.List.{List}
-use Prim.Native.Nat.{ℕ}
-use lib.ListN.{length}
+use Prim.Native.Nat.{ℕ, _<_}
+use lib.ListN.{length, getD}
 use lib.Dec.{eqb}
 use lib.Ieee.{binary64, toBits}
 use borrow.Author.Tests.{eqb-true}
 use Rattle.lists.specs.Fill.{over}
+use Rattle.lists.proofs.Tables.{table-ext}
 use Rattle.imbalance.specs.Used.{SameUsed}
 use Rattle.imbalance.specs.declared.Ceiling.{Ceiling}
-use Rattle.imbalance.proofs.Unused.{same-outcome, same-fit}
+use Rattle.imbalance.proofs.Unused.{same-outcome, used-alike}
 use Rattle.plan_blocks.specs.Block.{newKind}
-use Rattle.plan_blocks.specs.Plan.{Plan, valueOf}
+use Rattle.plan_blocks.specs.Plan.{Plan, valueOf, eachOf}
 use Rattle.plan_blocks.specs.Encode.{encode}
 use Rattle.plan.specs.Write.{Given, vertices, arcs, planWith, planFrom, unfit, miscounted, badStarts, sizeOf, writeNumber, writeAnswer, writeLeft}
 use Rattle.plan.specs.Used.{withCeiling}
@@ -28,15 +29,25 @@ same-value a b same = rw (← same .choices) (go (eqb (a .choice) 1) refl (eqb (
     go false p true q = ap (toBits binary64) (same .imbalances (eqb-true (a .choice) 2 q))
     go false p false q = refl
 
+-- the number of each part
+same-each : (a b : Ceiling) → SameUsed a b → eachOf a ≡ eachOf b
+unfolding eachOf
+same-each a b same = rw (← same .choices) (table-ext 16 _ _ (λ t l. go t l (eqb (a .choice) 3) refl))
+  where
+    go : (t : ℕ) → t < 16 → (s : Bool) → eqb (a .choice) 3 ≡ s → cond s (getD (a .each) t 0) 0 ≡ cond s (getD (b .each) t 0) 0
+    go t l true q = same .numbers (eqb-true (a .choice) 3 q) t l
+    go t l false q = refl
+
 module _ (g : Given) (target : List ℕ) (asked : Ceiling) (same : SameUsed (g .ceiling) asked) where
   same-number : (places : ℕ) → writeNumber g places ≡ writeNumber (withCeiling g asked) places
   unfolding writeNumber unfit miscounted badStarts
-  same-number places = rw (same-fit (g .ceiling) asked same)
+  same-number places = rw (used-alike (g .ceiling) asked same .fit)
 
   same-plan : planFrom g ≡ planFrom (withCeiling g asked)
   same-plan =
       let v = same-value (g .ceiling) asked same in
-      λ i. planWith (g .labels) (g .weights) (g .starts) (g .neighbours) (g .arcWeights) (g .k) (same .choices i) (v i)
+      let n = same-each (g .ceiling) asked same in
+      λ i. planWith (g .labels) (g .weights) (g .starts) (g .neighbours) (g .arcWeights) (g .k) (same .choices i) (v i) (n i)
 
   -- "What the choice does not use is not looked at": two calls of the writer that differ in nothing else answer the same and leave the same target.
   pub unused-not-looked-at :

@@ -17,10 +17,10 @@ use Rattle.topology.specs.Rule.{startsOk}
 use Rattle.topology.proofs.Starts.{start-rises, start-inside}
 use Rattle.plan_blocks.specs.declared.header.Header.{Header}
 use Rattle.plan_blocks.specs.Block.{newKind, blocksFor, blocksOf}
-use Rattle.plan_blocks.specs.Plan.{outOfRange, valueOf}
+use Rattle.plan_blocks.specs.Plan.{outOfRange, valueOf, eachOf}
 use Rattle.plan_blocks.specs.Encode.{encode}
 use Rattle.plan_blocks.proofs.Accepts.{InRange, in-range, not-given}
-use Rattle.plan.specs.Write.{Given, planWith, vertices, arcs, unfit, miscounted, badStarts, badLabels, sizeOf, writeNumber, writeAnswer, writeLeft, Written}
+use Rattle.plan.specs.Write.{Given, planFrom, vertices, arcs, unfit, miscounted, badStarts, badLabels, sizeOf, writeNumber, writeAnswer, writeLeft, Written}
 use Rattle.plan.specs.inner.Writing.{VerticesFit, ArcsFit}
 
 -- the rows that are given
@@ -82,12 +82,20 @@ module _ (g : Given) (places : ℕ) (f : Fits g places) where
   arcs-fit : ArcsFit (g .neighbours) (g .arcWeights)
   arcs-fit = record { few = f .ranged .fewArcs; paired = sym (f .paired) }
 
--- the header of what is given, whatever its ceiling's value
-abbrev headerWith : Given → ℕ → Header
-headerWith g value = record { n = vertices g; a = arcs g; k = g .k; choice = g .ceiling .choice; value = value }
+-- the header of what is given
+abbrev headerWith : Given → Header
+headerWith g =
+    record {
+      n = vertices g;
+      a = arcs g;
+      k = g .k;
+      choice = g .ceiling .choice;
+      value = valueOf (g .ceiling);
+      each = eachOf (g .ceiling);
+    }
 
 -- what the writer's steps ask of that header and of the length of the target, which is kept
-module _ (g : Given) (places : ℕ) (f : Fits g places) (header : Header) (value : ℕ) (e : header ≡ headerWith g value) (kept : ℕ) (same : kept ≡ places) where
+module _ (g : Given) (places : ℕ) (f : Fits g places) (header : Header) (e : header ≡ headerWith g) (kept : ℕ) (same : kept ≡ places) where
   pub blocks-asked : (header .n ≤ mostVertices) × (header .a ≤ mostArcs) × (sizeOf (header .n) (header .a) ≤ kept)
   blocks-asked = let i = f .ranged in rw (e, same) (i .few, i .fewArcs, f .roomy)
 
@@ -105,10 +113,9 @@ module _ (g : Given) (t u : List ℕ) (m : ℕ) (e : m ≡ writeNumber g (length
       let f = ne-eqb (writeNumber g (length t)) 0 (λ z. ne (e ∙ z)) in
       record { answered = rw (f, ← e) refl; target = rw f q }
 
-  pub write-done : (value size : ℕ) → m ≡ 0 → value ≡ valueOf (g .ceiling) → size ≡ sizeOf (vertices g) (arcs g)
-      → u ≡ over (encode newKind (planWith (g .labels) (g .weights) (g .starts) (g .neighbours) (g .arcWeights) (g .k) (g .ceiling .choice) value)) t → Written g t (record { number = 0; length = size }) u
+  pub write-done : (size : ℕ) → m ≡ 0 → size ≡ sizeOf (vertices g) (arcs g) → u ≡ over (encode newKind (planFrom g)) t → Written g t (record { number = 0; length = size }) u
   unfolding writeAnswer writeLeft
-  write-done value size z ev es q =
+  write-done size z es q =
       let f = eq-eqb (writeNumber g (length t)) 0 (sym e ∙ z) in
       let y = sym e ∙ z in
-      record { answered = rw (y, ← es) refl; target = rw (f, ← ev) q }
+      record { answered = rw (y, ← es) refl; target = rw f q }

@@ -13,34 +13,45 @@ use Rattle.plan_blocks.specs.Word.{wrap, word, putWord}
 use Rattle.plan_blocks.specs.Block.{newKind, opening, sumAt, checkWord, blocksFor, blocksOf, kindAt, countAt}
 use Rattle.plan_blocks.specs.Encode.{headerWord, vertexWord, arcWord}
 use Rattle.plan_blocks.specs.Decode.{inBlock}
+use Rattle.plan_blocks.proofs.Places.{eleven-records, three-records, each-word}
 use Rattle.plan.specs.Write.{planWith}
-use Rattle.plan.specs.inner.Writing.{putWords, openingWord, laidDown, putHeader, putRecords, sealed}
-use Rattle.plan.proofs.Puts.{word-kept}
+use Rattle.plan.specs.inner.Writing.{putWords, openingWord, laidDown, putHeader, putFirstThree, putEach, putRecords, sealed}
+use Rattle.plan.proofs.Puts.{puts-then, word-kept}
 
-pub first-word : (n a b kind count x : ℕ) → kind ≡ kindAt n b → count ≡ countAt n a b → x ≡ kind + 256 + 65536 * count → x ≡ openingWord n a b
-first-word n a b kind count x ek ec e =
+pub first-word : (choice n a b kind count x : ℕ) → kind ≡ kindAt n b → count ≡ countAt choice n a b → x ≡ kind + 256 + 65536 * count → x ≡ openingWord choice n a b
+first-word choice n a b kind count x ek ec e =
     let o : kind + 256 + 65536 * count ≡ opening newKind kind count = omega arith in
     e ∙ o ∙ ap₂ (opening newKind) ek ec
 
-pub all-laid : (n a blocks : ℕ) (s₀ cleared s : List ℕ) → blocks ≡ blocksOf n a → cleared ≡ filled 0 (512 * blocks) s₀ → s ≡ putWords (λ b. 128 * b) (openingWord n a) blocks cleared → s ≡ laidDown n a s₀
-all-laid n a blocks s₀ cleared s eb ec e = rw (ec, eb) at e
+pub all-laid : (choice n a blocks : ℕ) (s₀ cleared s : List ℕ) → blocks ≡ blocksOf n a → cleared ≡ filled 0 (512 * blocks) s₀ → s ≡ putWords (λ b. 128 * b) (openingWord choice n a) blocks cleared → s ≡ laidDown choice n a s₀
+all-laid choice n a blocks s₀ cleared s eb ec e = rw (ec, eb) at e
 
--- the six words of the header's records
+-- the six words of the header's first three records
 pub six-words : (header : Header) (s s₁ s₂ s₃ s₄ s₅ s₆ : List ℕ) (n a low high : ℕ) → n ≡ header .n → a ≡ header .a → low ≡ header .value % wrap → high ≡ header .value / wrap
-    → s₁ ≡ putWord s 1 n → s₂ ≡ putWord s₁ 2 a → s₃ ≡ putWord s₂ 3 (header .k) → s₄ ≡ putWord s₃ 4 (header .choice) → s₅ ≡ putWord s₄ 5 low → s₆ ≡ putWord s₅ 6 high → s₆ ≡ putHeader header s
+    → s₁ ≡ putWord s 1 n → s₂ ≡ putWord s₁ 2 a → s₃ ≡ putWord s₂ 3 (header .k) → s₄ ≡ putWord s₃ 4 (header .choice) → s₅ ≡ putWord s₄ 5 low → s₆ ≡ putWord s₅ 6 high → s₆ ≡ putFirstThree header s
 unfolding putWords headerWord
 six-words header s s₁ s₂ s₃ s₄ s₅ s₆ n a low high en ea el eh e₁ e₂ e₃ e₄ e₅ e₆ = rw (e₆, e₅, e₄, e₃, e₂, e₁, en, ea, el, eh)
 
+-- which are all that a choice other than 3 asks for; with choice 3 the numbers by part follow
+module _ (header : Header) (s first : List ℕ) (e : first ≡ putFirstThree header s) where
+  pub three-put : (header .choice ≡ 3 → ⊥) → first ≡ putHeader header s
+  three-put other = rw (three-records (header .choice) other) e
+
+  pub eleven-put : header .choice ≡ 3 → (whole : List ℕ) → whole ≡ putEach (header .each) first → whole ≡ putHeader header s
+  eleven-put new whole put =
+      rw (eleven-records (header .choice) new)
+      (put ∙ ap (putEach (header .each)) e ∙ puts-then (λ r. 1 + r) (headerWord header) (λ t. 7 + t) (λ t. getD (header .each) t 0) 6 16 s (λ t l. omega arith) (λ t l. sym (each-word header t)))
+
 -- the two words of vertex v's record
 module _ (labels weights starts : List ℕ) (v x : ℕ) where
-  pub weight-word : x ≡ getD weights v 0 → x ≡ vertexWord (planWith labels weights starts [] [] 0 0 0) (2 * v)
+  pub weight-word : x ≡ getD weights v 0 → x ≡ vertexWord (planWith labels weights starts [] [] 0 0 0 []) (2 * v)
   unfolding vertexWord planWith
   weight-word e =
       let even : 2 * v % 2 ≡ 0 = omega arith in
       let half : 2 * v / 2 ≡ v = omega arith in
       e ∙ sym (simp (even, half))
 
-  pub label-word : v < length labels → x ≡ getD labels v 0 + 65536 * (getD starts (v + 1) 0 - getD starts v 0) → x ≡ vertexWord (planWith labels weights starts [] [] 0 0 0) (2 * v + 1)
+  pub label-word : v < length labels → x ≡ getD labels v 0 + 65536 * (getD starts (v + 1) 0 - getD starts v 0) → x ≡ vertexWord (planWith labels weights starts [] [] 0 0 0 []) (2 * v + 1)
   unfolding vertexWord planWith
   label-word l e =
       let odd : (2 * v + 1) % 2 ≡ 1 = omega arith in
@@ -49,14 +60,14 @@ module _ (labels weights starts : List ℕ) (v x : ℕ) where
 
 -- the two words of arc e's record
 module _ (neighbours arcWeights : List ℕ) (e x : ℕ) where
-  pub neighbour-word : x ≡ getD neighbours e 0 → x ≡ arcWord (planWith [] [] [] neighbours arcWeights 0 0 0) (2 * e)
+  pub neighbour-word : x ≡ getD neighbours e 0 → x ≡ arcWord (planWith [] [] [] neighbours arcWeights 0 0 0 []) (2 * e)
   unfolding arcWord planWith
   neighbour-word h =
       let even : 2 * e % 2 ≡ 0 = omega arith in
       let half : 2 * e / 2 ≡ e = omega arith in
       h ∙ sym (simp (even, half))
 
-  pub arc-weight-word : x ≡ getD arcWeights e 0 → x ≡ arcWord (planWith [] [] [] neighbours arcWeights 0 0 0) (2 * e + 1)
+  pub arc-weight-word : x ≡ getD arcWeights e 0 → x ≡ arcWord (planWith [] [] [] neighbours arcWeights 0 0 0 []) (2 * e + 1)
   unfolding arcWord planWith
   arc-weight-word h =
       let odd : (2 * e + 1) % 2 ≡ 1 = omega arith in

@@ -1,4 +1,4 @@
--- The plan file's reader and writer (document 01, "Plan blocks"; document 02, A2): what each answers and leaves, for every input.
+-- The plan file's reader and writer (document 01, "Plan blocks"; document 02, A2 and A4): what each answers and leaves, for every input.
 
 -- ---- What the documents say
 pub mod Read

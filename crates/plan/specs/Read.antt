@@ -1,4 +1,4 @@
--- What the reader answers and leaves in its targets, for every file and every targets (document 01, "Plan blocks"; document 02, A2).
+-- What the reader answers and leaves in its targets, for every file and every targets (document 01, "Plan blocks"; document 02, A2 and A4).
 use mathlib.Core.Path.{_≡_}
 use mathlib.Core.Bool.{Bool, cond, _||_}
 use mathlib.Core.List.{List}
@@ -10,6 +10,7 @@ use Rattle.lists.specs.Sum.{sum}
 use Rattle.lists.specs.Fill.{table, over}
 use Rattle.lists.specs.Number.{orElse}
 use Rattle.imbalance.specs.Ceiling.{zero64}
+use Rattle.imbalance.specs.declared.Ceiling.{Ceiling}
 use Rattle.plan.specs.declared.ReadAnswer.{ReadAnswer}
 use Rattle.plan_blocks.specs.declared.header.Header.{Header}
 use Rattle.plan_blocks.specs.Plan.{Plan, headerIn}
@@ -41,25 +42,31 @@ readNumber s t =
 unfoldable pub startsOf : ℕ → List ℕ → List ℕ
 startsOf n degrees = table (n + 1) (λ v. sum v (λ u. getD degrees u 0))
 
--- the header, as the reader hands it over: it "gives 0 for a ceiling value the choice does not use"
-abbrev pub headerAnswer : Header → ReadAnswer
-headerAnswer header =
+-- the ceiling of a header, as the reader hands it over: it "gives 0 for a ceiling value the choice does not use"
+abbrev pub ceilingIn : Header → Ceiling
+ceilingIn header =
     record {
-      number = 0;
-      n = header .n;
-      a = header .a;
-      k = header .k;
       choice = header .choice;
       whole = cond (eqb (header .choice) 1) (header .value) 0;
       imbalance = cond (eqb (header .choice) 2) (ofBits binary64 (header .value)) zero64;
+      each = header .each;
     }
+
+-- the header, as the reader hands it over
+abbrev pub headerAnswer : Header → ReadAnswer
+headerAnswer header =
+    record { number = 0; n = header .n; a = header .a; k = header .k; ceiling = ceilingIn header }
 
 unfoldable pub headerOf : Plan → ReadAnswer
 headerOf p = headerAnswer (headerIn p)
 
+-- no ceiling: zero in every field
+abbrev pub noCeiling : Ceiling
+noCeiling = record { choice = 0; whole = 0; imbalance = zero64; each = table 16 (λ t. 0) }
+
 -- a refusal: the number, and zero in every other field
 abbrev pub refusalOf : ℕ → ReadAnswer
-refusalOf number = record { number = number; n = 0; a = 0; k = 0; choice = 0; whole = 0; imbalance = zero64 }
+refusalOf number = record { number = number; n = 0; a = 0; k = 0; ceiling = noCeiling }
 
 -- the plan's lists in the targets: "Targets keep what stood past the plan's end."
 unfoldable pub handed : Plan → Targets → Targets

@@ -1,4 +1,4 @@
--- What the writer answers and leaves in its target, for every input (document 01, "Plan blocks"; document 02, A2).
+-- What the writer answers and leaves in its target, for every input (document 01, "Plan blocks"; document 02, A2 and A4).
 use mathlib.Core.Path.{_≡_}
 use mathlib.Core.Bool.{Bool, not, cond, _||_}
 use mathlib.Core.List.{List}
@@ -13,7 +13,7 @@ use Rattle.topology.specs.Graph.{inRows}
 use Rattle.topology.specs.Rule.{startsOk}
 use Rattle.plan.specs.declared.WriteAnswer.{WriteAnswer}
 use Rattle.plan_blocks.specs.Block.{newKind, blocksOf}
-use Rattle.plan_blocks.specs.Plan.{Plan, outOfRange, valueOf}
+use Rattle.plan_blocks.specs.Plan.{Plan, outOfRange, valueOf, eachOf}
 use Rattle.plan_blocks.specs.Encode.{encode}
 
 -- what the writer is given
@@ -33,15 +33,16 @@ vertices g = length (g .labels)
 abbrev pub arcs : Given → ℕ
 arcs g = length (g .neighbours)
 
--- the plan of these lists, numbers and value: a vertex's degree is the length of its row
-unfoldable pub planWith : List ℕ → List ℕ → List ℕ → List ℕ → List ℕ → ℕ → ℕ → ℕ → Plan
-planWith labels weights starts neighbours arcWeights k choice value =
+-- the plan of these lists, numbers and value, and of the numbers by part: a vertex's degree is the length of its row
+unfoldable pub planWith : List ℕ → List ℕ → List ℕ → List ℕ → List ℕ → ℕ → ℕ → ℕ → List ℕ → Plan
+planWith labels weights starts neighbours arcWeights k choice value each =
     record {
       n = length labels;
       a = length neighbours;
       k = k;
       choice = choice;
       value = value;
+      each = each;
       weights = weights;
       labels = labels;
       degrees = table (length labels) (λ v. getD starts (v + 1) 0 - getD starts v 0);
@@ -52,7 +53,7 @@ planWith labels weights starts neighbours arcWeights k choice value =
 -- the plan that is given
 abbrev pub planFrom : Given → Plan
 planFrom g =
-    planWith (g .labels) (g .weights) (g .starts) (g .neighbours) (g .arcWeights) (g .k) (g .ceiling .choice) (valueOf (g .ceiling))
+    planWith (g .labels) (g .weights) (g .starts) (g .neighbours) (g .arcWeights) (g .k) (g .ceiling .choice) (valueOf (g .ceiling)) (eachOf (g .ceiling))
 
 -- 12: "a header number out of range", "value fitting its choice"
 unfoldable pub unfit : Given → Bool

@@ -1,4 +1,4 @@
-// The plan file: its reader and its writer. Document 01, "Plan blocks"; document 02, A2.
+// The plan file: its reader and its writer. Document 01, "Plan blocks"; document 02, A2 and A4.
 use imbalance::Ceiling;
 use plan_blocks::header;
 ghost use Rattle.plan.specs.Read.{Read};
@@ -7,16 +7,14 @@ ghost use Rattle.plan.specs.Write.{Written};
 mod reader; // reader.rt: the numbers that refuse a file, and the records
 mod writer; // writer.rt: the numbers that refuse a plan, and the blocks
 
-// What the reader answers: document 01's number, and where that is 0 the header. A value that the choice does not use is 0.
+// What the reader answers: document 01's number, and where that is 0 the header. A value that the ceiling's choice does not use is 0.
 #[repr(C)]
 pub struct ReadAnswer {
     pub number: u32,
     pub n: u32,
     pub a: u32,
     pub k: u32,
-    pub choice: u32,
-    pub whole: u32,
-    pub imbalance: f64,
+    pub ceiling: Ceiling,
 }
 
 // What the writer answers: document 01's number, and the length that it wrote, 0 on a refusal.
@@ -94,7 +92,7 @@ pub fn write_plan(
         return WriteAnswer { number, length: 0 };
     }
     let header = header::header_with(labels.len(), neighbours.len(), k, asked);
-    writer::lay_out(header.n, header.a, target);
+    writer::lay_out(header.choice, header.n, header.a, target);
     writer::write_header(header, target);
     writer::write_vertices(labels, weights, starts, target);
     writer::write_arcs(neighbours, arc_weights, header.n, target);

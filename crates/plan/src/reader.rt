@@ -1,5 +1,6 @@
-// The reader: the numbers that refuse a file, and the records of one that is accepted. Document 01, "Plan blocks"; document 02, A2.
+// The reader: the numbers that refuse a file, and the records of one that is accepted. Document 01, "Plan blocks"; document 02, A2 and A4.
 use crate::ReadAnswer;
+use imbalance::Ceiling;
 use plan_blocks::block;
 use plan_blocks::ceiling;
 use plan_blocks::header;
@@ -14,7 +15,7 @@ ghost use Rattle.lists.specs.Fill.{over};
 ghost use Rattle.imbalance.specs.Limit.{mostVertices, mostArcs};
 ghost use Rattle.plan_blocks.specs.Block.{blocksOf};
 ghost use Rattle.plan_blocks.specs.Decode.{blocksIn, kindOf, headerAt, badLength, badCheck, badNumbers, laterLaid, badLater, badRecords, planOf, fileNumber};
-ghost use Rattle.plan.specs.Read.{short, startsOf, headerAnswer, refusalOf};
+ghost use Rattle.plan.specs.Read.{short, startsOf, ceilingIn, headerAnswer, refusalOf};
 ghost use Rattle.plan.specs.inner.Reading.{frameNumber, planNumber};
 
 // Number 9's test.
@@ -43,15 +44,21 @@ fn bad_check(bytes: &[u8], file: usize) -> bool
 }
 
 // Whether each later block is laid out as the file's kind, n and a ask.
-fn later_laid(bytes: &[u8], file: usize, n: usize, a: usize) -> bool
-    requires { ⌜ (file < 256) × (n ≤ mostVertices) × (a ≤ mostArcs) × (blocksIn (now bytes) ≡ blocksOf n a) ⌝ }
-    ensures { λ r. ⌜ r ≡ laterLaid file n a (now (bytes .entry)) ⌝ }
+fn later_laid(bytes: &[u8], file: usize, header: Header) -> bool
+    requires { ⌜ (file < 256)
+        × (header .n ≤ mostVertices)
+        × (header .a ≤ mostArcs)
+        × (blocksIn (now bytes) ≡ blocksOf (header .n) (header .a)) ⌝ }
+    ensures { λ r. ⌜ r ≡ laterLaid file header (now (bytes .entry)) ⌝ }
 {
+    let choice = header.choice;
+    let n = header.n;
+    let a = header.a;
     let blocks = bytes.len() / 512;
     let mut b: usize = 1;
     while b < blocks {
         let kind = layout::kind_at(n, b);
-        let count = layout::count_at(n, a, b);
+        let count = layout::count_at(choice, n, a, b);
         if !block::laid_out(bytes, b, file, kind, count) {
             return false;
         }
@@ -68,7 +75,7 @@ fn bad_later(bytes: &[u8], header: Header) -> bool
     if bytes.len() / 512 != layout::blocks_of(header.n, header.a) {
         return true;
     }
-    if later_laid(bytes, block::kind_of(bytes), header.n, header.a) {
+    if later_laid(bytes, block::kind_of(bytes), header) {
         return false;
     }
     true
@@ -108,7 +115,9 @@ pub(crate) fn frame_number(bytes: &[u8]) -> u32
     if bad_check(bytes, file) {
         return 10;
     }
-    if !block::laid_out(bytes, 0, file, 1, 3) {
+    // How the header is laid out is judged by its choice, before it is decoded.
+    let count = layout::header_count(words::word_at(bytes, 4));
+    if !block::laid_out(bytes, 0, file, 1, count) {
         return 11;
     }
     0
@@ -182,14 +191,34 @@ pub(crate) fn plan_number(
 pub(crate) fn refusal(number: u32) -> ReadAnswer
     ensures { λ r. ⌜ r ≡ refusalOf number ⌝ }
 {
+    let ceiling = Ceiling {
+        choice: 0,
+        whole: 0,
+        imbalance: 0.0,
+        each: [0; 16],
+    };
     ReadAnswer {
         number,
         n: 0,
         a: 0,
         k: 0,
-        choice: 0,
-        whole: 0,
-        imbalance: 0.0,
+        ceiling,
+    }
+}
+
+// The ceiling of a header, as the reader hands it over.
+fn ceiling_in(header: Header) -> Ceiling
+    requires { ⌜ badNumbers header ≡ false ⌝ }
+    ensures { λ r. ⌜ r ≡ ceilingIn header ⌝ }
+{
+    let whole = ceiling::whole_of(header.choice, header.value);
+    let imbalance = ceiling::imbalance_of(header.choice, header.value);
+    let each = header.each;
+    Ceiling {
+        choice: header.choice,
+        whole,
+        imbalance,
+        each,
     }
 }
 
@@ -200,16 +229,13 @@ pub(crate) fn read_header(header: Header) -> ReadAnswer
 {
     let n = lists::narrow(header.n);
     let a = lists::narrow(header.a);
-    let whole = ceiling::whole_of(header.choice, header.value);
-    let imbalance = ceiling::imbalance_of(header.choice, header.value);
+    let ceiling = ceiling_in(header);
     ReadAnswer {
         number: 0,
         n,
         a,
         k: header.k,
-        choice: header.choice,
-        whole,
-        imbalance,
+        ceiling,
     }
 }
 

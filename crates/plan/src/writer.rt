@@ -1,4 +1,4 @@
-// The writer: the numbers that refuse a plan, and the blocks of one that is accepted. Document 01, "Plan blocks"; document 02, A2.
+// The writer: the numbers that refuse a plan, and the blocks of one that is accepted. Document 01, "Plan blocks"; document 02, A2 and A4.
 use imbalance::Ceiling;
 use plan_blocks::block;
 use plan_blocks::ceiling;
@@ -17,7 +17,7 @@ ghost use Rattle.plan_blocks.specs.Block.{blocksFor, blocksOf};
 ghost use Rattle.plan_blocks.specs.Plan.{outOfRange};
 ghost use Rattle.plan_blocks.specs.Encode.{vertexWord, arcWord};
 ghost use Rattle.plan.specs.Write.{planWith, sizeOf, writeNumber};
-ghost use Rattle.plan.specs.inner.Writing.{VerticesFit, ArcsFit, laidDown, putHeader, putRecords, sealed};
+ghost use Rattle.plan.specs.inner.Writing.{VerticesFit, ArcsFit, laidDown, putFirstThree, putEach, putHeader, putRecords, sealed};
 
 // Number 12's test.
 fn unfit(n: usize, a: usize, k: u32, asked: Ceiling) -> bool
@@ -79,16 +79,16 @@ pub(crate) fn write_number(
 }
 
 // Each block's first word, its kind, the file's kind and its record count; its other words are zero.
-pub(crate) fn lay_out(n: usize, a: usize, target: &mut [u8])
+pub(crate) fn lay_out(choice: u32, n: usize, a: usize, target: &mut [u8])
     requires { ⌜ (n ≤ mostVertices) × (a ≤ mostArcs) × (sizeOf n a ≤ length (now target)) ⌝ }
-    ensures { λ _. ⌜ now (target .exit) ≡ laidDown n a (now (target .entry)) ⌝ }
+    ensures { λ _. ⌜ now (target .exit) ≡ laidDown choice n a (now (target .entry)) ⌝ }
 {
     let blocks = layout::blocks_of(n, a);
     lists::clear_bytes(target, 512 * blocks);
     let mut b: usize = 0;
     while b < blocks {
         let kind = layout::kind_at(n, b);
-        let count = layout::count_at(n, a, b);
+        let count = layout::count_at(choice, n, a, b);
         words::put_word(
             target,
             128 * b,
@@ -98,12 +98,10 @@ pub(crate) fn lay_out(n: usize, a: usize, target: &mut [u8])
     }
 }
 
-// The header's records.
-pub(crate) fn write_header(header: Header, target: &mut [u8])
-    requires { ⌜ (header .n ≤ mostVertices)
-        × (header .a ≤ mostArcs)
-        × (sizeOf (header .n) (header .a) ≤ length (now target)) ⌝ }
-    ensures { λ _. ⌜ now (target .exit) ≡ putHeader header (now (target .entry)) ⌝ }
+// The header's first three records, which it has with every choice.
+fn put_first_three(header: Header, target: &mut [u8])
+    requires { ⌜ (header .n ≤ mostVertices) × (header .a ≤ mostArcs) × (512 ≤ length (now target)) ⌝ }
+    ensures { λ _. ⌜ now (target .exit) ≡ putFirstThree header (now (target .entry)) ⌝ }
 {
     words::put_word(target, 1, lists::narrow(header.n));
     words::put_word(target, 2, lists::narrow(header.a));
@@ -113,12 +111,39 @@ pub(crate) fn write_header(header: Header, target: &mut [u8])
     words::put_word(target, 6, ceiling::high_word(header.value));
 }
 
+// The number of each part, in the header's further records.
+fn put_each(each: [u32; 16], target: &mut [u8])
+    requires { ⌜ 512 ≤ length (now target) ⌝ }
+    ensures { λ _. ⌜ now (target .exit) ≡ putEach each (now (target .entry)) ⌝ }
+{
+    let mut t: usize = 0;
+    while t < 16 {
+        words::put_word(target, 7 + t, each[t]);
+        t += 1;
+    }
+}
+
+// The header's records: with choice 3 the numbers of the parts besides.
+pub(crate) fn write_header(header: Header, target: &mut [u8])
+    requires { ⌜ (header .n ≤ mostVertices)
+        × (header .a ≤ mostArcs)
+        × (sizeOf (header .n) (header .a) ≤ length (now target)) ⌝ }
+    ensures { λ _. ⌜ now (target .exit) ≡ putHeader header (now (target .entry)) ⌝ }
+{
+    put_first_three(header, target);
+    if header.choice != 3 {
+        return;
+    }
+    let each = header.each;
+    put_each(each, target);
+}
+
 // The records of the vertices: starts become degrees.
 pub(crate) fn write_vertices(labels: &[u32], weights: &[u32], starts: &[u32], target: &mut [u8])
     requires { ⌜ VerticesFit (now labels) (now weights) (now starts)
         × (512 * (1 + blocksFor (length (now labels))) ≤ length (now target)) ⌝ }
     ensures { λ _. ⌜ now (target .exit) ≡ putRecords 1
-        (vertexWord (planWith (now (labels .entry)) (now (weights .entry)) (now (starts .entry)) [] [] 0 0 0))
+        (vertexWord (planWith (now (labels .entry)) (now (weights .entry)) (now (starts .entry)) [] [] 0 0 0 []))
         (length (now (labels .entry)))
         (now (target .entry)) ⌝ }
 {
@@ -138,7 +163,7 @@ pub(crate) fn write_arcs(neighbours: &[u32], arc_weights: &[u32], n: usize, targ
         × (n ≤ mostVertices)
         × (sizeOf n (length (now neighbours)) ≤ length (now target)) ⌝ }
     ensures { λ _. ⌜ now (target .exit) ≡ putRecords (1 + blocksFor n)
-        (arcWord (planWith [] [] [] (now (neighbours .entry)) (now («arc_weights» .entry)) 0 0 0))
+        (arcWord (planWith [] [] [] (now (neighbours .entry)) (now («arc_weights» .entry)) 0 0 0 []))
         (length (now (neighbours .entry)))
         (now (target .entry)) ⌝ }
 {

@@ -12,22 +12,23 @@ use Rattle.lists.specs.All.{all}
 use Rattle.lists.proofs.Bools.{or-false}
 use Rattle.lists.proofs.Alls.{all-at, all-fails}
 use Rattle.imbalance.specs.Limit.{mostVertices, mostArcs}
+use Rattle.plan_blocks.specs.declared.header.Header.{Header}
 use Rattle.plan_blocks.specs.Word.{wrap, word}
-use Rattle.plan_blocks.specs.Block.{sumAt, checks, laidOut, blocksOf}
+use Rattle.plan_blocks.specs.Block.{sumAt, checks, laidOut, blocksOf, headerCount}
 use Rattle.plan_blocks.specs.Plan.{outOfRange, unfitValue}
 use Rattle.plan_blocks.specs.Decode.{inBlock, blocksIn, kindOf, degreeAt, badLength, badKind, badCheck, badHeader, badNumbers, laterLaid, badLater, labelled, badRecords, headerAt, fileNumber}
 
--- what an accepted file is, where its header says its kind, n, a, k, the choice and the value
-pub record Accepted (s : List ℕ) (file n a k choice value : ℕ) : Type 0 where
+-- what an accepted file is, where its header says its kind and these numbers
+pub record Accepted (s : List ℕ) (file : ℕ) (h : Header) : Type 0 where
   pub known : file ≤ 1
-  pub sized : length s ≡ 512 * blocksOf n a
+  pub sized : length s ≡ 512 * blocksOf (h .n) (h .a)
   pub checked : all (blocksIn s) (λ b. checks (sumAt file b) (inBlock s b)) ≡ true
-  pub header : laidOut file 1 3 (inBlock s 0) ≡ true
-  pub ranged : outOfRange n a k ≡ false
-  pub fit : unfitValue choice value ≡ false
-  pub later : laterLaid file n a s ≡ true
-  pub rows : sum n (degreeAt s) ≡ a
-  pub named : labelled n k s ≡ true
+  pub header : laidOut file 1 (headerCount (h .choice)) (inBlock s 0) ≡ true
+  pub ranged : outOfRange (h .n) (h .a) (h .k) ≡ false
+  pub fit : unfitValue (h .choice) (h .value) ≡ false
+  pub later : laterLaid file h s ≡ true
+  pub rows : sum (h .n) (degreeAt s) ≡ h .a
+  pub named : labelled (h .n) (h .k) s ≡ true
 
 -- the numbers in range
 pub record InRange (n a k : ℕ) : Type 0 where
@@ -76,7 +77,7 @@ module _ (s : List ℕ) where
   unfolding badLength
   same-length-good t e h = rw e (good-length h)
 
-  pub accepts : fileNumber s ≡ 0 → Accepted s (kindOf s) (word s 1) (word s 2) (word s 3) (word s 4) (word s 5 + wrap * word s 6)
+  pub accepts : fileNumber s ≡ 0 → Accepted s (kindOf s) (headerAt s)
   unfolding fileNumber badKind badCheck badHeader badNumbers badLater badRecords
   accepts h =
       let p = not-given (badLength s) 9 _ (omega arith) h in
@@ -87,7 +88,7 @@ module _ (s : List ℕ) where
       let u = not-given (badLater (kindOf s) (headerAt s) s) 13 _ (omega arith) (t .1) in
       let v = not-given (badRecords (headerAt s) s) 14 0 (omega arith) (u .1) in
       let numbers = or-false (outOfRange (word s 1) (word s 2) (word s 3)) (unfitValue (word s 4) (word s 5 + wrap * word s 6)) (t .0) in
-      let later = or-false (not (eqb (blocksIn s) (blocksOf (word s 1) (word s 2)))) (not (laterLaid (kindOf s) (word s 1) (word s 2) s)) (u .0) in
+      let later = or-false (not (eqb (blocksIn s) (blocksOf (word s 1) (word s 2)))) (not (laterLaid (kindOf s) (headerAt s) s)) (u .0) in
       let records = or-false (not (eqb (sum (word s 1) (degreeAt s)) (word s 2))) (not (labelled (word s 1) (word s 3) s)) (v .0) in
       record {
         known = ltb-false 1 (kindOf s) (o .0);
@@ -102,13 +103,13 @@ module _ (s : List ℕ) where
       }
 
   -- and where nothing applies, the number is 0
-  pub accepted-number : (file n a k choice value : ℕ) → kindOf s ≡ file → word s 1 ≡ n → word s 2 ≡ a → word s 3 ≡ k → word s 4 ≡ choice → word s 5 + wrap * word s 6 ≡ value → Accepted s file n a k choice value → fileNumber s ≡ 0
+  pub accepted-number : Accepted s (kindOf s) (headerAt s) → fileNumber s ≡ 0
   unfolding fileNumber badLength badKind badCheck badHeader badNumbers badLater badRecords blocksOf
-  accepted-number file n a k choice value ef en ea ek ec ev g =
+  accepted-number g =
       let r : length s % 512 ≡ 0 = (let z = g .sized in omega arith) in
-      let b : blocksIn s ≡ blocksOf n a = (let z = g .sized in omega arith) in
+      let b : blocksIn s ≡ blocksOf (word s 1) (word s 2) = (let z = g .sized in omega arith) in
       let z : (length s ≡ 0 → ⊥) = (λ e. let z = g .sized in omega arith) in
-      rw (ef, en, ea, ek, ec, ev) (simp (ne-eqb (length s) 0 z, eq-eqb (length s % 512) 0 r, le-ltb 1 file (g .known), g .checked, g .header, g .ranged, g .fit, eq-eqb _ _ b, g .later, eq-eqb _ _ (g .rows), g .named))
+      simp (ne-eqb (length s) 0 z, eq-eqb (length s % 512) 0 r, le-ltb 1 (kindOf s) (g .known), g .checked, g .header, g .ranged, g .fit, eq-eqb _ _ b, g .later, eq-eqb _ _ (g .rows), g .named)
 
   -- a block that has not the sum that it must have: 10, or 11 where the file's kind is above 1
   pub unchecked-refused : (b : ℕ) → badLength s ≡ false → b < blocksIn s → checks (sumAt (kindOf s) b) (inBlock s b) ≡ false → fileNumber s ≡ cond (badKind s) 11 10
@@ -117,7 +118,7 @@ module _ (s : List ℕ) where
       simp (long, all-fails (blocksIn s) b (λ b. checks (sumAt (kindOf s) b) (inBlock s b)) l fails)
 
 -- the sum of a block of an accepted file
-pub checked-sum : (s : List ℕ) (file n a k choice value b : ℕ) → Accepted s file n a k choice value → b < blocksIn s → sum 128 (inBlock s b) % wrap ≡ sumAt file b
+pub checked-sum : (s : List ℕ) (file : ℕ) (h : Header) (b : ℕ) → Accepted s file h → b < blocksIn s → sum 128 (inBlock s b) % wrap ≡ sumAt file b
 unfolding checks
-checked-sum s file n a k choice value b g l =
+checked-sum s file h b g l =
     eqb-true (sum 128 (inBlock s b) % wrap) (sumAt file b) (all-at (blocksIn s) b (λ b. checks (sumAt file b) (inBlock s b)) (g .checked) l)

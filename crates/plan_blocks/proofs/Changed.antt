@@ -82,7 +82,7 @@ module _ (s s′ : List ℕ) (w : ℕ) (h : Bytes s) (h′ : Bytes s′) (long :
       let z = accepts s g .sized in
       let i = inside in
       let must = sumAt (kindOf s′) b in
-      let was : sum 128 (inBlock s b) % wrap ≡ must = checked-sum s _ _ _ _ _ _ b (accepts s g) (omega arith) ∙ sym same-sum in
+      let was : sum 128 (inBlock s b) % wrap ≡ must = checked-sum s _ _ b (accepts s g) (omega arith) ∙ sym same-sum in
       let e = sum-change 128 j (inBlock s′ b) (inBlock s b) (omega arith) (λ x ne. other (128 * b + x) (λ q. ne (omega arith))) in
       let x : inBlock s′ b j ≡ word s′ w = ap (word s′) at in
       let y : inBlock s b j ≡ word s w = ap (word s) at in

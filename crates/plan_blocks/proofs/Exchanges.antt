@@ -24,7 +24,7 @@ every-second s h z c l =
     let g = accepts s z in
     let sized = g .sized in
     let kind = kindAt (word s 1) c in
-    let count = countAt (word s 1) (word s 2) c in
+    let count = countAt (word s 4) (word s 1) (word s 2) c in
     let m = kind-most (word s 1) c in
     let known = g .known in
     let at : 512 * c + 1 ≡ 4 * (128 * c + 0) + 1 = omega arith in
@@ -61,7 +61,7 @@ module _ (s t : List ℕ) (b c : ℕ) (h : Bytes s) (x : Exchanged s t b c) (g :
   moved-sum : sum 128 (inBlock t b) % wrap ≡ c
   moved-sum =
       ap (λ (y : ℕ). y % wrap) (sum-ext 128 (inBlock t b) (inBlock s c) moved-word)
-      ∙ checked-sum s _ _ _ _ _ _ c (accepts s g) lc
+      ∙ checked-sum s _ _ c (accepts s g) lc
       ∙ new-sum (kindOf s) c new
 
   unchecked : checks (sumAt (kindOf t) b) (inBlock t b) ≡ false

@@ -5,6 +5,7 @@ pub mod Places
 pub mod Accepts
 pub mod BlockTurns
 pub mod Headers
+pub mod HeaderCounts
 pub mod Rewritten
 pub mod Reread
 pub mod OldFiles

@@ -5,11 +5,13 @@ use Prim.Native.Nat.{ℕ, zero, suc, _+_, _-_, _*_, _/_, _%_, _≤_, _<_}
 use native.Mathlib.Omega.{arith}
 use native.Mathlib.Nat.{mod-lt}
 use mathlib.Core.Logic.{_⊎_, inl, inr}
+use lib.ListN.{getD}
 use lib.Dec.{leb, ltb, eqb}
 use borrow.Author.Tests.{le-leb, lt-leb, ne-eqb, ltb-true, ltb-false, leb-true, leb-false}
 use Rattle.imbalance.specs.Limit.{mostVertices, mostArcs}
+use Rattle.plan_blocks.specs.declared.header.Header.{Header}
 use Rattle.plan_blocks.specs.Word.{wrap, byteOf}
-use Rattle.plan_blocks.specs.Block.{newKind, opening, sumAt, checkWord, blocksFor, blocksOf, heldBy, kindAt, countAt}
+use Rattle.plan_blocks.specs.Block.{newKind, opening, sumAt, checkWord, blocksFor, blocksOf, heldBy, headerCount, kindAt, countAt}
 use Rattle.plan_blocks.specs.Plan.{Plan, headerIn}
 use Rattle.plan_blocks.specs.Encode.{headerWord, vertexWord, arcWord, recordWord, bodyWord, fileWord}
 use Rattle.plan_blocks.specs.Decode.{vertexAt, arcAt}
@@ -63,13 +65,39 @@ held-in m i j = go (ltb 63 (m - 63 * i)) refl
     go true e l = let g = ltb-true 63 (m - 63 * i) e in omega arith
     go false e l = omega arith
 
--- a block holds at most 63 records
-pub count-most : (n a b : ℕ) → countAt n a b ≤ 63
-unfolding countAt
-count-most n a b = go (eqb b 0) (leb b (blocksFor n))
+-- the records that a choice asks for
+pub eleven-records : (choice : ℕ) → choice ≡ 3 → headerCount choice ≡ 11
+unfolding headerCount
+eleven-records choice e = rw e
+
+pub three-records : (choice : ℕ) → (choice ≡ 3 → ⊥) → headerCount choice ≡ 3
+unfolding headerCount
+three-records choice other = rw (ne-eqb choice 3 other)
+
+-- so three at least, and eleven at most
+pub header-least : (choice : ℕ) → 3 ≤ headerCount choice
+unfolding headerCount
+header-least choice = go (eqb choice 3)
   where
-    go : (s t : Bool) → cond s 3 (cond t (heldBy n (b - 1)) (heldBy a (b - 1 - blocksFor n))) ≤ 63
-    go true t = omega arith
+    go : (t : Bool) → 3 ≤ cond t 11 3
+    go true = omega arith
+    go false = omega arith
+
+pub header-most : (choice : ℕ) → headerCount choice ≤ 11
+unfolding headerCount
+header-most choice = go (eqb choice 3)
+  where
+    go : (t : Bool) → cond t 11 3 ≤ 11
+    go true = omega arith
+    go false = omega arith
+
+-- a block holds at most 63 records
+pub count-most : (choice n a b : ℕ) → countAt choice n a b ≤ 63
+unfolding countAt
+count-most choice n a b = go (eqb b 0) (leb b (blocksFor n))
+  where
+    go : (s t : Bool) → cond s (headerCount choice) (cond t (heldBy n (b - 1)) (heldBy a (b - 1 - blocksFor n))) ≤ 63
+    go true t = let m = header-most choice in omega arith
     go false true = held-most n (b - 1)
     go false false = held-most a (b - 1 - blocksFor n)
 
@@ -111,23 +139,23 @@ module _ (file : ℕ) (p : Plan) where
       let r : (128 * b + 127) % 128 ≡ 127 = omega arith in
       rw (q, r)
 
-  pub body-record : (b j : ℕ) → 0 < j → j ≤ 2 * countAt (p .n) (p .a) b → bodyWord file p b j ≡ recordWord p b (j - 1)
+  pub body-record : (b j : ℕ) → 0 < j → j ≤ 2 * countAt (p .choice) (p .n) (p .a) b → bodyWord file p b j ≡ recordWord p b (j - 1)
   unfolding bodyWord
-  body-record b j z l = simp (ne-eqb j 0 (λ e. omega arith), le-leb j (2 * countAt (p .n) (p .a) b) l)
+  body-record b j z l = simp (ne-eqb j 0 (λ e. omega arith), le-leb j (2 * countAt (p .choice) (p .n) (p .a) b) l)
 
-  pub body-rest : (b j : ℕ) → 2 * countAt (p .n) (p .a) b < j → bodyWord file p b j ≡ 0
+  pub body-rest : (b j : ℕ) → 2 * countAt (p .choice) (p .n) (p .a) b < j → bodyWord file p b j ≡ 0
   unfolding bodyWord
-  body-rest b j l = simp (ne-eqb j 0 (λ e. omega arith), lt-leb j (2 * countAt (p .n) (p .a) b) l)
+  body-rest b j l = simp (ne-eqb j 0 (λ e. omega arith), lt-leb j (2 * countAt (p .choice) (p .n) (p .a) b) l)
 
 -- the kinds' blocks, by their place among those of their kind
-module _ (n a i : ℕ) where
-  pub vertex-block : i < blocksFor n → countAt n a (1 + i) ≡ heldBy n i
+module _ (choice n a i : ℕ) where
+  pub vertex-block : i < blocksFor n → countAt choice n a (1 + i) ≡ heldBy n i
   unfolding countAt
   vertex-block l =
       let q : 1 + i - 1 ≡ i = omega arith in
       simp (ne-eqb (1 + i) 0 (λ e. omega arith), le-leb (1 + i) (blocksFor n) (omega arith), q)
 
-  pub arc-block : countAt n a (1 + blocksFor n + i) ≡ heldBy a i
+  pub arc-block : countAt choice n a (1 + blocksFor n + i) ≡ heldBy a i
   unfolding countAt
   arc-block =
       let q : 1 + blocksFor n + i - 1 - blocksFor n ≡ i = omega arith in
@@ -146,10 +174,18 @@ module _ (p : Plan) (i r : ℕ) where
       let q : 1 + blocksFor (p .n) + i - 1 - blocksFor (p .n) ≡ i = omega arith in
       simp (ne-eqb (1 + blocksFor (p .n) + i) 0 (λ e. omega arith), lt-leb (1 + blocksFor (p .n) + i) (blocksFor (p .n)) (omega arith), q)
 
--- the six words of the header's records, in the file
-pub header-words : (file : ℕ) (p : Plan) (r : ℕ) → r < 6 → fileWord file p (1 + r) ≡ headerWord (headerIn p) r
+-- the header's words after its first three records are the numbers by part
+pub each-word : (header : Header) (t : ℕ) → headerWord header (6 + t) ≡ getD (header .each) t 0
+unfolding headerWord
+each-word header t =
+    let q : 6 + t ≡ suc (suc (suc (suc (suc (suc t))))) = omega arith in
+    rw q
+
+-- the words of the header's records, in the file
+pub header-words : (file : ℕ) (p : Plan) (r : ℕ) → r < 2 * headerCount (p .choice) → fileWord file p (1 + r) ≡ headerWord (headerIn p) r
 unfolding countAt recordWord
 header-words file p r l =
+    let m = header-most (p .choice) in
     let z : 1 + r ≡ 128 * 0 + (1 + r) = omega arith in
     let q : 1 + r - 1 ≡ r = omega arith in
     ap (fileWord file p) z
@@ -166,7 +202,7 @@ module _ (file : ℕ) (p : Plan) (t : ℕ) (l : t < 2) where
       let j = 1 + 2 * (v % 63) + t in
       let q : vertexAt v + t ≡ 128 * (1 + i) + j = omega arith in
       let c = held-at (p .n) i (v % 63) (omega arith) (omega arith) in
-      let e = vertex-block (p .n) (p .a) i (omega arith) in
+      let e = vertex-block (p .choice) (p .n) (p .a) i (omega arith) in
       let r : 126 * i + (j - 1) ≡ 2 * v + t = omega arith in
       ap (fileWord file p) q
       ∙ file-body file p (1 + i) j (omega arith)
@@ -181,7 +217,7 @@ module _ (file : ℕ) (p : Plan) (t : ℕ) (l : t < 2) where
       let b = 1 + blocksFor (p .n) + i in
       let q : arcAt (p .n) e + t ≡ 128 * b + j = omega arith in
       let c = held-at (p .a) i (e % 63) (omega arith) (omega arith) in
-      let g = arc-block (p .n) (p .a) i in
+      let g = arc-block (p .choice) (p .n) (p .a) i in
       let r : 126 * i + (j - 1) ≡ 2 * e + t = omega arith in
       ap (fileWord file p) q
       ∙ file-body file p b j (omega arith)

@@ -9,7 +9,7 @@ use native.Mathlib.Nat.{mod-lt}
 use lib.ListN.{length, getD}
 use lib.Seq.{ext-getD}
 use lib.Dec.{leb, ltb, eqb}
-use borrow.Author.Tests.{eqb-false, leb-true, eq-eqb, ne-eqb, lt-ltb}
+use borrow.Author.Tests.{eqb-true, eqb-false, leb-true, ltb-true, ltb-false, eq-eqb, lt-ltb}
 use Rattle.lists.specs.Sum.{sum}
 use Rattle.lists.specs.Fill.{table}
 use Rattle.lists.proofs.Orders.{clash}
@@ -18,23 +18,22 @@ use Rattle.lists.proofs.Totals.{sum-ext, sum-holds}
 use Rattle.lists.proofs.Alls.{all-every, from-every}
 use Rattle.lists.proofs.Tables.{length-table, table-at}
 use Rattle.plan_blocks.specs.Word.{wrap, word, byteOf, bytes}
-use Rattle.plan_blocks.specs.Block.{opening, sumAt, checks, laidOut, checkWord, blocksFor, blocksOf, heldBy, kindAt, countAt}
+use Rattle.plan_blocks.specs.Block.{opening, sumAt, checks, laidOut, checkWord, blocksFor, blocksOf, heldBy, headerCount, kindAt, countAt}
 use Rattle.plan_blocks.specs.Plan.{Plan, headerIn, Legal, unfitValue}
 use Rattle.plan_blocks.specs.Encode.{headerWord, vertexWord, arcWord, recordWord, bodyWord, fileWord, encode}
-use Rattle.plan_blocks.specs.Decode.{inBlock, blocksIn, kindOf, vertexAt, arcAt, labelAt, degreeAt, laterLaid, labelled, planOf, fileNumber}
+use Rattle.plan_blocks.specs.Decode.{inBlock, blocksIn, kindOf, vertexAt, arcAt, labelAt, degreeAt, laterLaid, labelled, headerAt, planOf, fileNumber}
+use Rattle.plan_blocks.proofs.Bits.{choice-above}
 use Rattle.plan_blocks.proofs.WordLaws.{byteIn, word-bytes, length-bytes}
-use Rattle.plan_blocks.proofs.Places.{sum-fits, second-byte, position-fits, held-in, count-most, kind-most, file-body, file-check, body-rest, vertex-block, arc-block, vertex-record, arc-record, header-words, vertex-words, arc-words, by-kind}
+use Rattle.plan_blocks.proofs.Places.{sum-fits, second-byte, position-fits, held-in, eleven-records, three-records, header-least, header-most, count-most, kind-most, file-body, file-check, body-rest, vertex-block, arc-block, vertex-record, arc-record, each-word, header-words, vertex-words, arc-words, by-kind}
 use Rattle.plan_blocks.proofs.Accepts.{Accepted, InRange, in-range, accepted-number}
 
--- the choices are 0, 1 and 2
-choice-most : (choice value : ℕ) → unfitValue choice value ≡ false → choice < 3
-unfolding unfitValue
-choice-most zero value h = omega arith
-choice-most (suc zero) value h = omega arith
-choice-most (suc (suc zero)) value h = omega arith
-choice-most (suc (suc (suc c))) value h =
-    let no : true ≡ false = simp (ne-eqb (suc (suc (suc c))) 0 (λ e. omega arith), ne-eqb (suc (suc (suc c))) 1 (λ e. omega arith), ne-eqb (suc (suc (suc c))) 2 (λ e. omega arith)) at h in
-    clash true refl no
+-- the choices are 0 to 3
+choice-most : (choice value : ℕ) → unfitValue choice value ≡ false → choice < 4
+choice-most choice value h = go (ltb 3 choice) refl
+  where
+    go : (t : Bool) → ltb 3 choice ≡ t → choice < 4
+    go true e = clash (unfitValue choice value) (choice-above choice value (ltb-true 3 choice e)) h
+    go false e = let m = ltb-false 3 choice e in omega arith
 
 -- a sum and the word that brings it to what it must be
 check-brings : (s must : ℕ) → must < wrap → (s + (must + (wrap - s % wrap)) % wrap) % wrap ≡ must
@@ -55,15 +54,15 @@ module _ (p : Plan) (g : Legal p) (file : ℕ) (known : file ≤ 1) where
   degree-most v l = let s = sum-holds (p .n) v (λ u. getD (p .degrees) u 0) l in let e = g .degreesSum in omega arith
 
   -- every word fits
-  header-fits : (r : ℕ) → headerWord (headerIn p) r < wrap
+  header-fits : (r : ℕ) → r < 22 → headerWord (headerIn p) r < wrap
   unfolding headerWord
-  header-fits zero = let i = inside in omega arith
-  header-fits (suc zero) = let i = inside in omega arith
-  header-fits (suc (suc zero)) = let i = inside in omega arith
-  header-fits (suc (suc (suc zero))) = let c = choice-most (p .choice) (p .value) (g .fit) in omega arith
-  header-fits (suc (suc (suc (suc zero)))) = mod-lt (p .value) (omega arith)
-  header-fits (suc (suc (suc (suc (suc zero))))) = let e = g .eight in omega arith
-  header-fits (suc (suc (suc (suc (suc (suc r)))))) = omega arith
+  header-fits zero l = let i = inside in omega arith
+  header-fits (suc zero) l = let i = inside in omega arith
+  header-fits (suc (suc zero)) l = let i = inside in omega arith
+  header-fits (suc (suc (suc zero))) l = let c = choice-most (p .choice) (p .value) (g .fit) in omega arith
+  header-fits (suc (suc (suc (suc zero)))) l = mod-lt (p .value) (omega arith)
+  header-fits (suc (suc (suc (suc (suc zero))))) l = let e = g .eight in omega arith
+  header-fits (suc (suc (suc (suc (suc (suc t)))))) l = g .eachFits t (omega arith)
 
   vertex-fits : (r : ℕ) → r / 2 < p .n → vertexWord p r < wrap
   unfolding vertexWord
@@ -81,41 +80,41 @@ module _ (p : Plan) (g : Legal p) (file : ℕ) (known : file ≤ 1) where
       go true x y = x
       go false x y = y
 
-  first-fits : (r : ℕ) → recordWord p 0 r < wrap
-  unfolding recordWord
-  first-fits r = header-fits r
+  first-fits : (r : ℕ) → r < 2 * countAt (p .choice) (p .n) (p .a) 0 → recordWord p 0 r < wrap
+  unfolding countAt recordWord
+  first-fits r l = header-fits r (let m = header-most (p .choice) in omega arith)
 
-  record-fits : (b r : ℕ) → b < blocksOf (p .n) (p .a) → r < 2 * countAt (p .n) (p .a) b → recordWord p b r < wrap
-  record-fits zero r l m = first-fits r
+  record-fits : (b r : ℕ) → b < blocksOf (p .n) (p .a) → r < 2 * countAt (p .choice) (p .n) (p .a) b → recordWord p b r < wrap
+  record-fits zero r l m = first-fits r m
   record-fits (suc b) r l m =
       ⊎-elim
       (λ w. vertices (w .0) (w .1) (w .2) m)
       (λ w. arcs (w .0) (w .1) (w .2) m)
       (by-kind (p .n) (p .a) (suc b) (omega arith) l)
     where
-      vertices : (i : ℕ) → i < blocksFor (p .n) → suc b ≡ 1 + i → r < 2 * countAt (p .n) (p .a) (suc b) → recordWord p (suc b) r < wrap
+      vertices : (i : ℕ) → i < blocksFor (p .n) → suc b ≡ 1 + i → r < 2 * countAt (p .choice) (p .n) (p .a) (suc b) → recordWord p (suc b) r < wrap
       vertices i k e m =
-          let c : countAt (p .n) (p .a) (suc b) ≡ heldBy (p .n) i = ap (countAt (p .n) (p .a)) e ∙ vertex-block (p .n) (p .a) i k in
+          let c : countAt (p .choice) (p .n) (p .a) (suc b) ≡ heldBy (p .n) i = ap (countAt (p .choice) (p .n) (p .a)) e ∙ vertex-block (p .choice) (p .n) (p .a) i k in
           let q = held-in (p .n) i (r / 2) (omega arith) in
           let x : recordWord p (suc b) r ≡ vertexWord p (126 * i + r) = ap (λ (x : ℕ). recordWord p x r) e ∙ vertex-record p i r k in
           rw x (vertex-fits (126 * i + r) (omega arith))
 
-      arcs : (i : ℕ) → i < blocksFor (p .a) → suc b ≡ 1 + blocksFor (p .n) + i → r < 2 * countAt (p .n) (p .a) (suc b) → recordWord p (suc b) r < wrap
+      arcs : (i : ℕ) → i < blocksFor (p .a) → suc b ≡ 1 + blocksFor (p .n) + i → r < 2 * countAt (p .choice) (p .n) (p .a) (suc b) → recordWord p (suc b) r < wrap
       arcs i k e m =
-          let c : countAt (p .n) (p .a) (suc b) ≡ heldBy (p .a) i = ap (countAt (p .n) (p .a)) e ∙ arc-block (p .n) (p .a) i in
+          let c : countAt (p .choice) (p .n) (p .a) (suc b) ≡ heldBy (p .a) i = ap (countAt (p .choice) (p .n) (p .a)) e ∙ arc-block (p .choice) (p .n) (p .a) i in
           let q = held-in (p .a) i (r / 2) (omega arith) in
           let x : recordWord p (suc b) r ≡ arcWord p (126 * i + r) = ap (λ (x : ℕ). recordWord p x r) e ∙ arc-record p i r in
           rw x (arc-fits (126 * i + r) (omega arith))
 
   body-fits : (b j : ℕ) → b < blocksOf (p .n) (p .a) → bodyWord file p b j < wrap
   unfolding bodyWord
-  body-fits b j l = go (eqb j 0) refl (leb j (2 * countAt (p .n) (p .a) b)) refl
+  body-fits b j l = go (eqb j 0) refl (leb j (2 * countAt (p .choice) (p .n) (p .a) b)) refl
     where
-      go : (s : Bool) → eqb j 0 ≡ s → (t : Bool) → leb j (2 * countAt (p .n) (p .a) b) ≡ t → cond s (opening file (kindAt (p .n) b) (countAt (p .n) (p .a) b)) (cond t (recordWord p b (j - 1)) 0) < wrap
-      go true e t f = let c = count-most (p .n) (p .a) b in let k = kind-most (p .n) b in omega arith
+      go : (s : Bool) → eqb j 0 ≡ s → (t : Bool) → leb j (2 * countAt (p .choice) (p .n) (p .a) b) ≡ t → cond s (opening file (kindAt (p .n) b) (countAt (p .choice) (p .n) (p .a) b)) (cond t (recordWord p b (j - 1)) 0) < wrap
+      go true e t f = let c = count-most (p .choice) (p .n) (p .a) b in let k = kind-most (p .n) b in omega arith
       go false e true f =
           let z = eqb-false j 0 e in
-          let m = leb-true j (2 * countAt (p .n) (p .a) b) f in
+          let m = leb-true j (2 * countAt (p .choice) (p .n) (p .a) b) f in
           record-fits b (j - 1) l (omega (arith, z))
       go false e false f = omega arith
 
@@ -139,9 +138,13 @@ module _ (p : Plan) (g : Legal p) (file : ℕ) (known : file ≤ 1) where
   body-is : (b j : ℕ) → b < blocksOf (p .n) (p .a) → j < 127 → inBlock (encode file p) b j ≡ bodyWord file p b j
   body-is b j l m = word-is (128 * b + j) (omega arith) ∙ file-body file p b j m
 
-  header-is : (r : ℕ) → r < 6 → word (encode file p) (1 + r) ≡ headerWord (headerIn p) r
+  header-is : (r : ℕ) → r < 2 * headerCount (p .choice) → word (encode file p) (1 + r) ≡ headerWord (headerIn p) r
   unfolding blocksOf
-  header-is r l = word-is (1 + r) (omega arith) ∙ header-words file p r l
+  header-is r l = word-is (1 + r) (let m = header-most (p .choice) in omega arith) ∙ header-words file p r l
+
+  -- those of the first three records stand in every header
+  six-is : (r : ℕ) → r < 6 → word (encode file p) (1 + r) ≡ headerWord (headerIn p) r
+  six-is r l = header-is r (let m = header-least (p .choice) in omega arith)
 
   -- the two words of a record
   vertex-is : (v t : ℕ) → v < p .n → t < 2 → word (encode file p) (vertexAt v + t) ≡ vertexWord p (2 * v + t)
@@ -195,23 +198,44 @@ module _ (p : Plan) (g : Legal p) (file : ℕ) (known : file ≤ 1) where
 
   n-is : word (encode file p) 1 ≡ p .n
   unfolding headerWord
-  n-is = header-is 0 (omega arith)
+  n-is = six-is 0 (omega arith)
 
   a-is : word (encode file p) 2 ≡ p .a
   unfolding headerWord
-  a-is = header-is 1 (omega arith)
+  a-is = six-is 1 (omega arith)
 
   k-is : word (encode file p) 3 ≡ p .k
   unfolding headerWord
-  k-is = header-is 2 (omega arith)
+  k-is = six-is 2 (omega arith)
 
   choice-is : word (encode file p) 4 ≡ p .choice
   unfolding headerWord
-  choice-is = header-is 3 (omega arith)
+  choice-is = six-is 3 (omega arith)
 
   value-is : word (encode file p) 5 + wrap * word (encode file p) 6 ≡ p .value
   unfolding headerWord
-  value-is = let x = header-is 4 (omega arith) in let y = header-is 5 (omega arith) in omega arith
+  value-is = let x = six-is 4 (omega arith) in let y = six-is 5 (omega arith) in omega arith
+
+  -- the number of each part: a record's, or an unused place's
+  each-is : (t : ℕ) → t < 16 → word (encode file p) (7 + t) ≡ getD (p .each) t 0
+  unfolding countAt blocksOf
+  each-is t l = go (eqb (p .choice) 3) refl
+    where
+      go : (b : Bool) → eqb (p .choice) 3 ≡ b → word (encode file p) (7 + t) ≡ getD (p .each) t 0
+      go true e =
+          let z : 7 + t ≡ 1 + (6 + t) = omega arith in
+          ap (word (encode file p)) z ∙ header-is (6 + t) (let c = eleven-records (p .choice) (eqb-true (p .choice) 3 e) in omega arith) ∙ each-word (headerIn p) t
+      go false e =
+          let other = eqb-false (p .choice) 3 e in
+          let z : 7 + t ≡ 128 * 0 + (7 + t) = omega arith in
+          ap (word (encode file p)) z
+          ∙ body-is 0 (7 + t) (omega arith) (omega arith)
+          ∙ body-rest file p 0 (7 + t) (let c = three-records (p .choice) other in omega arith)
+          ∙ sym (g .eachUsed other t l)
+
+  whole-header : headerAt (encode file p) ≡ headerIn p
+  whole-header =
+      rw (n-is, a-is, k-is, choice-is, value-is, listed 16 (λ t. word (encode file p) (7 + t)) (p .each) (g .sixteen) each-is) refl
 
   -- the file's kind is the second byte of its first word
   pub kind-is : kindOf (encode file p) ≡ file
@@ -219,7 +243,7 @@ module _ (p : Plan) (g : Legal p) (file : ℕ) (known : file ≤ 1) where
   kind-is =
       table-at (4 * (128 * blocksOf (p .n) (p .a))) 1 0 (byteIn (fileWord file p)) (omega arith)
       ∙ ap (λ (x : ℕ). byteOf x 1) (file-body file p 0 0 (omega arith))
-      ∙ second-byte file 1 3 (omega arith) (omega arith)
+      ∙ second-byte file 1 (headerCount (p .choice)) (omega arith) (omega arith)
 
   checks-is : (b : ℕ) → b < blocksOf (p .n) (p .a) → checks (sumAt file b) (inBlock (encode file p) b) ≡ true
   unfolding checks checkWord
@@ -229,18 +253,18 @@ module _ (p : Plan) (g : Legal p) (file : ℕ) (known : file ≤ 1) where
       let d : sum 128 (inBlock (encode file p) b) ≡ sum 127 (bodyWord file p b) + (sumAt file b + (wrap - sum 127 (bodyWord file p b) % wrap)) % wrap = sum-more 127 (inBlock (encode file p) b) ∙ ap₂ _+_ e f in
       eq-eqb (sum 128 (inBlock (encode file p) b) % wrap) (sumAt file b) (ap (λ (x : ℕ). x % wrap) d ∙ check-brings (sum 127 (bodyWord file p b)) (sumAt file b) (sum-fits file b (position-fits (p .n) (p .a) b (inside .few) (inside .fewArcs) l)))
 
-  laid-is : (b : ℕ) → b < blocksOf (p .n) (p .a) → laidOut file (kindAt (p .n) b) (countAt (p .n) (p .a) b) (inBlock (encode file p) b) ≡ true
+  laid-is : (b : ℕ) → b < blocksOf (p .n) (p .a) → laidOut file (kindAt (p .n) b) (countAt (p .choice) (p .n) (p .a) b) (inBlock (encode file p) b) ≡ true
   unfolding bodyWord
   laid-is b l =
-      laid-out file (kindAt (p .n) b) (countAt (p .n) (p .a) b) (inBlock (encode file p) b)
+      laid-out file (kindAt (p .n) b) (countAt (p .choice) (p .n) (p .a) b) (inBlock (encode file p) b)
       (body-is b 0 l (omega arith))
       (λ j m k. body-is b j l k ∙ body-rest file p b j m)
 
-  first-laid : laidOut file 1 3 (inBlock (encode file p) 0) ≡ true
+  first-laid : laidOut file 1 (headerCount (p .choice)) (inBlock (encode file p) 0) ≡ true
   unfolding kindAt countAt blocksOf
   first-laid = laid-is 0 (omega arith)
 
-  accepted-is : Accepted (encode file p) file (p .n) (p .a) (p .k) (p .choice) (p .value)
+  accepted-is : Accepted (encode file p) file (headerIn p)
   unfolding laterLaid labelled
   accepted-is =
       record {
@@ -251,13 +275,13 @@ module _ (p : Plan) (g : Legal p) (file : ℕ) (known : file ≤ 1) where
         ranged = g .ranged;
         fit = g .fit;
         later =
-            from-every 1 (blocksIn (encode file p)) (λ b. laidOut file (kindAt (p .n) b) (countAt (p .n) (p .a) b) (inBlock (encode file p) b)) (λ b z l. laid-is b (let e = length-is in omega arith));
+            from-every 1 (blocksIn (encode file p)) (λ b. laidOut file (kindAt (p .n) b) (countAt (p .choice) (p .n) (p .a) b) (inBlock (encode file p) b)) (λ b z l. laid-is b (let e = length-is in omega arith));
         rows = sum-ext (p .n) (degreeAt (encode file p)) (λ v. getD (p .degrees) v 0) degree-is ∙ g .degreesSum;
         named = all-every (p .n) (λ v. ltb (labelAt (encode file p) v) (p .k)) (λ v l. lt-ltb (labelAt (encode file p) v) (p .k) (rw (label-is v l) (g .labelsFit v l)));
       }
 
   pub same-number : fileNumber (encode file p) ≡ 0
-  same-number = accepted-number (encode file p) file (p .n) (p .a) (p .k) (p .choice) (p .value) kind-is n-is a-is k-is choice-is value-is accepted-is
+  same-number = accepted-number (encode file p) (rw (kind-is, whole-header) accepted-is)
 
   pub same-plan : planOf (encode file p) ≡ p
   unfolding planOf
@@ -269,6 +293,7 @@ module _ (p : Plan) (g : Legal p) (file : ℕ) (known : file ≤ 1) where
         k = p .k;
         choice = p .choice;
         value = p .value;
+        each = listed 16 (λ t. word (encode file p) (7 + t)) (p .each) (g .sixteen) each-is i;
         weights = listed (p .n) (λ v. word (encode file p) (vertexAt v)) (p .weights) (g .weighed) weight-is i;
         labels = listed (p .n) (labelAt (encode file p)) (p .labels) (g .labelled) label-is i;
         degrees = listed (p .n) (degreeAt (encode file p)) (p .degrees) (g .degreed) degree-is i;

@@ -18,7 +18,7 @@ use Rattle.plan_blocks.specs.Encode.{encode}
 use Rattle.plan_blocks.specs.Decode.{blocksIn, kindOf, badKind, vertexAt, arcAt, labelAt, degreeAt, labelled, planOf, fileNumber, decode}
 use Rattle.plan_blocks.proofs.WordLaws.{Bytes, word-below}
 use Rattle.plan_blocks.proofs.Accepts.{accepts}
-use Rattle.plan_blocks.proofs.Rewritten.{same-bytes}
+use Rattle.plan_blocks.proofs.Rewritten.{each-unused, same-bytes}
 use Rattle.plan_blocks.proofs.Reread.{same-number, same-plan, length-is, kind-is}
 use Rattle.plan_blocks.proofs.Changed.{refused-changed}
 use Rattle.plan_blocks.proofs.Exchanges.{refused-exchanged}
@@ -55,6 +55,9 @@ legal-places s h z =
       ranged = g .ranged;
       fit = g .fit;
       eight = (let x = word-below s h 5 in let y = word-below s h 6 in omega arith);
+      sixteen = length-table 16 _;
+      eachFits = λ t l. rw (table-at 16 t 0 (λ u. word s (7 + u)) l) (word-below s h (7 + t));
+      eachUsed = λ other t l. table-at 16 t 0 (λ u. word s (7 + u)) l ∙ each-unused s h g other t l;
       weighed = length-table n _;
       labelled = length-table n _;
       degreed = length-table n _;

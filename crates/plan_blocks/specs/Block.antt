@@ -1,4 +1,4 @@
--- A block, as its 128 words (document 01, "Plan blocks"; document 02, A2), and how many blocks of each kind there are.
+-- A block, as its 128 words (document 01, "Plan blocks"; document 02, A2 and A4), and how many blocks of each kind there are.
 -- A file is of the old kind, 0, or of the new kind, 1. Byte 1 of its header says which; every block has the same byte, and the sum that a block must have follows from the header's.
 use mathlib.Core.Bool.{Bool, cond, _&&_}
 use Prim.Native.Nat.{ℕ, _+_, _-_, _*_, _/_, _%_}
@@ -47,6 +47,10 @@ blocksOf n a = 1 + blocksFor n + blocksFor a
 unfoldable pub kindAt : ℕ → ℕ → ℕ
 kindAt n b = cond (eqb b 0) 1 (cond (leb b (blocksFor n)) 2 3)
 
--- block b's record count: "Kind 1, once, first, 3 records"
-unfoldable pub countAt : ℕ → ℕ → ℕ → ℕ
-countAt n a b = cond (eqb b 0) 3 (cond (leb b (blocksFor n)) (heldBy n (b - 1)) (heldBy a (b - 1 - blocksFor n)))
+-- the header's record count: "Kind 1, once, first, 3 records", and "Plan headers with choice 3 carry eight further records"; "11 judges the record count by choice, a choice above 3 as three records"
+unfoldable pub headerCount : ℕ → ℕ
+headerCount choice = cond (eqb choice 3) 11 3
+
+-- block b's record count, in a plan with this choice of the ceiling
+unfoldable pub countAt : ℕ → ℕ → ℕ → ℕ → ℕ
+countAt choice n a b = cond (eqb b 0) (headerCount choice) (cond (leb b (blocksFor n)) (heldBy n (b - 1)) (heldBy a (b - 1 - blocksFor n)))

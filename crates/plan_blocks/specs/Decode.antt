@@ -1,4 +1,4 @@
--- The plan that a file holds, or the number that refuses it (document 01, "Plan blocks" and numbers 9 to 14; document 02, A2).
+-- The plan that a file holds, or the number that refuses it (document 01, "Plan blocks" and numbers 9 to 14; document 02, A2 and A4).
 use mathlib.Core.Bool.{Bool, not, cond, _||_}
 use mathlib.Core.List.{List}
 use Prim.Native.Nat.{ℕ, _+_, _*_, _/_, _%_}
@@ -9,7 +9,7 @@ use Rattle.lists.specs.All.{all, allFrom}
 use Rattle.lists.specs.Fill.{table}
 use Rattle.plan_blocks.specs.declared.header.Header.{Header}
 use Rattle.plan_blocks.specs.Word.{wrap, word}
-use Rattle.plan_blocks.specs.Block.{sumAt, checks, laidOut, blocksFor, blocksOf, kindAt, countAt}
+use Rattle.plan_blocks.specs.Block.{sumAt, checks, laidOut, blocksFor, blocksOf, headerCount, kindAt, countAt}
 use Rattle.plan_blocks.specs.Plan.{Plan, Decoded, accepted, refused, outOfRange, unfitValue}
 
 -- word j of block b
@@ -24,10 +24,21 @@ blocksIn s = length s / 512
 abbrev pub kindOf : List ℕ → ℕ
 kindOf s = getD s 1 0
 
--- "n and a; k and ceiling choice; ceiling value as 8 bytes": the header's numbers
+-- "eight further records of two numbers": the number of each part, after the header's first three records
+abbrev pub eachAt : List ℕ → List ℕ
+eachAt s = table 16 (λ t. word s (7 + t))
+
+-- "n and a; k and ceiling choice; ceiling value as 8 bytes", then the number of each part: the header's numbers. Where the choice does not use these, they are unused places.
 abbrev pub headerAt : List ℕ → Header
 headerAt s =
-    record { n = word s 1; a = word s 2; k = word s 3; choice = word s 4; value = word s 5 + wrap * word s 6 }
+    record {
+      n = word s 1;
+      a = word s 2;
+      k = word s 3;
+      choice = word s 4;
+      value = word s 5 + wrap * word s 6;
+      each = eachAt s;
+    }
 
 -- the first word of vertex v's record: vertices stand 63 to a block, from block 1 on
 abbrev pub vertexAt : ℕ → ℕ
@@ -53,6 +64,7 @@ planOf s =
       k = word s 3;
       choice = word s 4;
       value = word s 5 + wrap * word s 6;
+      each = eachAt s;
       weights = table (word s 1) (λ v. word s (vertexAt v));
       labels = table (word s 1) (labelAt s);
       degrees = table (word s 1) (degreeAt s);
@@ -72,22 +84,24 @@ badKind s = ltb 1 (kindOf s)
 unfoldable pub badCheck : ℕ → List ℕ → Bool
 badCheck file s = not (all (blocksIn s) (λ b. checks (sumAt file b) (inBlock s b)))
 
--- 11: "header block laid out wrongly"
+-- 11: "header block laid out wrongly": "11 judges the record count by choice"
 unfoldable pub badHeader : ℕ → List ℕ → Bool
-badHeader file s = not (laidOut file 1 3 (inBlock s 0))
+badHeader file s = not (laidOut file 1 (headerCount (word s 4)) (inBlock s 0))
 
 -- 12: "a header number out of range"
 unfoldable pub badNumbers : Header → Bool
 badNumbers header = outOfRange (header .n) (header .a) (header .k) || unfitValue (header .choice) (header .value)
 
 -- each later block is laid out as the file's kind, n and a ask: "a block whose byte 1 differs from the header's gives 13"
-unfoldable pub laterLaid : ℕ → ℕ → ℕ → List ℕ → Bool
-laterLaid file n a s = allFrom 1 (blocksIn s) (λ b. laidOut file (kindAt n b) (countAt n a b) (inBlock s b))
+unfoldable pub laterLaid : ℕ → Header → List ℕ → Bool
+laterLaid file header s =
+    allFrom 1 (blocksIn s)
+    (λ b. laidOut file (kindAt (header .n) b) (countAt (header .choice) (header .n) (header .a) b) (inBlock s b))
 
 -- 13: "a later block laid out wrongly, or block count wrong"
 unfoldable pub badLater : ℕ → Header → List ℕ → Bool
 badLater file header s =
-    not (eqb (blocksIn s) (blocksOf (header .n) (header .a))) || not (laterLaid file (header .n) (header .a) s)
+    not (eqb (blocksIn s) (blocksOf (header .n) (header .a))) || not (laterLaid file header s)
 
 -- every vertex's label is below k
 unfoldable pub labelled : ℕ → ℕ → List ℕ → Bool

@@ -1,6 +1,6 @@
--- The bytes of a plan (document 01, "Plan blocks"; document 02, A2), in a file of either kind.
+-- The bytes of a plan (document 01, "Plan blocks"; document 02, A2 and A4), in a file of either kind.
 use mathlib.Core.Bool.{cond}
-use mathlib.Core.List.{List, [], _∷_}
+use mathlib.Core.List.{List, _∷_}
 use Prim.Native.Nat.{ℕ, _+_, _-_, _*_, _/_, _%_}
 use lib.ListN.{getD}
 use lib.Dec.{leb, eqb}
@@ -9,10 +9,10 @@ use Rattle.plan_blocks.specs.Word.{wrap, bytes}
 use Rattle.plan_blocks.specs.Block.{opening, sumAt, checkWord, blocksFor, blocksOf, kindAt, countAt}
 use Rattle.plan_blocks.specs.Plan.{Plan, headerIn}
 
--- "n and a; k and ceiling choice; ceiling value as 8 bytes": word r of the header's records
+-- "n and a; k and ceiling choice; ceiling value as 8 bytes", "eight further records of two numbers": word r of the header's records
 unfoldable pub headerWord : Header → ℕ → ℕ
 headerWord header r =
-    getD (header .n ∷ header .a ∷ header .k ∷ header .choice ∷ header .value % wrap ∷ header .value / wrap ∷ []) r 0
+    getD (header .n ∷ header .a ∷ header .k ∷ header .choice ∷ header .value % wrap ∷ header .value / wrap ∷ header .each) r 0
 
 -- "weight u32, label u16, degree u16, by vertex": word r of all records of kind 2
 unfoldable pub vertexWord : Plan → ℕ → ℕ
@@ -33,8 +33,8 @@ recordWord p b r =
 -- word j of block b, the last apart: the opening, the records, and "Unused places are zero"
 unfoldable pub bodyWord : ℕ → Plan → ℕ → ℕ → ℕ
 bodyWord file p b j =
-    cond (eqb j 0) (opening file (kindAt (p .n) b) (countAt (p .n) (p .a) b))
-    (cond (leb j (2 * countAt (p .n) (p .a) b)) (recordWord p b (j - 1)) 0)
+    cond (eqb j 0) (opening file (kindAt (p .n) b) (countAt (p .choice) (p .n) (p .a) b))
+    (cond (leb j (2 * countAt (p .choice) (p .n) (p .a) b)) (recordWord p b (j - 1)) 0)
 
 -- word w of the file, 128 to a block: the last of a block is "a word chosen so that the sum of its 128 words, wrapping, is" what it must be
 unfoldable pub fileWord : ℕ → Plan → ℕ → ℕ

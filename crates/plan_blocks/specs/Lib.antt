@@ -1,4 +1,4 @@
--- The plan file (document 01, "Plan blocks"; document 02, A2): what a plan is, the bytes that stand for it, and the plan that bytes hold.
+-- The plan file (document 01, "Plan blocks"; document 02, A2 and A4): what a plan is, the bytes that stand for it, and the plan that bytes hold.
 
 -- ---- What the documents say: the contracts of inner functions need no more
 pub mod Word

@@ -1,4 +1,4 @@
-// The ceiling's value as 8 bytes: 0, a whole u32, or the bits of e. Document 01, "Plan blocks" and "Ceiling".
+// The ceiling's value as 8 bytes: 0, a whole u32, or the bits of e; and its number for each part. Document 01, "Plan blocks" and "Ceiling"; document 02, A4.
 use imbalance::Ceiling;
 ghost use mathlib.Core.Path.{_≡_};
 ghost use mathlib.Core.Bool.{false, cond};
@@ -7,7 +7,7 @@ ghost use lib.Dec.{T, eqb};
 ghost use lib.Ieee.{binary64, ofBits, toBits};
 ghost use Rattle.imbalance.specs.Ceiling.{zero64, legalE, unfitChoice};
 ghost use Rattle.plan_blocks.specs.Word.{wrap};
-ghost use Rattle.plan_blocks.specs.Plan.{unfitValue, valueOf};
+ghost use Rattle.plan_blocks.specs.Plan.{unfitValue, valueOf, eachOf};
 
 // How many words there are: a number of two words has the upper one so many times.
 const WORDS: u64 = 4294967296;
@@ -51,6 +51,9 @@ pub fn unfit_value(choice: u32, value: u64) -> bool
         }
         return true;
     }
+    if choice == 3 {
+        return value != 0;
+    }
     true
 }
 
@@ -88,6 +91,23 @@ pub fn value_of(asked: Ceiling) -> u64
         return bits_of(asked.imbalance);
     }
     0
+}
+
+// The number of each part that the writer puts down: zeros where the choice does not use them.
+pub fn each_of(asked: Ceiling) -> [u32; 16]
+    ensures { λ r. ⌜ r ≡ eachOf asked ⌝ }
+{
+    let given = asked.each;
+    let mut each = [0u32; 16];
+    if asked.choice != 3 {
+        return each;
+    }
+    let mut t: usize = 0;
+    while t < 16 {
+        each[t] = given[t];
+        t += 1;
+    }
+    each
 }
 
 // The lower and the upper word of a value.

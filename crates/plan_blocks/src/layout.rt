@@ -1,8 +1,8 @@
-// How many blocks there are, and their kinds and record counts. Document 01, "Plan blocks".
+// How many blocks there are, and their kinds and record counts. Document 01, "Plan blocks"; document 02, A4.
 ghost use mathlib.Core.Path.{_≡_};
 ghost use Prim.Native.Nat.{_+_, _*_, _/_, _%_, _≤_, _<_};
 ghost use Rattle.imbalance.specs.Limit.{mostVertices, mostArcs};
-ghost use Rattle.plan_blocks.specs.Block.{blocksFor, blocksOf, heldBy, kindAt, countAt};
+ghost use Rattle.plan_blocks.specs.Block.{blocksFor, blocksOf, heldBy, headerCount, kindAt, countAt};
 ghost use Rattle.plan_blocks.specs.Plan.{outOfRange};
 
 // The blocks that so many records fill.
@@ -47,13 +47,23 @@ pub fn kind_at(n: usize, b: usize) -> usize
     3
 }
 
+// The header's record count: choice 3 has a number for each part besides.
+pub fn header_count(choice: u32) -> usize
+    ensures { λ r. ⌜ r ≡ headerCount choice ⌝ }
+{
+    if choice == 3 {
+        return 11;
+    }
+    3
+}
+
 // Block b's record count.
-pub fn count_at(n: usize, a: usize, b: usize) -> usize
+pub fn count_at(choice: u32, n: usize, a: usize, b: usize) -> usize
     requires { ⌜ (n ≤ mostVertices) × (a ≤ mostArcs) × (b < blocksOf n a) ⌝ }
-    ensures { λ r. ⌜ r ≡ countAt n a b ⌝ }
+    ensures { λ r. ⌜ r ≡ countAt choice n a b ⌝ }
 {
     if b == 0 {
-        return 3;
+        return header_count(choice);
     }
     let vertices = blocks_for(n);
     if b <= vertices {

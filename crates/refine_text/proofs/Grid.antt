@@ -4,7 +4,7 @@ use mathlib.Core.Bool.{true, false}
 use mathlib.Core.List.{List, [], _∷_, _++_}
 use Prim.Native.Nat.{ℕ, _≤_, _<_}
 use native.Mathlib.Omega.{arith}
-use lib.ListN.{length, getD}
+use lib.ListN.{length, getD, replicate}
 use lib.Dec.{ltb}
 use borrow.Author.Tests.{ltb-true, le-ltb}
 use lib.IntN.{negsuc}
@@ -38,9 +38,20 @@ use Rattle.refine_words.specs.Text.{ascii, decimal, decimalIn, numbers, line}
 use Rattle.refine_words.specs.Line.{endLine, cutLine, loadsLine, passesLine, opening, passLine, passLines, labelsLine}
 use Rattle.refine_text.specs.Refine.{beyond, ranked, inputNumber, twoLines, twoShown, twoText, runText, planText, textOf}
 
+-- the numbers by part, which the ceiling's choice 2 does not use
+abbrev unused : List ℕ
+unused = replicate 16 0
+
 -- the header of A's plan: two parts, and the ceiling by e = 0.25
 abbrev header : ReadAnswer
-header = record { number = 0; n = 8; a = 20; k = 2; choice = 2; whole = 0; imbalance = fin false 1 (negsuc 1) }
+header =
+    record {
+      number = 0;
+      n = 8;
+      a = 20;
+      k = 2;
+      ceiling = record { choice = 2; whole = 0; imbalance = fin false 1 (negsuc 1); each = unused };
+    }
 
 -- the seven lines of document 01
 abbrev pub printedText : List ℕ
@@ -66,6 +77,7 @@ plan =
       k = 2;
       choice = 2;
       value = 4598175219545276416;
+      each = unused;
       weights = ones;
       labels = A;
       degrees = 2 ∷ 3 ∷ 3 ∷ 2 ∷ 2 ∷ 3 ∷ 3 ∷ 2 ∷ [];
@@ -89,6 +101,9 @@ legal =
       ranged = refl;
       fit = refl;
       eight = omega arith;
+      sixteen = refl;
+      eachFits = below 16 wrap unused refl;
+      eachUsed = λ other t l. (let h = below 16 1 unused refl t l in omega arith);
       weighed = refl;
       labelled = refl;
       degreed = refl;

@@ -95,7 +95,7 @@ twoGivenBy h starts neighbours arcs weights =
       neighbours = neighbours;
       arcs = arcs;
       weights = weights;
-      settings = record { passes = 64; moves = h .n; bad = 0; choice = h .choice; whole = h .whole; imbalance = h .imbalance };
+      settings = record { passes = 64; moves = h .n; bad = 0; ceiling = h .ceiling };
     }
 
 -- "above 2 it runs arc-swap"
@@ -106,7 +106,7 @@ manyGivenBy h starts neighbours arcs weights =
       neighbours = neighbours;
       arcs = arcs;
       weights = weights;
-      settings = record { ceiling = record { choice = h .choice; whole = h .whole; imbalance = h .imbalance } };
+      settings = record { ceiling = h .ceiling };
     }
 
 -- the text of a header and its lists

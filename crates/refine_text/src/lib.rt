@@ -1,7 +1,6 @@
 // All of the refine program but reading and writing: one function from the input's bytes to the output's. Document 01, the end of "The eight-block grid".
 mod runs; // runs.rt: a run of FM and a run of arc-swap, as lines
 
-use imbalance::Ceiling;
 use plan::ReadAnswer;
 use plan_blocks::words;
 use refine_words::lines;
@@ -55,25 +54,16 @@ fn refine_lists(
     requires { ⌜ (length (now labels) ≤ planVertices) × (labelAbove 15 (now labels) ≡ false) × (textBytes ≤ length (now out)) ⌝ }
     ensures { λ r. ⌜ Put (runText read (now (starts .entry)) (now (neighbours .entry)) (now («arc_weights» .entry)) (now (weights .entry)) (now (labels .entry))) textBytes 0 (now (out .entry)) (now (out .exit)) r ⌝ }
 {
-    let choice = read.choice;
-    let whole = read.whole;
-    let imbalance = read.imbalance;
+    let ceiling = read.ceiling;
     if read.k == 2 {
         let s = fiduccia_mattheyses::Settings {
             passes: 64,
             moves: read.n,
             bad: 0,
-            choice,
-            whole,
-            imbalance,
+            ceiling,
         };
         return runs::refine_two(starts, neighbours, arc_weights, weights, labels, s, out);
     }
-    let ceiling = Ceiling {
-        choice,
-        whole,
-        imbalance,
-    };
     let s = arc_swap::Settings { ceiling };
     runs::refine_many(starts, neighbours, arc_weights, weights, labels, s, out)
 }

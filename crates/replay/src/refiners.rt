@@ -52,6 +52,7 @@ fn read_ceiling(buffer: &mut [u8; text::BUFFER], place: Place) -> Asked {
         choice: choice.value,
         whole: whole.value,
         imbalance: imbalance_of(bits.value),
+        each: [0; 16],
     };
     Asked {
         ceiling,
@@ -142,9 +143,7 @@ fn read_fm_settings(buffer: &mut [u8; text::BUFFER], place: Place) -> FmAsked {
         passes: passes.value,
         moves: moves.value,
         bad: bad.value,
-        choice: ceiling.choice,
-        whole: ceiling.whole,
-        imbalance: ceiling.imbalance,
+        ceiling,
     };
     FmAsked {
         settings,

@@ -25,20 +25,20 @@ slice-aggregate-arc-swap-counted-6 c = search needs
 arc-swap-counted-requires : tie.Need-arc-swap-counted-requires
 arc-swap-counted-requires c κs = search needs
 
-cast-t29 : tie.Need-cast-t29
-cast-t29 c = search needs
-
 cast-t30 : tie.Need-cast-t30
 cast-t30 c = search needs
 
 cast-t31 : tie.Need-cast-t31
 cast-t31 c = search needs
 
-element-copy-out-t34 : tie.Need-element-copy-out-t34
-element-copy-out-t34 c = search needs
+cast-t32 : tie.Need-cast-t32
+cast-t32 c = search needs
 
-element-copy-out-t37 : tie.Need-element-copy-out-t37
-element-copy-out-t37 c = search needs
+element-copy-out-t35 : tie.Need-element-copy-out-t35
+element-copy-out-t35 c = search needs
+
+element-copy-out-t38 : tie.Need-element-copy-out-t38
+element-copy-out-t38 c = search needs
 
 slice-aggregate-same-labels : tie.Need-slice-aggregate-same-labels
 slice-aggregate-same-labels c = search needs
@@ -72,11 +72,11 @@ swap-gives-spec =
     slice-aggregate-arc-swap-counted-5
     slice-aggregate-arc-swap-counted-6
     arc-swap-counted-requires
-    cast-t29
     cast-t30
     cast-t31
-    element-copy-out-t34
-    element-copy-out-t37
+    cast-t32
+    element-copy-out-t35
+    element-copy-out-t38
     slice-aggregate-same-labels
     same-labels-requires
     slice-aggregate-same-numbers

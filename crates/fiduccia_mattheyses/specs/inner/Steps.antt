@@ -22,7 +22,7 @@ use Rattle.fiduccia_mattheyses.specs.declared.Call.{Call}
 use Rattle.fiduccia_mattheyses.specs.declared.Call.the-variants.{Answered, Runs}
 use Rattle.fiduccia_mattheyses.specs.Run.{run}
 use Rattle.topology.specs.Given.{graphOf}
-use Rattle.fiduccia_mattheyses.specs.Entry.{Given, Lent, askedCeiling, reportOf, leftBy}
+use Rattle.fiduccia_mattheyses.specs.Entry.{Given, Lent, reportOf, leftBy}
 use Rattle.fiduccia_mattheyses.specs.declared.Report.{Report}
 use Rattle.fiduccia_mattheyses_pass.specs.inner.Steps.{PassAsked}
 
@@ -34,11 +34,11 @@ callOf n number = cond (eqb n 0) (Answered 0 3) (cond (eqb number 0) Runs (Answe
 pub record Beginnable (p : Given) (labels : List ℕ) : Type 0 where
   pub sound : Sound (length labels) (p .weights) (graphOf p)
   pub labelled : labelAbove 1 labels ≡ false
-  pub fit : unfitChoice (askedCeiling (p .settings)) ≡ false
+  pub fit : unfitChoice (p .settings .ceiling) ≡ false
 
 -- What a run begins with: the ceilings, the limits of the settings, and the loads and the cut of the labels.
 pub record Begins (p : Given) (labels : List ℕ) (b : Begun) : Type 0 where
-  pub capped : b .limits .ceilings .at ≡ ceilings (table 16 (load (p .weights) labels)) (total (p .weights)) 2 (askedCeiling (p .settings))
+  pub capped : b .limits .ceilings .at ≡ ceilings (table 16 (load (p .weights) labels)) (total (p .weights)) 2 (p .settings .ceiling)
   pub bad-is : b .limits .bad ≡ p .settings .bad
   pub moves-are : b .limits .moves ≡ p .settings .moves
   pub loaded : b .loads ≡ loadsOf (p .weights) labels

@@ -2,7 +2,7 @@
 use borrow.Author.Tests.{eq-eqb, ne-eqb}
 use borrow.Author.Needs.{needs}
 use Rattle.imbalance.specs.Ceiling.{ceiling}
-use Rattle.imbalance.proofs.Choices.{fit-legal}
+use Rattle.imbalance.proofs.Choices.{fit-legal, last-old}
 use Rattle.imbalance.proofs.ceiling_of.Statement.{statement}
 use Rattle.imbalance.proofs.ceiling_of.Tie as tie
 
@@ -28,7 +28,7 @@ ceiling-by-requires c κs =
     let given : tie.Start = search needs in
     let not-carried : tie.Else1 = search needs in
     let p = given .pre in
-    (p .0, p .1, p .2, fit-legal _ (p .3) (not-carried .if1 .left) (c .if2 .left))
+    (p .0, p .1, p .2, fit-legal _ (p .3) (last-old _ (p .4) (not-carried .if1 .left) (c .if2 .left)))
 
 returns-3 : tie.Need-returns-3
 unfolding ceiling

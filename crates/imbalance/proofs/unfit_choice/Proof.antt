@@ -10,13 +10,13 @@ returns : tie.Need-returns
 unfolding unfitChoice
 returns c =
     let given : tie.Start = search needs in
-    simp (lt-ltb 2 (given .args .asked .choice) (search needs))
+    simp (lt-ltb 3 (given .args .asked .choice) (search needs))
 
 returns-2 : tie.Need-returns-2
 unfolding unfitChoice
 returns-2 c =
     let given : tie.Start = search needs in
-    simp (le-ltb 2 (given .args .asked .choice) (search needs), ne-eqb _ _ (c .if2 .taken))
+    simp (le-ltb 3 (given .args .asked .choice) (search needs), ne-eqb _ _ (c .if2 .taken))
 
 legal-e-requires : tie.Need-legal-e-requires
 legal-e-requires c κs = search needs
@@ -27,7 +27,7 @@ returns-3 c =
     let given : tie.Start = search needs in
     let two : tie.Else2 = search needs in
     let tested : tie.After-legal-e = search needs in
-    simp (le-ltb 2 (given .args .asked .choice) (search needs), eq-eqb _ _ (two .if2 .left), sym (tested .legal-e .ensures) ∙ c .if3 .taken)
+    simp (le-ltb 3 (given .args .asked .choice) (search needs), eq-eqb _ _ (two .if2 .left), sym (tested .legal-e .ensures) ∙ c .if3 .taken)
 
 returns-4 : tie.Need-returns-4
 unfolding unfitChoice
@@ -35,7 +35,7 @@ returns-4 c =
     let given : tie.Start = search needs in
     let two : tie.Else2 = search needs in
     let tested : tie.After-legal-e = search needs in
-    simp (le-ltb 2 (given .args .asked .choice) (search needs), eq-eqb _ _ (two .if2 .left), sym (tested .legal-e .ensures) ∙ c .if3 .left)
+    simp (le-ltb 3 (given .args .asked .choice) (search needs), eq-eqb _ _ (two .if2 .left), sym (tested .legal-e .ensures) ∙ c .if3 .left)
 
 pub unfit-choice-spec : {M : Type 1} → statement M
 unfit-choice-spec = tie.close (tie.spec returns returns-2 legal-e-requires returns-3 returns-4)

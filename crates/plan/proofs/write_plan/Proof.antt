@@ -49,7 +49,7 @@ lay-out-requires c κs =
     let header : tie.After-header-with = search needs in
     let taken = taken-before header in
     let numbered = numbered-before taken in
-    blocks-asked _ _ (fits _ _ (sym (numbered .write-number .ensures) ∙ taken .if1 .left)) _ _ (header .header-with .ensures) _ refl
+    blocks-asked _ _ (fits _ _ (sym (numbered .write-number .ensures) ∙ taken .if1 .left)) _ (header .header-with .ensures) _ refl
 
 write-header-requires : tie.Need-write-header-requires
 write-header-requires c κs =
@@ -57,7 +57,7 @@ write-header-requires c κs =
     let header = header-before laid in
     let taken = taken-before header in
     let numbered = numbered-before taken in
-    blocks-asked _ _ (fits _ _ (sym (numbered .write-number .ensures) ∙ taken .if1 .left)) _ _ (header .header-with .ensures) _ (ap length (laid .lay-out .ensures) ∙ length-laid _ _ _)
+    blocks-asked _ _ (fits _ _ (sym (numbered .write-number .ensures) ∙ taken .if1 .left)) _ (header .header-with .ensures) _ (ap length (laid .lay-out .ensures) ∙ length-laid _ _ _ _)
 
 write-vertices-requires : tie.Need-write-vertices-requires
 write-vertices-requires c κs =
@@ -66,7 +66,7 @@ write-vertices-requires c κs =
     let header = header-before laid in
     let taken = taken-before header in
     let numbered = numbered-before taken in
-    vertices-asked _ _ (fits _ _ (sym (numbered .write-number .ensures) ∙ taken .if1 .left)) _ _ (header .header-with .ensures) _ (ap length (headed .write-header .ensures) ∙ length-puts _ _ _ _ ∙ ap length (laid .lay-out .ensures) ∙ length-laid _ _ _)
+    vertices-asked _ _ (fits _ _ (sym (numbered .write-number .ensures) ∙ taken .if1 .left)) _ (header .header-with .ensures) _ (ap length (headed .write-header .ensures) ∙ length-puts _ _ _ _ ∙ ap length (laid .lay-out .ensures) ∙ length-laid _ _ _ _)
 
 write-arcs-requires : tie.Need-write-arcs-requires
 write-arcs-requires c κs =
@@ -76,7 +76,7 @@ write-arcs-requires c κs =
     let header = header-before laid in
     let taken = taken-before header in
     let numbered = numbered-before taken in
-    arcs-asked _ _ (fits _ _ (sym (numbered .write-number .ensures) ∙ taken .if1 .left)) _ _ (header .header-with .ensures) _ (ap length (labelled .write-vertices .ensures) ∙ length-puts _ _ _ _ ∙ ap length (headed .write-header .ensures) ∙ length-puts _ _ _ _ ∙ ap length (laid .lay-out .ensures) ∙ length-laid _ _ _)
+    arcs-asked _ _ (fits _ _ (sym (numbered .write-number .ensures) ∙ taken .if1 .left)) _ (header .header-with .ensures) _ (ap length (labelled .write-vertices .ensures) ∙ length-puts _ _ _ _ ∙ ap length (headed .write-header .ensures) ∙ length-puts _ _ _ _ ∙ ap length (laid .lay-out .ensures) ∙ length-laid _ _ _ _)
 
 seal-requires : tie.Need-seal-requires
 seal-requires c κs =
@@ -87,7 +87,7 @@ seal-requires c κs =
     let header = header-before laid in
     let taken = taken-before header in
     let numbered = numbered-before taken in
-    blocks-asked _ _ (fits _ _ (sym (numbered .write-number .ensures) ∙ taken .if1 .left)) _ _ (header .header-with .ensures) _ (ap length (joined .write-arcs .ensures) ∙ length-puts _ _ _ _ ∙ ap length (labelled .write-vertices .ensures) ∙ length-puts _ _ _ _ ∙ ap length (headed .write-header .ensures) ∙ length-puts _ _ _ _ ∙ ap length (laid .lay-out .ensures) ∙ length-laid _ _ _)
+    blocks-asked _ _ (fits _ _ (sym (numbered .write-number .ensures) ∙ taken .if1 .left)) _ (header .header-with .ensures) _ (ap length (joined .write-arcs .ensures) ∙ length-puts _ _ _ _ ∙ ap length (labelled .write-vertices .ensures) ∙ length-puts _ _ _ _ ∙ ap length (headed .write-header .ensures) ∙ length-puts _ _ _ _ ∙ ap length (laid .lay-out .ensures) ∙ length-laid _ _ _ _)
 
 same-length : tie.Need-same-length
 same-length c = search needs
@@ -105,8 +105,8 @@ returns-2 c =
     let f = fits _ _ (sym (numbered .write-number .ensures) ∙ taken .if1 .left) in
     let e = header .header-with .ensures in
     let w = whole .seal .ensures in
-    write-done _ _ _ _ (numbered .write-number .ensures) _ _ (taken .if1 .left) refl (w .0 ∙ ap₂ sizeOf (ap (λ (h : Header). h .n) e) (ap (λ (h : Header). h .a) e))
-    (steps-write _ _ _ _ _ _ _ _ _ _ _ _ _ _ _ e (f .roomy) (laid .lay-out .ensures) (headed .write-header .ensures) (labelled .write-vertices .ensures) (joined .write-arcs .ensures) (w .1))
+    write-done _ _ _ _ (numbered .write-number .ensures) _ (taken .if1 .left) (w .0 ∙ ap₂ sizeOf (ap (λ (h : Header). h .n) e) (ap (λ (h : Header). h .a) e))
+    (steps-write _ _ _ _ _ _ _ _ _ _ _ _ _ _ _ _ e (f .roomy) (laid .lay-out .ensures) (headed .write-header .ensures) (labelled .write-vertices .ensures) (joined .write-arcs .ensures) (w .1))
 
 pub write-plan-spec : {M : Type 1} → statement M
 write-plan-spec =

@@ -7,7 +7,7 @@ use Rattle.lists.specs.Fill.{filled}
 use Rattle.imbalance.specs.Limit.{mostVertices, mostArcs}
 use Rattle.plan_blocks.specs.declared.header.Header.{Header}
 use Rattle.plan_blocks.specs.Word.{putWord}
-use Rattle.plan_blocks.specs.Block.{newKind, opening, sumAt, checkWord, blocksOf, kindAt, countAt}
+use Rattle.plan_blocks.specs.Block.{newKind, opening, sumAt, checkWord, blocksOf, headerCount, kindAt, countAt}
 use Rattle.plan_blocks.specs.Encode.{headerWord}
 use Rattle.plan_blocks.specs.Decode.{inBlock}
 
@@ -31,16 +31,25 @@ putWords at x zero s = s
 putWords at x (suc i) s = putWord (putWords at x i s) (at i) (x i)
 
 -- block b's first word
-abbrev pub openingWord : ℕ → ℕ → ℕ → ℕ
-openingWord n a b = opening newKind (kindAt n b) (countAt n a b)
+abbrev pub openingWord : ℕ → ℕ → ℕ → ℕ → ℕ
+openingWord choice n a b = opening newKind (kindAt n b) (countAt choice n a b)
 
 -- the blocks laid out: each one's first word, and zeros
-abbrev pub laidDown : ℕ → ℕ → List ℕ → List ℕ
-laidDown n a s = putWords (λ b. 128 * b) (openingWord n a) (blocksOf n a) (filled 0 (512 * blocksOf n a) s)
+abbrev pub laidDown : ℕ → ℕ → ℕ → List ℕ → List ℕ
+laidDown choice n a s =
+    putWords (λ b. 128 * b) (openingWord choice n a) (blocksOf n a) (filled 0 (512 * blocksOf n a) s)
 
--- the header's records: six words after the first block's first
+-- the header's records: two words each after the first block's first
 abbrev pub putHeader : Header → List ℕ → List ℕ
-putHeader header s = putWords (λ r. 1 + r) (headerWord header) 6 s
+putHeader header s = putWords (λ r. 1 + r) (headerWord header) (2 * headerCount (header .choice)) s
+
+-- the first three of them
+abbrev pub putFirstThree : Header → List ℕ → List ℕ
+putFirstThree header s = putWords (λ r. 1 + r) (headerWord header) 6 s
+
+-- the number of each part: sixteen words, after those of the header's first three records
+abbrev pub putEach : List ℕ → List ℕ → List ℕ
+putEach each s = putWords (λ t. 7 + t) (λ t. getD each t 0) 16 s
 
 -- word r of the records of a kind whose blocks start at block `first`: 126 to a block, after its first word
 abbrev pub recordAt : ℕ → ℕ → ℕ

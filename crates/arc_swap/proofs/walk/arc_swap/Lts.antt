@@ -96,7 +96,7 @@ abbrev pub type·13 : Syntax.Ty
 type·13 = Syntax.tyRef (Syntax.named 6) Syntax.mut RunRecordTy.behind
 
 abbrev pub type·14 : Syntax.Ty
-type·14 = Syntax.tyStruct (List._∷_ 105 (List._∷_ 109 (List._∷_ 98 (List._∷_ 97 (List._∷_ 108 (List._∷_ 97 (List._∷_ 110 (List._∷_ 99 (List._∷_ 101 (List._∷_ 58 (List._∷_ 58 (List._∷_ 67 (List._∷_ 101 (List._∷_ 105 (List._∷_ 108 (List._∷_ 105 (List._∷_ 110 (List._∷_ 103 List.[])))))))))))))))))) (Syntax.tcons (Syntax.tyInt Syntax.w32) (Syntax.tcons (Syntax.tyInt Syntax.w32) (Syntax.tcons (Syntax.tyFloat Ieee.binary64) Syntax.tnil)))
+type·14 = Syntax.tyStruct (List._∷_ 105 (List._∷_ 109 (List._∷_ 98 (List._∷_ 97 (List._∷_ 108 (List._∷_ 97 (List._∷_ 110 (List._∷_ 99 (List._∷_ 101 (List._∷_ 58 (List._∷_ 58 (List._∷_ 67 (List._∷_ 101 (List._∷_ 105 (List._∷_ 108 (List._∷_ 105 (List._∷_ 110 (List._∷_ 103 List.[])))))))))))))))))) (Syntax.tcons (Syntax.tyInt Syntax.w32) (Syntax.tcons (Syntax.tyInt Syntax.w32) (Syntax.tcons (Syntax.tyFloat Ieee.binary64) (Syntax.tcons (Syntax.tyArray (Syntax.tyInt Syntax.w32) 16) Syntax.tnil))))
 
 abbrev pub type·15 : Syntax.Ty
 type·15 = Syntax.tyStruct (List._∷_ 97 (List._∷_ 114 (List._∷_ 99 (List._∷_ 95 (List._∷_ 115 (List._∷_ 119 (List._∷_ 97 (List._∷_ 112 (List._∷_ 58 (List._∷_ 58 (List._∷_ 83 (List._∷_ 101 (List._∷_ 116 (List._∷_ 116 (List._∷_ 105 (List._∷_ 110 (List._∷_ 103 (List._∷_ 115 List.[])))))))))))))))))) (Syntax.tcons type·14 Syntax.tnil)

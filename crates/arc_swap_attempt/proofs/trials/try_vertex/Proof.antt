@@ -45,20 +45,22 @@ returns c =
 abbrev best-of : tie.Else1 → tie.After-best-part
 best-of c = search needs
 
--- where there is a gain, the target is one of the sixteen
-target-in : (c : tie.Else1) → best-of c .best-part .result .part < 16
-target-in c =
+-- where there is a gain, the own part and the target are two of the sixteen
+both-in : (c : tie.Else1) → (best-of c .before .before .index-at .result < 16) × (best-of c .best-part .result .part < 16)
+both-in c =
     let after-sums-of : tie.After-sums-of = search needs in
     let after-index-at : tie.After-index-at = search needs in
-    let given : tie.Start = search needs in
-    target-below _ _ _ _ (given .pre .ok) (given .pre .here) _ _ _ (after-index-at .index-at .ensures) (after-sums-of .sums-of .ensures)
-    (best-of c .best-part .ensures) (c .if1 .left)
+    let given : tie.Start = search needs in (
+      own-in (best-of c),
+      target-below _ _ _ _ (given .pre .ok) (given .pre .here) _ _ _ (after-index-at .index-at .ensures) (after-sums-of .sums-of .ensures)
+          (best-of c .best-part .ensures) (c .if1 .left),
+    )
 
 mul-load : tie.Need-mul-load
-mul-load c = omega (arith, target-in c)
+mul-load c = omega (arith, both-in c)
 
 element-copy-out-load : tie.Need-element-copy-out-load
-element-copy-out-load c = target-in c
+element-copy-out-load c = omega (arith, both-in c)
 
 mul-wide : tie.Need-mul-wide
 mul-wide c = search needs
@@ -87,12 +89,12 @@ add-load c =
 mul-if2 : tie.Need-mul-if2
 mul-if2 c =
     let gaining : tie.Else1 = search needs in
-    omega (arith, target-in gaining)
+    omega (arith, both-in gaining)
 
 element-copy-out-if2 : tie.Need-element-copy-out-if2
 element-copy-out-if2 c =
     let gaining : tie.Else1 = search needs in
-    target-in gaining
+    omega (arith, both-in gaining)
 
 returns-2 : tie.Need-returns-2
 returns-2 c =
@@ -110,7 +112,7 @@ returns-2 c =
 cast-t28 : tie.Need-cast-t28
 cast-t28 c =
     let gaining : tie.Else1 = search needs in
-    omega (arith, target-in gaining)
+    omega (arith, both-in gaining)
 
 sub-t25 : tie.Need-sub-t25
 sub-t25 c = search needs

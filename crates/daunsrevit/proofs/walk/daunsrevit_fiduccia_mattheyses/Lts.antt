@@ -100,7 +100,10 @@ abbrev pub type·16 : Syntax.Ty
 type·16 = Syntax.tyRef (Syntax.named 8) Syntax.mut (Syntax.tyInt Syntax.w32)
 
 abbrev pub type·17 : Syntax.Ty
-type·17 = Syntax.tyStruct (List._∷_ 102 (List._∷_ 105 (List._∷_ 100 (List._∷_ 117 (List._∷_ 99 (List._∷_ 99 (List._∷_ 105 (List._∷_ 97 (List._∷_ 95 (List._∷_ 109 (List._∷_ 97 (List._∷_ 116 (List._∷_ 116 (List._∷_ 104 (List._∷_ 101 (List._∷_ 121 (List._∷_ 115 (List._∷_ 101 (List._∷_ 115 (List._∷_ 58 (List._∷_ 58 (List._∷_ 83 (List._∷_ 101 (List._∷_ 116 (List._∷_ 116 (List._∷_ 105 (List._∷_ 110 (List._∷_ 103 (List._∷_ 115 List.[]))))))))))))))))))))))))))))) (Syntax.tcons (Syntax.tyInt Syntax.w32) (Syntax.tcons (Syntax.tyInt Syntax.w32) (Syntax.tcons (Syntax.tyInt Syntax.w32) (Syntax.tcons (Syntax.tyInt Syntax.w32) (Syntax.tcons (Syntax.tyInt Syntax.w32) (Syntax.tcons (Syntax.tyFloat Ieee.binary64) Syntax.tnil))))))
+type·17 = Syntax.tyStruct (List._∷_ 105 (List._∷_ 109 (List._∷_ 98 (List._∷_ 97 (List._∷_ 108 (List._∷_ 97 (List._∷_ 110 (List._∷_ 99 (List._∷_ 101 (List._∷_ 58 (List._∷_ 58 (List._∷_ 67 (List._∷_ 101 (List._∷_ 105 (List._∷_ 108 (List._∷_ 105 (List._∷_ 110 (List._∷_ 103 List.[])))))))))))))))))) (Syntax.tcons (Syntax.tyInt Syntax.w32) (Syntax.tcons (Syntax.tyInt Syntax.w32) (Syntax.tcons (Syntax.tyFloat Ieee.binary64) (Syntax.tcons (Syntax.tyArray (Syntax.tyInt Syntax.w32) 16) Syntax.tnil))))
+
+abbrev pub type·18 : Syntax.Ty
+type·18 = Syntax.tyStruct (List._∷_ 102 (List._∷_ 105 (List._∷_ 100 (List._∷_ 117 (List._∷_ 99 (List._∷_ 99 (List._∷_ 105 (List._∷_ 97 (List._∷_ 95 (List._∷_ 109 (List._∷_ 97 (List._∷_ 116 (List._∷_ 116 (List._∷_ 104 (List._∷_ 101 (List._∷_ 121 (List._∷_ 115 (List._∷_ 101 (List._∷_ 115 (List._∷_ 58 (List._∷_ 58 (List._∷_ 83 (List._∷_ 101 (List._∷_ 116 (List._∷_ 116 (List._∷_ 105 (List._∷_ 110 (List._∷_ 103 (List._∷_ 115 List.[]))))))))))))))))))))))))))))) (Syntax.tcons (Syntax.tyInt Syntax.w32) (Syntax.tcons (Syntax.tyInt Syntax.w32) (Syntax.tcons (Syntax.tyInt Syntax.w32) (Syntax.tcons type·17 Syntax.tnil))))
 
 abbrev pub row·0 : Row.Entry
 row·0 = (0, Rows.any-gone type·7)
@@ -169,7 +172,7 @@ abbrev pub row·21 : Row.Entry
 row·21 = (0, Rows.whole (Declared.row Report.the-type))
 
 abbrev pub row·22 : Row.Entry
-row·22 = (10, Rows.any-gone type·17)
+row·22 = (10, Rows.any-gone type·18)
 
 abbrev pub row·23 : Row.Entry
 row·23 = (5, Relend.mslice-owed (Referent.rtF (Referent.fInt Syntax.w32)) type·12 4 9 Row.off)
@@ -536,7 +539,7 @@ module _ (claims· : Claims) where
   s22 = Call.callB ps·0 r·0 (claims· .0) (claims· .1) T23 (record { pos = 1; ty = Syntax.tyRef (Syntax.named 0) Syntax.imm (Syntax.tyInt Syntax.w32); ref = λ x. x }, (record { pos = 2; ty = Syntax.tyRef (Syntax.named 1) Syntax.imm (Syntax.tyInt Syntax.w32); ref = λ x. x }, (record { pos = 3; ty = Syntax.tyRef (Syntax.named 2) Syntax.imm (Syntax.tyInt Syntax.w32); ref = λ x. x }, (record { pos = 4; ty = Syntax.tyRef (Syntax.named 3) Syntax.imm (Syntax.tyInt Syntax.w32); ref = λ x. x }, (record { pos = 12; ty = Syntax.tyRef Syntax.erased Syntax.mut (Syntax.tyInt Syntax.w32); ref = λ x. x }, (record { pos = 14; ty = Syntax.tyRef Syntax.erased Syntax.mut (Syntax.tyInt Syntax.w64); ref = λ x. x }, (record { pos = 16; ty = Syntax.tyRef Syntax.erased Syntax.mut MoveTy.behind; ref = λ x. x }, (record { pos = 18; ty = Syntax.tyRef Syntax.erased Syntax.mut (Syntax.tyInt Syntax.w32); ref = λ x. x }, (record { pos = 20; ty = Syntax.tyRef Syntax.erased Syntax.mut (Syntax.tyInt Syntax.w32); ref = λ x. x }, (record { pos = 10; st = List.[]; d = 0; at = λ x. x }, tt)))))))))) 0 (List._∷_ 0 (List._∷_ 1 (List._∷_ 2 (List._∷_ 3 (List._∷_ 9 (List._∷_ 10 (List._∷_ 11 (List._∷_ 12 (List._∷_ 13 List.[]))))))))) type·7
 
   abbrev s23 : Typed.Mo T24 → Typed.Mo T25
-  s23 = Scalar.n-room T24 10 type·17
+  s23 = Scalar.n-room T24 10 type·18
 
   abbrev s25 : Typed.Both T25 T27
   s25 = Relend.k-back-sl (Referent.rtF (Referent.fInt Syntax.w32)) T25 12 5 4 9 type·12 type·0 Row.off (λ x. x) λ x. x
@@ -971,7 +974,7 @@ module _ (claims· : Claims) where
           d18 = Typed.g-pre 𝓤 H A W 𝓣 E G25 G26 b11 Δ0 (λ Ψ. Ψ) at17 (Lifetime.g-end 𝓤 H A W E G25 9 Path'.refl) d17
 
           d19 : Typed.Typed 𝓤 H A 𝓣 E G24 b11 Δ0 at19
-          d19 = Typed.g-pre 𝓤 H A W 𝓣 E G24 G25 b11 Δ0 (Typed.pass T24 T25 s23) at18 (Scalar.g-room 𝓤 H A W E G24 10 type·17 (Local.room-whole 𝓤 H A W (Declared.row Settings.the-type) type·17 Path'.refl)) d18
+          d19 = Typed.g-pre 𝓤 H A W 𝓣 E G24 G25 b11 Δ0 (Typed.pass T24 T25 s23) at18 (Scalar.g-room 𝓤 H A W E G24 10 type·18 (Local.room-whole 𝓤 H A W (Declared.row Settings.the-type) type·18 Path'.refl)) d18
 
           d20 : Typed.Typed 𝓤 H A 𝓣 E G23 b12 Δ0 at20
           d20 = Typed.s-seq 𝓤 H A W 𝓣 E G23 G24 b10 b11 Δ0 (Typed.both s22) at19 (Plain.t-call-plain 𝓤 H A W 𝓣 9 ps·0 r·0 (claims· .0) (claims· .1) "fiduccia_mattheyses::fiduccia_mattheyses" known E (λ pos β. β) G23 (record { pos = 1; ty = Syntax.tyRef (Syntax.named 0) Syntax.imm (Syntax.tyInt Syntax.w32); ref = λ x. x }, (record { pos = 2; ty = Syntax.tyRef (Syntax.named 1) Syntax.imm (Syntax.tyInt Syntax.w32); ref = λ x. x }, (record { pos = 3; ty = Syntax.tyRef (Syntax.named 2) Syntax.imm (Syntax.tyInt Syntax.w32); ref = λ x. x }, (record { pos = 4; ty = Syntax.tyRef (Syntax.named 3) Syntax.imm (Syntax.tyInt Syntax.w32); ref = λ x. x }, (record { pos = 12; ty = Syntax.tyRef Syntax.erased Syntax.mut (Syntax.tyInt Syntax.w32); ref = λ x. x }, (record { pos = 14; ty = Syntax.tyRef Syntax.erased Syntax.mut (Syntax.tyInt Syntax.w64); ref = λ x. x }, (record { pos = 16; ty = Syntax.tyRef Syntax.erased Syntax.mut MoveTy.behind; ref = λ x. x }, (record { pos = 18; ty = Syntax.tyRef Syntax.erased Syntax.mut (Syntax.tyInt Syntax.w32); ref = λ x. x }, (record { pos = 20; ty = Syntax.tyRef Syntax.erased Syntax.mut (Syntax.tyInt Syntax.w32); ref = λ x. x }, (record { pos = 10; st = List.[]; d = 0; at = λ x. x }, tt)))))))))) 0 (List._∷_ 0 (List._∷_ 1 (List._∷_ 2 (List._∷_ 3 (List._∷_ 9 (List._∷_ 10 (List._∷_ 11 (List._∷_ 12 (List._∷_ 13 List.[]))))))))) (Call.sub-id 𝓤 H A W (G23 .slots)) (ShrSlice.spares-sslice 𝓤 H A W (Referent.rtF (Referent.fInt Syntax.w32)) type·8 0, Shared.reads-sslice 𝓤 H A W (Referent.rtF (Referent.fInt Syntax.w32)) type·8 0, Path'.refl, (ShrSlice.spares-sslice 𝓤 H A W (Referent.rtF (Referent.fInt Syntax.w32)) type·9 1, Shared.reads-sslice 𝓤 H A W (Referent.rtF (Referent.fInt Syntax.w32)) type·9 1, Path'.refl, (ShrSlice.spares-sslice 𝓤 H A W (Referent.rtF (Referent.fInt Syntax.w32)) type·10 2, Shared.reads-sslice 𝓤 H A W (Referent.rtF (Referent.fInt Syntax.w32)) type·10 2, Path'.refl, (ShrSlice.spares-sslice 𝓤 H A W (Referent.rtF (Referent.fInt Syntax.w32)) type·11 3, Shared.reads-sslice 𝓤 H A W (Referent.rtF (Referent.fInt Syntax.w32)) type·11 3, Path'.refl, (Reads.as-is 𝓤 H A (Mut.mslice (Referent.rtF (Referent.fInt Syntax.w32)) type·0 9), Mut.reads-mslice 𝓤 H A W (Referent.rtF (Referent.fInt Syntax.w32)) type·0 9, Path'.refl, (Reads.as-is 𝓤 H A (Mut.mslice (Signed.SInt Syntax.w64) type·2 10), Mut.reads-mslice 𝓤 H A W (Signed.SInt Syntax.w64) type·2 10, Path'.refl, (Reads.as-is 𝓤 H A (Mut.mslice MoveTy.R type·4 11), Mut.reads-mslice 𝓤 H A W MoveTy.R type·4 11, Path'.refl, (Reads.as-is 𝓤 H A (Mut.mslice (Referent.rtF (Referent.fInt Syntax.w32)) type·0 12), Mut.reads-mslice 𝓤 H A W (Referent.rtF (Referent.fInt Syntax.w32)) type·0 12, Path'.refl, (Reads.as-is 𝓤 H A (Mut.mslice (Referent.rtF (Referent.fInt Syntax.w32)) type·0 13), Mut.reads-mslice 𝓤 H A W (Referent.rtF (Referent.fInt Syntax.w32)) type·0 13, Path'.refl, ((Yields.yields-copy 𝓤 H A W (λ ρ. Unit) (Declared.row Settings.the-type) Path'.refl (Copies.cStruct Settings.the-type Laws'.the-laws Laws'.the-copy .copy 𝓤 H A W) (Rows.whole (Declared.row Settings.the-type)) (λ x. x) (λ x. x) (λ ρ told. Local.mem-whole 𝓤 H A W (Declared.row Settings.the-type) ρ) λ ρ told. Local.whole-mem 𝓤 H A W (Declared.row Settings.the-type) ρ, Path'.refl), tt)))))))))) (Reads.room-gone 𝓤 H A type·7) (tt, (tt, (tt, (tt, (tt, (tt, (tt, (tt, (tt, tt))))))))) Path'.refl) d19

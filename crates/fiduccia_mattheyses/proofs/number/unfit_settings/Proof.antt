@@ -9,9 +9,6 @@ returns : tie.Need-returns
 unfolding unfit
 returns c = rw (lt-ltb _ _ (c .if1 .taken))
 
-asked-ceiling-requires : tie.Need-asked-ceiling-requires
-asked-ceiling-requires c κs = search needs
-
 unfit-choice-requires : tie.Need-unfit-choice-requires
 unfit-choice-requires c κs = search needs
 
@@ -19,8 +16,7 @@ returns-2 : tie.Need-returns-2
 unfolding unfit
 returns-2 c =
     let few : tie.Else1 = search needs in
-    let asked : tie.After-asked-ceiling = search needs in
-    rw (le-ltb _ _ (few .if1 .left), ← asked .asked-ceiling .ensures) (c .unfit-choice .ensures)
+    rw (le-ltb _ _ (few .if1 .left)) (c .unfit-choice .ensures)
 
 pub unfit-settings-spec : {M : Type 1} → statement M
-unfit-settings-spec = tie.close (tie.spec returns asked-ceiling-requires unfit-choice-requires returns-2)
+unfit-settings-spec = tie.close (tie.spec returns unfit-choice-requires returns-2)

@@ -19,14 +19,11 @@ total-weight-requires c κs =
     let given : tie.Start = search needs in
     given .pre .sound .light
 
-asked-ceiling-requires : tie.Need-asked-ceiling-requires
-asked-ceiling-requires c κs = search needs
-
 ceilings-of-requires : tie.Need-ceilings-of-requires
 ceilings-of-requires c κs =
     let weighed : tie.After-total-weight = search needs in
     let given : tie.Start = search needs in
-    (rw (weighed .total-weight .ensures) (given .pre .sound .light), search needs, search needs, rw (c .asked-ceiling .ensures) (given .pre .fit))
+    (rw (weighed .total-weight .ensures) (given .pre .sound .light), search needs, search needs, given .pre .fit)
 
 wide-requires : tie.Need-wide-requires
 wide-requires c κs = search needs
@@ -43,10 +40,9 @@ returns : tie.Need-returns
 returns c =
     let indexed : tie.After-index = search needs in
     let capped : tie.After-ceilings-of = search needs in
-    let asked : tie.After-asked-ceiling = search needs in
     let weighed : tie.After-total-weight = search needs in
     let loaded : tie.After-parts-load = search needs in
-    begins _ _ (start-of loaded .pre) _ _ _ (loaded .parts-load .ensures) (weighed .total-weight .ensures) (asked .asked-ceiling .ensures) _
+    begins _ _ (start-of loaded .pre) _ _ (loaded .parts-load .ensures) (weighed .total-weight .ensures) _
     (capped .ceilings-of .ensures) (indexed .before .wide .ensures) (indexed .index .ensures) refl (c .cut-of .ensures)
 
 pub begin-run-spec : {M : Type 1} → statement M
@@ -55,7 +51,6 @@ begin-run-spec =
     (tie.spec
     parts-load-requires
     total-weight-requires
-    asked-ceiling-requires
     ceilings-of-requires
     wide-requires
     index-requires

@@ -130,7 +130,10 @@ abbrev pub type·20 : Syntax.Ty
 type·20 = Syntax.tyRef (Syntax.named 8) Syntax.mut (Syntax.tyInt Syntax.w32)
 
 abbrev pub type·21 : Syntax.Ty
-type·21 = Syntax.tyStruct (List._∷_ 102 (List._∷_ 105 (List._∷_ 100 (List._∷_ 117 (List._∷_ 99 (List._∷_ 99 (List._∷_ 105 (List._∷_ 97 (List._∷_ 95 (List._∷_ 109 (List._∷_ 97 (List._∷_ 116 (List._∷_ 116 (List._∷_ 104 (List._∷_ 101 (List._∷_ 121 (List._∷_ 115 (List._∷_ 101 (List._∷_ 115 (List._∷_ 58 (List._∷_ 58 (List._∷_ 83 (List._∷_ 101 (List._∷_ 116 (List._∷_ 116 (List._∷_ 105 (List._∷_ 110 (List._∷_ 103 (List._∷_ 115 List.[]))))))))))))))))))))))))))))) (Syntax.tcons (Syntax.tyInt Syntax.w32) (Syntax.tcons (Syntax.tyInt Syntax.w32) (Syntax.tcons (Syntax.tyInt Syntax.w32) (Syntax.tcons (Syntax.tyInt Syntax.w32) (Syntax.tcons (Syntax.tyInt Syntax.w32) (Syntax.tcons (Syntax.tyFloat Ieee.binary64) Syntax.tnil))))))
+type·21 = Syntax.tyStruct (List._∷_ 105 (List._∷_ 109 (List._∷_ 98 (List._∷_ 97 (List._∷_ 108 (List._∷_ 97 (List._∷_ 110 (List._∷_ 99 (List._∷_ 101 (List._∷_ 58 (List._∷_ 58 (List._∷_ 67 (List._∷_ 101 (List._∷_ 105 (List._∷_ 108 (List._∷_ 105 (List._∷_ 110 (List._∷_ 103 List.[])))))))))))))))))) (Syntax.tcons (Syntax.tyInt Syntax.w32) (Syntax.tcons (Syntax.tyInt Syntax.w32) (Syntax.tcons (Syntax.tyFloat Ieee.binary64) (Syntax.tcons (Syntax.tyArray (Syntax.tyInt Syntax.w32) 16) Syntax.tnil))))
+
+abbrev pub type·22 : Syntax.Ty
+type·22 = Syntax.tyStruct (List._∷_ 102 (List._∷_ 105 (List._∷_ 100 (List._∷_ 117 (List._∷_ 99 (List._∷_ 99 (List._∷_ 105 (List._∷_ 97 (List._∷_ 95 (List._∷_ 109 (List._∷_ 97 (List._∷_ 116 (List._∷_ 116 (List._∷_ 104 (List._∷_ 101 (List._∷_ 121 (List._∷_ 115 (List._∷_ 101 (List._∷_ 115 (List._∷_ 58 (List._∷_ 58 (List._∷_ 83 (List._∷_ 101 (List._∷_ 116 (List._∷_ 116 (List._∷_ 105 (List._∷_ 110 (List._∷_ 103 (List._∷_ 115 List.[]))))))))))))))))))))))))))))) (Syntax.tcons (Syntax.tyInt Syntax.w32) (Syntax.tcons (Syntax.tyInt Syntax.w32) (Syntax.tcons (Syntax.tyInt Syntax.w32) (Syntax.tcons type·21 Syntax.tnil))))
 
 abbrev pub row·0 : Row.Entry
 row·0 = (0, Rows.any-gone type·11)
@@ -229,7 +232,7 @@ abbrev pub row·31 : Row.Entry
 row·31 = (0, Rows.whole (Declared'.row Report.the-type))
 
 abbrev pub row·32 : Row.Entry
-row·32 = (10, Rows.any-gone type·21)
+row·32 = (10, Rows.any-gone type·22)
 
 abbrev pub row·33 : Row.Entry
 row·33 = (15, Rows.sc-here (Row.sInt Syntax.w64))
@@ -890,7 +893,7 @@ module _ (claims· : Claims) where
   s27 = Known.k-known-told Call.enum Laws.the-laws 0 T29 12 λ x. x
 
   abbrev s28 : Typed.Mo T30 → Typed.Mo T31
-  s28 = Scalar.n-room T30 10 type·21
+  s28 = Scalar.n-room T30 10 type·22
 
   abbrev s29 : Typed.Mo T31 → Typed.Mo T32
   s29 = Scalar.n-use T31 (Scalar.oFld 12 (List._∷_ (Syntax.variant 0) (List._∷_ (Syntax.field 1) List.[])) (Syntax.tyInt Syntax.w32) 4 λ v. Laws.the-laws .0 .0 .val (v .0)) 13 (Rows.sc-here (Row.sInt Syntax.w32)) (Row.sInt Syntax.w32 .of)
@@ -941,7 +944,7 @@ module _ (claims· : Claims) where
   s49 = Call'.callB ps·1 r·1 (claims· .2) (claims· .3) T51 (record { pos = 1; ty = Syntax.tyRef (Syntax.named 0) Syntax.imm (Syntax.tyInt Syntax.w32); ref = λ x. x }, (record { pos = 2; ty = Syntax.tyRef (Syntax.named 1) Syntax.imm (Syntax.tyInt Syntax.w32); ref = λ x. x }, (record { pos = 3; ty = Syntax.tyRef (Syntax.named 2) Syntax.imm (Syntax.tyInt Syntax.w32); ref = λ x. x }, (record { pos = 4; ty = Syntax.tyRef (Syntax.named 3) Syntax.imm (Syntax.tyInt Syntax.w32); ref = λ x. x }, (record { pos = 22; ty = Syntax.tyRef Syntax.erased Syntax.mut (Syntax.tyInt Syntax.w32); ref = λ x. x }, (record { pos = 24; ty = Syntax.tyRef Syntax.erased Syntax.mut (Syntax.tyInt Syntax.w64); ref = λ x. x }, (record { pos = 26; ty = Syntax.tyRef Syntax.erased Syntax.mut MoveTy.behind; ref = λ x. x }, (record { pos = 28; ty = Syntax.tyRef Syntax.erased Syntax.mut (Syntax.tyInt Syntax.w32); ref = λ x. x }, (record { pos = 30; ty = Syntax.tyRef Syntax.erased Syntax.mut (Syntax.tyInt Syntax.w32); ref = λ x. x }, (record { pos = 10; st = List.[]; d = 0; at = λ x. x }, tt)))))))))) 0 (List._∷_ 0 (List._∷_ 1 (List._∷_ 2 (List._∷_ 3 (List._∷_ 10 (List._∷_ 11 (List._∷_ 12 (List._∷_ 13 (List._∷_ 14 List.[]))))))))) type·11
 
   abbrev s50 : Typed.Mo T52 → Typed.Mo T53
-  s50 = Scalar.n-room T52 10 type·21
+  s50 = Scalar.n-room T52 10 type·22
 
   abbrev s52 : Typed.Both T53 T55
   s52 = Relend.k-back-sl (Referent.rtF (Referent.fInt Syntax.w32)) T53 22 5 4 10 type·16 type·4 Row.off (λ x. x) λ x. x
@@ -1532,7 +1535,7 @@ module _ (claims· : Claims) where
           d1 = Typed.s-seq 𝓤 H A W 𝓣 E G31 G32 b8 b9 Δ1 (Typed.pass T31 T32 s29) at0 (Scalar.t-use 𝓤 H A W E 𝓣 G31 (Scalar.oFld 12 (List._∷_ (Syntax.variant 0) (List._∷_ (Syntax.field 1) List.[])) (Syntax.tyInt Syntax.w32) 4 λ v. Laws.the-laws .0 .0 .val (v .0)) 13 (Rows.sc-here (Row.sInt Syntax.w32)) (Syntax.tyInt Syntax.w32) (Row.valS (Row.sInt Syntax.w32)) (Row.sInt Syntax.w32 .of) (Match.reads-payload 𝓤 H A W Call.enum Laws.the-laws 0 Path'.refl Path'.refl (λ v. Val.vcons (Laws.the-laws .0 .0 .val (v .0)) (Val.vcons (Laws.the-laws .0 .1 .0 .val (v .1 .0)) Val.vnil)) (λ v. Path'.refl) 0 (Syntax.tyInt Syntax.w32) 4 Path'.refl, Path'.refl) (Reads.room-gone 𝓤 H A (Syntax.tyInt Syntax.w32)) (Scalar.holds-sc 𝓤 H A W (Row.sInt Syntax.w32)) Path'.refl (λ u. Path'.refl) λ u. tt) d0
 
           d2 : Typed.Typed 𝓤 H A 𝓣 E G30 b10 Δ1 at2
-          d2 = Typed.g-pre 𝓤 H A W 𝓣 E G30 G31 b10 Δ1 (Typed.pass T30 T31 s28) at1 (Scalar.g-room 𝓤 H A W E G30 10 type·21 (Local.room-whole 𝓤 H A W (Declared'.row Settings.the-type) type·21 Path'.refl)) d1
+          d2 = Typed.g-pre 𝓤 H A W 𝓣 E G30 G31 b10 Δ1 (Typed.pass T30 T31 s28) at1 (Scalar.g-room 𝓤 H A W E G30 10 type·22 (Local.room-whole 𝓤 H A W (Declared'.row Settings.the-type) type·22 Path'.refl)) d1
 
           d3 : Typed.Typed 𝓤 H A 𝓣 E G29 b10 Δ1 at3
           d3 = Typed.g-pre 𝓤 H A W 𝓣 E G29 G30 b10 Δ1 (Typed.give s27) at2 (Known.g-known-told 𝓤 H A W E Call.enum 0 G29 12 Laws.the-laws (λ x. x) (Reads.as-is 𝓤 H A (Rows.whole (Known.Known Call.enum 0)))) d2
@@ -1598,7 +1601,7 @@ module _ (claims· : Claims) where
           d23 = Typed.g-pre 𝓤 H A W 𝓣 E G53 G54 b22 Δ1 (λ Ψ. Ψ) at22 (Lifetime.g-end 𝓤 H A W E G53 10 Path'.refl) d22
 
           d24 : Typed.Typed 𝓤 H A 𝓣 E G52 b22 Δ1 at24
-          d24 = Typed.g-pre 𝓤 H A W 𝓣 E G52 G53 b22 Δ1 (Typed.pass T52 T53 s50) at23 (Scalar.g-room 𝓤 H A W E G52 10 type·21 (Local.room-whole 𝓤 H A W (Declared'.row Settings.the-type) type·21 Path'.refl)) d23
+          d24 = Typed.g-pre 𝓤 H A W 𝓣 E G52 G53 b22 Δ1 (Typed.pass T52 T53 s50) at23 (Scalar.g-room 𝓤 H A W E G52 10 type·22 (Local.room-whole 𝓤 H A W (Declared'.row Settings.the-type) type·22 Path'.refl)) d23
 
           d25 : Typed.Typed 𝓤 H A 𝓣 E G51 b23 Δ1 at25
           d25 = Typed.s-seq 𝓤 H A W 𝓣 E G51 G52 b21 b22 Δ1 (Typed.both s49) at24 (Plain.t-call-plain 𝓤 H A W 𝓣 9 ps·1 r·1 (claims· .2) (claims· .3) "fiduccia_mattheyses::refine" (known .1) E (λ pos β. β) G51 (record { pos = 1; ty = Syntax.tyRef (Syntax.named 0) Syntax.imm (Syntax.tyInt Syntax.w32); ref = λ x. x }, (record { pos = 2; ty = Syntax.tyRef (Syntax.named 1) Syntax.imm (Syntax.tyInt Syntax.w32); ref = λ x. x }, (record { pos = 3; ty = Syntax.tyRef (Syntax.named 2) Syntax.imm (Syntax.tyInt Syntax.w32); ref = λ x. x }, (record { pos = 4; ty = Syntax.tyRef (Syntax.named 3) Syntax.imm (Syntax.tyInt Syntax.w32); ref = λ x. x }, (record { pos = 22; ty = Syntax.tyRef Syntax.erased Syntax.mut (Syntax.tyInt Syntax.w32); ref = λ x. x }, (record { pos = 24; ty = Syntax.tyRef Syntax.erased Syntax.mut (Syntax.tyInt Syntax.w64); ref = λ x. x }, (record { pos = 26; ty = Syntax.tyRef Syntax.erased Syntax.mut MoveTy.behind; ref = λ x. x }, (record { pos = 28; ty = Syntax.tyRef Syntax.erased Syntax.mut (Syntax.tyInt Syntax.w32); ref = λ x. x }, (record { pos = 30; ty = Syntax.tyRef Syntax.erased Syntax.mut (Syntax.tyInt Syntax.w32); ref = λ x. x }, (record { pos = 10; st = List.[]; d = 0; at = λ x. x }, tt)))))))))) 0 (List._∷_ 0 (List._∷_ 1 (List._∷_ 2 (List._∷_ 3 (List._∷_ 10 (List._∷_ 11 (List._∷_ 12 (List._∷_ 13 (List._∷_ 14 List.[]))))))))) (Call'.sub-id 𝓤 H A W (G51 .slots)) (ShrSlice.spares-sslice 𝓤 H A W (Referent.rtF (Referent.fInt Syntax.w32)) type·12 0, Shared.reads-sslice 𝓤 H A W (Referent.rtF (Referent.fInt Syntax.w32)) type·12 0, Path'.refl, (ShrSlice.spares-sslice 𝓤 H A W (Referent.rtF (Referent.fInt Syntax.w32)) type·13 1, Shared.reads-sslice 𝓤 H A W (Referent.rtF (Referent.fInt Syntax.w32)) type·13 1, Path'.refl, (ShrSlice.spares-sslice 𝓤 H A W (Referent.rtF (Referent.fInt Syntax.w32)) type·14 2, Shared.reads-sslice 𝓤 H A W (Referent.rtF (Referent.fInt Syntax.w32)) type·14 2, Path'.refl, (ShrSlice.spares-sslice 𝓤 H A W (Referent.rtF (Referent.fInt Syntax.w32)) type·15 3, Shared.reads-sslice 𝓤 H A W (Referent.rtF (Referent.fInt Syntax.w32)) type·15 3, Path'.refl, (Reads.as-is 𝓤 H A (Mut.mslice (Referent.rtF (Referent.fInt Syntax.w32)) type·4 10), Mut.reads-mslice 𝓤 H A W (Referent.rtF (Referent.fInt Syntax.w32)) type·4 10, Path'.refl, (Reads.as-is 𝓤 H A (Mut.mslice (Signed.SInt Syntax.w64) type·6 11), Mut.reads-mslice 𝓤 H A W (Signed.SInt Syntax.w64) type·6 11, Path'.refl, (Reads.as-is 𝓤 H A (Mut.mslice MoveTy.R type·8 12), Mut.reads-mslice 𝓤 H A W MoveTy.R type·8 12, Path'.refl, (Reads.as-is 𝓤 H A (Mut.mslice (Referent.rtF (Referent.fInt Syntax.w32)) type·4 13), Mut.reads-mslice 𝓤 H A W (Referent.rtF (Referent.fInt Syntax.w32)) type·4 13, Path'.refl, (Reads.as-is 𝓤 H A (Mut.mslice (Referent.rtF (Referent.fInt Syntax.w32)) type·4 14), Mut.reads-mslice 𝓤 H A W (Referent.rtF (Referent.fInt Syntax.w32)) type·4 14, Path'.refl, ((Yields.yields-copy 𝓤 H A W (λ ρ. Unit) (Declared'.row Settings.the-type) Path'.refl (Copies.cStruct Settings.the-type Laws'3.the-laws Laws'3.the-copy .copy 𝓤 H A W) (Rows.whole (Declared'.row Settings.the-type)) (λ x. x) (λ x. x) (λ ρ told. Local.mem-whole 𝓤 H A W (Declared'.row Settings.the-type) ρ) λ ρ told. Local.whole-mem 𝓤 H A W (Declared'.row Settings.the-type) ρ, Path'.refl), tt)))))))))) (Reads.room-gone 𝓤 H A type·11) (tt, (tt, (tt, (tt, (tt, (tt, (tt, (tt, (tt, tt))))))))) Path'.refl) d24

@@ -127,7 +127,10 @@ abbrev pub type·22 : Syntax.Ty
 type·22 = Syntax.tyRef (Syntax.named 8) Syntax.mut (Syntax.tyInt Syntax.w32)
 
 abbrev pub type·23 : Syntax.Ty
-type·23 = Syntax.tyStruct (List._∷_ 102 (List._∷_ 105 (List._∷_ 100 (List._∷_ 117 (List._∷_ 99 (List._∷_ 99 (List._∷_ 105 (List._∷_ 97 (List._∷_ 95 (List._∷_ 109 (List._∷_ 97 (List._∷_ 116 (List._∷_ 116 (List._∷_ 104 (List._∷_ 101 (List._∷_ 121 (List._∷_ 115 (List._∷_ 101 (List._∷_ 115 (List._∷_ 58 (List._∷_ 58 (List._∷_ 83 (List._∷_ 101 (List._∷_ 116 (List._∷_ 116 (List._∷_ 105 (List._∷_ 110 (List._∷_ 103 (List._∷_ 115 List.[]))))))))))))))))))))))))))))) (Syntax.tcons (Syntax.tyInt Syntax.w32) (Syntax.tcons (Syntax.tyInt Syntax.w32) (Syntax.tcons (Syntax.tyInt Syntax.w32) (Syntax.tcons (Syntax.tyInt Syntax.w32) (Syntax.tcons (Syntax.tyInt Syntax.w32) (Syntax.tcons (Syntax.tyFloat Ieee.binary64) Syntax.tnil))))))
+type·23 = Syntax.tyStruct (List._∷_ 105 (List._∷_ 109 (List._∷_ 98 (List._∷_ 97 (List._∷_ 108 (List._∷_ 97 (List._∷_ 110 (List._∷_ 99 (List._∷_ 101 (List._∷_ 58 (List._∷_ 58 (List._∷_ 67 (List._∷_ 101 (List._∷_ 105 (List._∷_ 108 (List._∷_ 105 (List._∷_ 110 (List._∷_ 103 List.[])))))))))))))))))) (Syntax.tcons (Syntax.tyInt Syntax.w32) (Syntax.tcons (Syntax.tyInt Syntax.w32) (Syntax.tcons (Syntax.tyFloat Ieee.binary64) (Syntax.tcons (Syntax.tyArray (Syntax.tyInt Syntax.w32) 16) Syntax.tnil))))
+
+abbrev pub type·24 : Syntax.Ty
+type·24 = Syntax.tyStruct (List._∷_ 102 (List._∷_ 105 (List._∷_ 100 (List._∷_ 117 (List._∷_ 99 (List._∷_ 99 (List._∷_ 105 (List._∷_ 97 (List._∷_ 95 (List._∷_ 109 (List._∷_ 97 (List._∷_ 116 (List._∷_ 116 (List._∷_ 104 (List._∷_ 101 (List._∷_ 121 (List._∷_ 115 (List._∷_ 101 (List._∷_ 115 (List._∷_ 58 (List._∷_ 58 (List._∷_ 83 (List._∷_ 101 (List._∷_ 116 (List._∷_ 116 (List._∷_ 105 (List._∷_ 110 (List._∷_ 103 (List._∷_ 115 List.[]))))))))))))))))))))))))))))) (Syntax.tcons (Syntax.tyInt Syntax.w32) (Syntax.tcons (Syntax.tyInt Syntax.w32) (Syntax.tcons (Syntax.tyInt Syntax.w32) (Syntax.tcons type·23 Syntax.tnil))))
 
 abbrev pub row·0 : Row.Entry
 row·0 = (0, Rows.any-gone type·13)
@@ -226,7 +229,7 @@ abbrev pub row·31 : Row.Entry
 row·31 = (0, Rows.whole (Declared.row Report.the-type))
 
 abbrev pub row·32 : Row.Entry
-row·32 = (10, Rows.any-gone type·23)
+row·32 = (10, Rows.any-gone type·24)
 
 abbrev pub row·33 : Row.Entry
 row·33 = (11, Rows.sc-here (Row.sInt Syntax.w64))
@@ -830,7 +833,7 @@ module _ (claims· : Claims) where
   s31 = Call.callB ps·1 r·1 (claims· .2) (claims· .3) T32 (record { pos = 1; ty = Syntax.tyRef (Syntax.named 0) Syntax.imm (Syntax.tyInt Syntax.w32); ref = λ x. x }, (record { pos = 2; ty = Syntax.tyRef (Syntax.named 1) Syntax.imm (Syntax.tyInt Syntax.w32); ref = λ x. x }, (record { pos = 3; ty = Syntax.tyRef (Syntax.named 2) Syntax.imm (Syntax.tyInt Syntax.w32); ref = λ x. x }, (record { pos = 4; ty = Syntax.tyRef (Syntax.named 3) Syntax.imm (Syntax.tyInt Syntax.w32); ref = λ x. x }, (record { pos = 17; ty = Syntax.tyRef Syntax.erased Syntax.mut (Syntax.tyInt Syntax.w32); ref = λ x. x }, (record { pos = 19; ty = Syntax.tyRef Syntax.erased Syntax.mut (Syntax.tyInt Syntax.w64); ref = λ x. x }, (record { pos = 21; ty = Syntax.tyRef Syntax.erased Syntax.mut MoveTy.behind; ref = λ x. x }, (record { pos = 23; ty = Syntax.tyRef Syntax.erased Syntax.mut (Syntax.tyInt Syntax.w32); ref = λ x. x }, (record { pos = 25; ty = Syntax.tyRef Syntax.erased Syntax.mut (Syntax.tyInt Syntax.w32); ref = λ x. x }, (record { pos = 12; st = List.[]; d = 0; at = λ x. x }, (Num.vFld 10 (List._∷_ (Syntax.field 0) List.[]) 0 λ x. Settings.struct .as-values x .0, tt))))))))))) 13 (List._∷_ 0 (List._∷_ 1 (List._∷_ 2 (List._∷_ 3 (List._∷_ 10 (List._∷_ 11 (List._∷_ 12 (List._∷_ 13 (List._∷_ 14 List.[]))))))))) type·4
 
   abbrev s32 : Typed.Mo T33 → Typed.Mo T34
-  s32 = Scalar.n-room T33 10 type·23
+  s32 = Scalar.n-room T33 10 type·24
 
   abbrev s34 : Typed.Both T34 T36
   s34 = Relend.k-back-sl (Referent.rtF (Referent.fInt Syntax.w32)) T34 17 5 4 10 type·18 type·7 Row.off (λ x. x) λ x. x
@@ -1547,7 +1550,7 @@ module _ (claims· : Claims) where
           d36 = Typed.g-pre 𝓤 H A W 𝓣 E G34 G35 b27 Δ0 (λ Ψ. Ψ) at35 (Lifetime.g-end 𝓤 H A W E G34 10 Path'.refl) d35
 
           d37 : Typed.Typed 𝓤 H A 𝓣 E G33 b27 Δ0 at37
-          d37 = Typed.g-pre 𝓤 H A W 𝓣 E G33 G34 b27 Δ0 (Typed.pass T33 T34 s32) at36 (Scalar.g-room 𝓤 H A W E G33 10 type·23 (Local.room-whole 𝓤 H A W (Declared.row Settings.the-type) type·23 Path'.refl)) d36
+          d37 = Typed.g-pre 𝓤 H A W 𝓣 E G33 G34 b27 Δ0 (Typed.pass T33 T34 s32) at36 (Scalar.g-room 𝓤 H A W E G33 10 type·24 (Local.room-whole 𝓤 H A W (Declared.row Settings.the-type) type·24 Path'.refl)) d36
 
           d38 : Typed.Typed 𝓤 H A 𝓣 E G32 b28 Δ0 at38
           d38 = Typed.s-seq 𝓤 H A W 𝓣 E G32 G33 b14 b27 Δ0 (Typed.both s31) at37 (Plain.t-call-plain 𝓤 H A W 𝓣 9 ps·1 r·1 (claims· .2) (claims· .3) "fiduccia_mattheyses::make_passes" (known .1) E (λ pos β. β) G32 (record { pos = 1; ty = Syntax.tyRef (Syntax.named 0) Syntax.imm (Syntax.tyInt Syntax.w32); ref = λ x. x }, (record { pos = 2; ty = Syntax.tyRef (Syntax.named 1) Syntax.imm (Syntax.tyInt Syntax.w32); ref = λ x. x }, (record { pos = 3; ty = Syntax.tyRef (Syntax.named 2) Syntax.imm (Syntax.tyInt Syntax.w32); ref = λ x. x }, (record { pos = 4; ty = Syntax.tyRef (Syntax.named 3) Syntax.imm (Syntax.tyInt Syntax.w32); ref = λ x. x }, (record { pos = 17; ty = Syntax.tyRef Syntax.erased Syntax.mut (Syntax.tyInt Syntax.w32); ref = λ x. x }, (record { pos = 19; ty = Syntax.tyRef Syntax.erased Syntax.mut (Syntax.tyInt Syntax.w64); ref = λ x. x }, (record { pos = 21; ty = Syntax.tyRef Syntax.erased Syntax.mut MoveTy.behind; ref = λ x. x }, (record { pos = 23; ty = Syntax.tyRef Syntax.erased Syntax.mut (Syntax.tyInt Syntax.w32); ref = λ x. x }, (record { pos = 25; ty = Syntax.tyRef Syntax.erased Syntax.mut (Syntax.tyInt Syntax.w32); ref = λ x. x }, (record { pos = 12; st = List.[]; d = 0; at = λ x. x }, (Num.vFld 10 (List._∷_ (Syntax.field 0) List.[]) 0 λ x. Settings.struct .as-values x .0, tt))))))))))) 13 (List._∷_ 0 (List._∷_ 1 (List._∷_ 2 (List._∷_ 3 (List._∷_ 10 (List._∷_ 11 (List._∷_ 12 (List._∷_ 13 (List._∷_ 14 List.[]))))))))) (Call.sub-id 𝓤 H A W (G32 .slots)) (ShrSlice.spares-sslice 𝓤 H A W (Referent.rtF (Referent.fInt Syntax.w32)) type·14 0, Shared.reads-sslice 𝓤 H A W (Referent.rtF (Referent.fInt Syntax.w32)) type·14 0, Path'.refl, (ShrSlice.spares-sslice 𝓤 H A W (Referent.rtF (Referent.fInt Syntax.w32)) type·15 1, Shared.reads-sslice 𝓤 H A W (Referent.rtF (Referent.fInt Syntax.w32)) type·15 1, Path'.refl, (ShrSlice.spares-sslice 𝓤 H A W (Referent.rtF (Referent.fInt Syntax.w32)) type·16 2, Shared.reads-sslice 𝓤 H A W (Referent.rtF (Referent.fInt Syntax.w32)) type·16 2, Path'.refl, (ShrSlice.spares-sslice 𝓤 H A W (Referent.rtF (Referent.fInt Syntax.w32)) type·17 3, Shared.reads-sslice 𝓤 H A W (Referent.rtF (Referent.fInt Syntax.w32)) type·17 3, Path'.refl, (Reads'.as-is 𝓤 H A (Mut.mslice (Referent.rtF (Referent.fInt Syntax.w32)) type·7 10), Mut.reads-mslice 𝓤 H A W (Referent.rtF (Referent.fInt Syntax.w32)) type·7 10, Path'.refl, (Reads'.as-is 𝓤 H A (Mut.mslice (Signed.SInt Syntax.w64) type·9 11), Mut.reads-mslice 𝓤 H A W (Signed.SInt Syntax.w64) type·9 11, Path'.refl, (Reads'.as-is 𝓤 H A (Mut.mslice MoveTy.R type·11 12), Mut.reads-mslice 𝓤 H A W MoveTy.R type·11 12, Path'.refl, (Reads'.as-is 𝓤 H A (Mut.mslice (Referent.rtF (Referent.fInt Syntax.w32)) type·7 13), Mut.reads-mslice 𝓤 H A W (Referent.rtF (Referent.fInt Syntax.w32)) type·7 13, Path'.refl, (Reads'.as-is 𝓤 H A (Mut.mslice (Referent.rtF (Referent.fInt Syntax.w32)) type·7 14), Mut.reads-mslice 𝓤 H A W (Referent.rtF (Referent.fInt Syntax.w32)) type·7 14, Path'.refl, ((Yields.yields-copy 𝓤 H A W (λ ρ. Unit) (Declared.row Begun.the-type) Path'.refl (Copies.cStruct Begun.the-type Laws.the-laws Laws.the-copy .copy 𝓤 H A W) (Rows.whole (Declared.row Begun.the-type)) (λ x. x) (λ x. x) (λ ρ told. Local.mem-whole 𝓤 H A W (Declared.row Begun.the-type) ρ) λ ρ told. Local.whole-mem 𝓤 H A W (Declared.row Begun.the-type) ρ, Path'.refl), ((Reads.reads-field 𝓤 H A W Settings.the-type Laws'3.the-laws 0 (Syntax.tyInt Syntax.w32) 0 Path'.refl, Path'.refl), tt))))))))))) (Reads'.room-gone 𝓤 H A type·4) (tt, (tt, (tt, (tt, (tt, (tt, (tt, (tt, (tt, tt))))))))) Path'.refl) d37

@@ -109,7 +109,10 @@ module _ (count : Nat.ℕ) (maker : Syntax.Name) (machine : Dec'.T¹ (Dec'.ltb c
   type·16 = Syntax.tyRef (Syntax.named 7) Syntax.mut (Syntax.tyInt Syntax.w32)
 
   abbrev pub type·17 : Syntax.Ty
-  type·17 = Syntax.tyStruct (List._∷_ 102 (List._∷_ 105 (List._∷_ 100 (List._∷_ 117 (List._∷_ 99 (List._∷_ 99 (List._∷_ 105 (List._∷_ 97 (List._∷_ 95 (List._∷_ 109 (List._∷_ 97 (List._∷_ 116 (List._∷_ 116 (List._∷_ 104 (List._∷_ 101 (List._∷_ 121 (List._∷_ 115 (List._∷_ 101 (List._∷_ 115 (List._∷_ 58 (List._∷_ 58 (List._∷_ 83 (List._∷_ 101 (List._∷_ 116 (List._∷_ 116 (List._∷_ 105 (List._∷_ 110 (List._∷_ 103 (List._∷_ 115 List.[]))))))))))))))))))))))))))))) (Syntax.tcons (Syntax.tyInt Syntax.w32) (Syntax.tcons (Syntax.tyInt Syntax.w32) (Syntax.tcons (Syntax.tyInt Syntax.w32) (Syntax.tcons (Syntax.tyInt Syntax.w32) (Syntax.tcons (Syntax.tyInt Syntax.w32) (Syntax.tcons (Syntax.tyFloat Ieee.binary64) Syntax.tnil))))))
+  type·17 = Syntax.tyStruct (List._∷_ 105 (List._∷_ 109 (List._∷_ 98 (List._∷_ 97 (List._∷_ 108 (List._∷_ 97 (List._∷_ 110 (List._∷_ 99 (List._∷_ 101 (List._∷_ 58 (List._∷_ 58 (List._∷_ 67 (List._∷_ 101 (List._∷_ 105 (List._∷_ 108 (List._∷_ 105 (List._∷_ 110 (List._∷_ 103 List.[])))))))))))))))))) (Syntax.tcons (Syntax.tyInt Syntax.w32) (Syntax.tcons (Syntax.tyInt Syntax.w32) (Syntax.tcons (Syntax.tyFloat Ieee.binary64) (Syntax.tcons (Syntax.tyArray (Syntax.tyInt Syntax.w32) 16) Syntax.tnil))))
+
+  abbrev pub type·18 : Syntax.Ty
+  type·18 = Syntax.tyStruct (List._∷_ 102 (List._∷_ 105 (List._∷_ 100 (List._∷_ 117 (List._∷_ 99 (List._∷_ 99 (List._∷_ 105 (List._∷_ 97 (List._∷_ 95 (List._∷_ 109 (List._∷_ 97 (List._∷_ 116 (List._∷_ 116 (List._∷_ 104 (List._∷_ 101 (List._∷_ 121 (List._∷_ 115 (List._∷_ 101 (List._∷_ 115 (List._∷_ 58 (List._∷_ 58 (List._∷_ 83 (List._∷_ 101 (List._∷_ 116 (List._∷_ 116 (List._∷_ 105 (List._∷_ 110 (List._∷_ 103 (List._∷_ 115 List.[]))))))))))))))))))))))))))))) (Syntax.tcons (Syntax.tyInt Syntax.w32) (Syntax.tcons (Syntax.tyInt Syntax.w32) (Syntax.tcons (Syntax.tyInt Syntax.w32) (Syntax.tcons type·17 Syntax.tnil))))
 
   abbrev pub row·0 : Row.Entry
   row·0 = (0, Rows'.any-gone type·8)
@@ -181,7 +184,7 @@ module _ (count : Nat.ℕ) (maker : Syntax.Name) (machine : Dec'.T¹ (Dec'.ltb c
   row·22 = (0, Rows'.whole (Declared.row Report.the-type))
 
   abbrev pub row·23 : Row.Entry
-  row·23 = (9, Rows'.any-gone type·17)
+  row·23 = (9, Rows'.any-gone type·18)
 
   abbrev pub row·24 : Row.Entry
   row·24 = (11, Rows.arrF MoveTy.R count 0)
@@ -602,7 +605,7 @@ module _ (count : Nat.ℕ) (maker : Syntax.Name) (machine : Dec'.T¹ (Dec'.ltb c
     s25 = λ bs. Call.callB ps·1 r·1 (claims· .2) (claims· .3) T26 (record { pos = 1; ty = Syntax.tyRef (Syntax.named 0) Syntax.imm (Syntax.tyInt Syntax.w32); ref = λ x. x }, (record { pos = 2; ty = Syntax.tyRef (Syntax.named 1) Syntax.imm (Syntax.tyInt Syntax.w32); ref = λ x. x }, (record { pos = 3; ty = Syntax.tyRef (Syntax.named 2) Syntax.imm (Syntax.tyInt Syntax.w32); ref = λ x. x }, (record { pos = 4; ty = Syntax.tyRef (Syntax.named 3) Syntax.imm (Syntax.tyInt Syntax.w32); ref = λ x. x }, (record { pos = 13; ty = Syntax.tyRef Syntax.erased Syntax.mut (Syntax.tyInt Syntax.w32); ref = λ x. x }, (record { pos = 15; ty = Syntax.tyRef Syntax.erased Syntax.mut (Syntax.tyInt Syntax.w64); ref = λ x. x }, (record { pos = 17; ty = Syntax.tyRef Syntax.erased Syntax.mut MoveTy.behind; ref = λ x. x }, (record { pos = 19; ty = Syntax.tyRef Syntax.erased Syntax.mut (Syntax.tyInt Syntax.w32); ref = λ x. x }, (record { pos = 21; ty = Syntax.tyRef Syntax.erased Syntax.mut (Syntax.tyInt Syntax.w32); ref = λ x. x }, (record { pos = 9; st = List.[]; d = 0; at = λ x. x }, tt)))))))))) 0 (List._∷_ 0 (List._∷_ 1 (List._∷_ 2 (List._∷_ 3 (List._∷_ 8 (List._∷_ 9 (List._∷_ 10 (List._∷_ 11 (List._∷_ 12 List.[]))))))))) type·8
 
     abbrev s26 : (bs : List.List Nat.ℕ) → Typed.Mo T27 → Typed.Mo T28
-    s26 = λ bs. Scalar.n-room T27 9 type·17
+    s26 = λ bs. Scalar.n-room T27 9 type·18
 
     abbrev s28 : (bs : List.List Nat.ℕ) → Typed.Both T28 T30
     s28 = λ bs. Relend.k-back-sl (Referent.rtF (Referent.fInt Syntax.w32)) T28 13 5 4 8 type·13 type·0 Row.off (λ x. x) λ x. x
@@ -1073,7 +1076,7 @@ module _ (count : Nat.ℕ) (maker : Syntax.Name) (machine : Dec'.T¹ (Dec'.ltb c
             d19 = Typed.g-pre 𝓤 H A W 𝓣 E G28 G29 b13 Δ0 (λ Ψ. Ψ) (at18 bs) (Lifetime.g-end 𝓤 H A W E G28 8 Path'.refl) d18
 
             d20 : Typed.Typed 𝓤 H A 𝓣 E G27 b13 Δ0 (at20 bs)
-            d20 = Typed.g-pre 𝓤 H A W 𝓣 E G27 G28 b13 Δ0 (Typed.pass T27 T28 (s26 bs)) (at19 bs) (Scalar.g-room 𝓤 H A W E G27 9 type·17 (Local.room-whole 𝓤 H A W (Declared.row Settings.the-type) type·17 Path'.refl)) d19
+            d20 = Typed.g-pre 𝓤 H A W 𝓣 E G27 G28 b13 Δ0 (Typed.pass T27 T28 (s26 bs)) (at19 bs) (Scalar.g-room 𝓤 H A W E G27 9 type·18 (Local.room-whole 𝓤 H A W (Declared.row Settings.the-type) type·18 Path'.refl)) d19
 
             d21 : Typed.Typed 𝓤 H A 𝓣 E G26 b14 Δ0 (at21 bs)
             d21 = Typed.s-seq 𝓤 H A W 𝓣 E G26 G27 b12 b13 Δ0 (Typed.both (s25 bs)) (at20 bs) (Plain.t-call-plain 𝓤 H A W 𝓣 9 ps·1 r·1 (claims· .2) (claims· .3) "fiduccia_mattheyses::fiduccia_mattheyses" (known .1) E (λ pos β. β) G26 (record { pos = 1; ty = Syntax.tyRef (Syntax.named 0) Syntax.imm (Syntax.tyInt Syntax.w32); ref = λ x. x }, (record { pos = 2; ty = Syntax.tyRef (Syntax.named 1) Syntax.imm (Syntax.tyInt Syntax.w32); ref = λ x. x }, (record { pos = 3; ty = Syntax.tyRef (Syntax.named 2) Syntax.imm (Syntax.tyInt Syntax.w32); ref = λ x. x }, (record { pos = 4; ty = Syntax.tyRef (Syntax.named 3) Syntax.imm (Syntax.tyInt Syntax.w32); ref = λ x. x }, (record { pos = 13; ty = Syntax.tyRef Syntax.erased Syntax.mut (Syntax.tyInt Syntax.w32); ref = λ x. x }, (record { pos = 15; ty = Syntax.tyRef Syntax.erased Syntax.mut (Syntax.tyInt Syntax.w64); ref = λ x. x }, (record { pos = 17; ty = Syntax.tyRef Syntax.erased Syntax.mut MoveTy.behind; ref = λ x. x }, (record { pos = 19; ty = Syntax.tyRef Syntax.erased Syntax.mut (Syntax.tyInt Syntax.w32); ref = λ x. x }, (record { pos = 21; ty = Syntax.tyRef Syntax.erased Syntax.mut (Syntax.tyInt Syntax.w32); ref = λ x. x }, (record { pos = 9; st = List.[]; d = 0; at = λ x. x }, tt)))))))))) 0 (List._∷_ 0 (List._∷_ 1 (List._∷_ 2 (List._∷_ 3 (List._∷_ 8 (List._∷_ 9 (List._∷_ 10 (List._∷_ 11 (List._∷_ 12 List.[]))))))))) (Call.sub-id 𝓤 H A W (G26 .slots)) (ShrSlice.spares-sslice 𝓤 H A W (Referent.rtF (Referent.fInt Syntax.w32)) type·9 0, Shared.reads-sslice 𝓤 H A W (Referent.rtF (Referent.fInt Syntax.w32)) type·9 0, Path'.refl, (ShrSlice.spares-sslice 𝓤 H A W (Referent.rtF (Referent.fInt Syntax.w32)) type·10 1, Shared.reads-sslice 𝓤 H A W (Referent.rtF (Referent.fInt Syntax.w32)) type·10 1, Path'.refl, (ShrSlice.spares-sslice 𝓤 H A W (Referent.rtF (Referent.fInt Syntax.w32)) type·11 2, Shared.reads-sslice 𝓤 H A W (Referent.rtF (Referent.fInt Syntax.w32)) type·11 2, Path'.refl, (ShrSlice.spares-sslice 𝓤 H A W (Referent.rtF (Referent.fInt Syntax.w32)) type·12 3, Shared.reads-sslice 𝓤 H A W (Referent.rtF (Referent.fInt Syntax.w32)) type·12 3, Path'.refl, (Reads.as-is 𝓤 H A (Mut.mslice (Referent.rtF (Referent.fInt Syntax.w32)) type·0 8), Mut.reads-mslice 𝓤 H A W (Referent.rtF (Referent.fInt Syntax.w32)) type·0 8, Path'.refl, (Reads.as-is 𝓤 H A (Mut.mslice (Signed.SInt Syntax.w64) type·2 9), Mut.reads-mslice 𝓤 H A W (Signed.SInt Syntax.w64) type·2 9, Path'.refl, (Reads.as-is 𝓤 H A (Mut.mslice MoveTy.R type·5 10), Mut.reads-mslice 𝓤 H A W MoveTy.R type·5 10, Path'.refl, (Reads.as-is 𝓤 H A (Mut.mslice (Referent.rtF (Referent.fInt Syntax.w32)) type·0 11), Mut.reads-mslice 𝓤 H A W (Referent.rtF (Referent.fInt Syntax.w32)) type·0 11, Path'.refl, (Reads.as-is 𝓤 H A (Mut.mslice (Referent.rtF (Referent.fInt Syntax.w32)) type·0 12), Mut.reads-mslice 𝓤 H A W (Referent.rtF (Referent.fInt Syntax.w32)) type·0 12, Path'.refl, ((Yields.yields-copy 𝓤 H A W (λ ρ. Unit) (Declared.row Settings.the-type) Path'.refl (Copies.cStruct Settings.the-type Laws'.the-laws Laws'.the-copy .copy 𝓤 H A W) (Rows'.whole (Declared.row Settings.the-type)) (λ x. x) (λ x. x) (λ ρ told. Local.mem-whole 𝓤 H A W (Declared.row Settings.the-type) ρ) λ ρ told. Local.whole-mem 𝓤 H A W (Declared.row Settings.the-type) ρ, Path'.refl), tt)))))))))) (Reads.room-gone 𝓤 H A type·8) (tt, (tt, (tt, (tt, (tt, (tt, (tt, (tt, (tt, tt))))))))) Path'.refl) d20

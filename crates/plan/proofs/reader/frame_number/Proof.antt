@@ -1,10 +1,12 @@
 -- `reader::frame_number` meets its contract: each return rewrites with the tests that led there. Assumes nothing.
 use Rattle.plan.proofs.ReadLaws.{long-enough}
 use Rattle.plan.specs.inner.Reading.{frameNumber}
+use Rattle.plan_blocks.specs.Block.{headerCount}
 use Rattle.plan_blocks.specs.Decode.{badKind, badHeader}
+use Rattle.plan_blocks.proofs.Places.{header-most}
 use native.Mathlib.Omega.{arith}
 use borrow.Author.Tests.{lt-ltb, le-ltb, not-true, not-false}
-use mathlib.Core.Path.{sym, _∙_}
+use mathlib.Core.Path.{sym, ap, _∙_}
 use borrow.Author.Needs.{needs}
 use Rattle.plan.proofs.reader.frame_number.Statement.{statement}
 use Rattle.plan.proofs.reader.frame_number.Tie as tie
@@ -38,12 +40,24 @@ returns-3 c =
     let known : tie.Else2 = search needs in
     simp (sym (sized .before .bad-length .ensures) ∙ sized .if1 .left, sym (known .before .kind-of .ensures .0), le-ltb 1 _ (known .if2 .left), sym (c .before .bad-check .ensures) ∙ c .if3 .taken)
 
+word-at-requires : tie.Need-word-at-requires
+word-at-requires c κs =
+    let sized : tie.Else1 = search needs in
+    let l = long-enough _ (sym (sized .before .bad-length .ensures) ∙ sized .if1 .left) in
+    omega arith
+
+header-count-requires : tie.Need-header-count-requires
+header-count-requires c κs = search needs
+
 laid-out-requires : tie.Need-laid-out-requires
 laid-out-requires c κs =
     let sized : tie.Else1 = search needs in
     let known : tie.Else2 = search needs in
+    let counted : tie.After-header-count = search needs in
     let k = known .if2 .left in
     let l = long-enough _ (sym (sized .before .bad-length .ensures) ∙ sized .if1 .left) in
+    let e = counted .header-count .ensures in
+    let m = header-most (counted .before .word-at .result) in
     omega arith
 
 returns-4 : tie.Need-returns-4
@@ -52,7 +66,9 @@ returns-4 c =
     let sized : tie.Else1 = search needs in
     let known : tie.Else2 = search needs in
     let checked : tie.Else3 = search needs in
-    simp (sym (sized .before .bad-length .ensures) ∙ sized .if1 .left, sym (known .before .kind-of .ensures .0), le-ltb 1 _ (known .if2 .left), sym (checked .before .bad-check .ensures) ∙ checked .if3 .left, sym (c .before .laid-out .ensures) ∙ not-true _ (c .if4 .taken))
+    let counted : tie.After-header-count = search needs in
+    let asked = ap headerCount (sym (counted .before .word-at .ensures)) ∙ sym (counted .header-count .ensures) in
+    simp (sym (sized .before .bad-length .ensures) ∙ sized .if1 .left, sym (known .before .kind-of .ensures .0), le-ltb 1 _ (known .if2 .left), sym (checked .before .bad-check .ensures) ∙ checked .if3 .left, asked, sym (c .before .laid-out .ensures) ∙ not-true _ (c .if4 .taken))
 
 returns-5 : tie.Need-returns-5
 unfolding frameNumber badKind badHeader
@@ -60,7 +76,9 @@ returns-5 c =
     let sized : tie.Else1 = search needs in
     let known : tie.Else2 = search needs in
     let checked : tie.Else3 = search needs in
-    simp (sym (sized .before .bad-length .ensures) ∙ sized .if1 .left, sym (known .before .kind-of .ensures .0), le-ltb 1 _ (known .if2 .left), sym (checked .before .bad-check .ensures) ∙ checked .if3 .left, sym (c .before .laid-out .ensures) ∙ not-false _ (c .if4 .left))
+    let counted : tie.After-header-count = search needs in
+    let asked = ap headerCount (sym (counted .before .word-at .ensures)) ∙ sym (counted .header-count .ensures) in
+    simp (sym (sized .before .bad-length .ensures) ∙ sized .if1 .left, sym (known .before .kind-of .ensures .0), le-ltb 1 _ (known .if2 .left), sym (checked .before .bad-check .ensures) ∙ checked .if3 .left, asked, sym (c .before .laid-out .ensures) ∙ not-false _ (c .if4 .left))
 
 pub frame-number-spec : {M : Type 1} → statement M
 frame-number-spec =
@@ -72,6 +90,8 @@ frame-number-spec =
     returns-2
     bad-check-requires
     returns-3
+    word-at-requires
+    header-count-requires
     laid-out-requires
     returns-4
     returns-5)

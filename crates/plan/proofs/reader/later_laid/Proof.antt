@@ -13,10 +13,10 @@ use Rattle.plan.proofs.reader.later_laid.Statement.{statement}
 use Rattle.plan.proofs.reader.later_laid.Tie as tie
 
 abbrev Inv-loop : tie.InvT-loop
-Inv-loop bytes file n a blocks b₀ b = (1 ≤ b) × (b ≤ blocks) × (laterTo bytes file n a b ≡ true)
+Inv-loop bytes file choice n a blocks b₀ b = (1 ≤ b) × (b ≤ blocks) × (laterTo bytes file choice n a b ≡ true)
 
 abbrev μ-loop : tie.MeasureT-loop
-μ-loop bytes file n a blocks b₀ b = blocks - b
+μ-loop bytes file choice n a blocks b₀ b = blocks - b
 
 loop-holds : tie.Need-loop-holds Inv-loop μ-loop
 unfolding blocksOf
@@ -32,9 +32,9 @@ laid-out-requires : tie.Need-laid-out-requires Inv-loop μ-loop
 laid-out-requires c κs =
     let given : tie.Start Inv-loop μ-loop = search needs in
     let so-far : tie.At-loop Inv-loop μ-loop = search needs in
-    let a = given .args in
-    let k = kind-most (a .n) (so-far .loop .b) in
-    let m = count-most (a .n) (a .a) (so-far .loop .b) in
+    let h = given .args .header in
+    let k = kind-most (h .n) (so-far .loop .b) in
+    let m = count-most (h .choice) (h .n) (h .a) (so-far .loop .b) in
     let e = c .before .kind-at .ensures in
     let f = c .count-at .ensures in
     let p = given .pre in
@@ -44,9 +44,10 @@ laid-out-requires c κs =
 
 returns : tie.Need-returns Inv-loop μ-loop
 returns c =
+    let given : tie.Start Inv-loop μ-loop = search needs in
     let kinded : tie.After-kind-at Inv-loop μ-loop = search needs in
     let counted : tie.After-count-at Inv-loop μ-loop = search needs in
-    later-fails _ _ _ _ _ _ _ _ (kinded .kind-at .ensures) (counted .count-at .ensures) (c .before .laid-out .ensures) (search needs) (search needs) (not-true _ (c .if1 .taken))
+    later-fails _ _ (given .args .header) _ _ _ _ (kinded .kind-at .ensures) (counted .count-at .ensures) (c .before .laid-out .ensures) (search needs) (search needs) (not-true _ (c .if1 .taken))
 
 add-b : tie.Need-add-b Inv-loop μ-loop
 add-b c = search needs
@@ -56,13 +57,16 @@ loop-less c = search needs
 
 loop-again : tie.Need-loop-again Inv-loop μ-loop
 loop-again c =
+    let given : tie.Start Inv-loop μ-loop = search needs in
     let kinded : tie.After-kind-at Inv-loop μ-loop = search needs in
     let counted : tie.After-count-at Inv-loop μ-loop = search needs in
     let so-far : tie.At-loop Inv-loop μ-loop = search needs in
-    (search needs, search needs, later-more _ _ _ _ _ _ _ _ (kinded .kind-at .ensures) (counted .count-at .ensures) (c .before .laid-out .ensures) (search needs) (not-false _ (c .if1 .left)) (so-far .loop .inv .2))
+    (search needs, search needs, later-more _ _ (given .args .header) _ _ _ _ (kinded .kind-at .ensures) (counted .count-at .ensures) (c .before .laid-out .ensures) (search needs) (not-false _ (c .if1 .left)) (so-far .loop .inv .2))
 
 returns-2 : tie.Need-returns-2 Inv-loop μ-loop
-returns-2 c = later-all _ _ _ _ _ (omega arith) (c .before .loop .inv .2)
+returns-2 c =
+    let given : tie.Start Inv-loop μ-loop = search needs in
+    later-all _ _ (given .args .header) _ (omega arith) (c .before .loop .inv .2)
 
 pub later-laid-spec : {M : Type 1} → statement M
 later-laid-spec =

@@ -1,11 +1,12 @@
 -- `reader::refusal` meets its contract. Assumes nothing.
 use lib.Ieee.{ofBits}
 use mathlib.Core.Path.{refl}
+use Rattle.lists.specs.Fill.{table}
 use Rattle.plan.proofs.reader.refusal.Statement.{statement}
 use Rattle.plan.proofs.reader.refusal.Tie as tie
 
 returns : tie.Need-returns
-unfolding ofBits
+unfolding ofBits table
 returns c = refl
 
 pub refusal-spec : {M : Type 1} → statement M

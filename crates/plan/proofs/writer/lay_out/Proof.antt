@@ -16,10 +16,10 @@ use Rattle.plan.proofs.writer.lay_out.Statement.{statement}
 use Rattle.plan.proofs.writer.lay_out.Tie as tie
 
 abbrev Inv-loop : tie.InvT-loop
-Inv-loop n a target₀ blocks b₀ target b = PutTo (λ b. 128 * b) (openingWord n a) blocks target₀ target b
+Inv-loop choice n a target₀ blocks b₀ target b = PutTo (λ b. 128 * b) (openingWord choice n a) blocks target₀ target b
 
 abbrev μ-loop : tie.MeasureT-loop
-μ-loop n a target₀ blocks b₀ target b = blocks - b
+μ-loop choice n a target₀ blocks b₀ target b = blocks - b
 
 -- ---- the stations before the loop, from a turn of it
 abbrev before-turn : tie.In-loop Inv-loop μ-loop → tie.After-blocks-of Inv-loop μ-loop
@@ -89,7 +89,7 @@ mul-narrow-2 c =
     let entered : tie.In-loop Inv-loop μ-loop = search needs in
     let counted : tie.After-count-at Inv-loop μ-loop = search needs in
     let a = given .args in
-    let m = count-most (a .n) (a .a) (entered .before .loop .b) in
+    let m = count-most (a .choice) (a .n) (a .a) (entered .before .loop .b) in
     let e = counted .count-at .ensures in
     omega arith
 
@@ -100,7 +100,7 @@ opening-fits c =
     let entered : tie.In-loop Inv-loop μ-loop = search needs in
     let a = given .args in
     let k = kind-most (a .n) (entered .before .loop .b) in
-    let m = count-most (a .n) (a .a) (entered .before .loop .b) in
+    let m = count-most (a .choice) (a .n) (a .a) (entered .before .loop .b) in
     let d = kinded-before c .kind-at .ensures in
     let e = c .count-at .ensures in
     omega arith
@@ -142,7 +142,7 @@ loop-again c =
     let narrowed : tie.After-narrow Inv-loop μ-loop = search needs in
     let opened : tie.After-put-word Inv-loop μ-loop = search needs in
     put-more _ _ _ _ _ _ _ _ _ (entered .before .loop .inv) (entered .loop-test .taken) refl
-    (first-word _ _ _ _ _ _ (kinded .kind-at .ensures) (counted .count-at .ensures) (narrowed .narrow .ensures))
+    (first-word _ _ _ _ _ _ _ (kinded .kind-at .ensures) (counted .count-at .ensures) (narrowed .narrow .ensures))
     (opened .put-word .ensures)
 
 same-length : tie.Need-same-length Inv-loop μ-loop
@@ -156,7 +156,7 @@ returns c =
     let cleared : tie.After-clear-bytes Inv-loop μ-loop = search needs in
     let put = c .before .loop .inv in
     let most = put .within in
-    all-laid _ _ _ _ _ _ (blocks .blocks-of .ensures) (cleared .clear-bytes .ensures) (put-all _ _ _ _ _ _ put (omega arith))
+    all-laid _ _ _ _ _ _ _ (blocks .blocks-of .ensures) (cleared .clear-bytes .ensures) (put-all _ _ _ _ _ _ put (omega arith))
 
 pub lay-out-spec : {M : Type 1} → statement M
 lay-out-spec =

@@ -1,96 +1,53 @@
--- `writer::write_header` meets its contract: six words, put one after another. Assumes nothing.
-use Rattle.plan.proofs.WriteTurns.{six-words}
+-- `writer::write_header` meets its contract: the first three records, and with choice 3 the numbers of the parts after them. Assumes nothing.
+use Rattle.plan.proofs.WriteTurns.{three-put, eleven-put}
+use Rattle.plan.proofs.Puts.{length-puts}
 use Rattle.plan.specs.Write.{sizeOf}
 use Rattle.plan_blocks.specs.Block.{blocksOf}
+use native.Mathlib.Omega.{arith}
+use lib.ListN.{length}
+use mathlib.Core.Path.{ap, _∙_}
 use borrow.Author.Needs.{needs}
 use Rattle.plan.proofs.writer.write_header.Statement.{statement}
 use Rattle.plan.proofs.writer.write_header.Tie as tie
 
--- ---- the stations, from the later to the earlier
-abbrev fourth-put : tie.After-low-word → tie.After-put-word4
-fourth-put low = search needs
-
-abbrev third-put : tie.After-put-word4 → tie.After-put-word3
-third-put fourth = search needs
-
-abbrev second-put : tie.After-put-word3 → tie.After-put-word2
-second-put third = search needs
-
-abbrev arcs-given : tie.After-put-word2 → tie.After-narrow2
-arcs-given second = search needs
-
-abbrev first-put : tie.After-narrow2 → tie.After-put-word
-first-put arcs = search needs
-
-abbrev vertices-given : tie.After-put-word → tie.After-narrow
-vertices-given first = search needs
-
-narrow-requires : tie.Need-narrow-requires
-narrow-requires c κs = search needs
-
-put-word-requires : tie.Need-put-word-requires
+put-first-three-requires : tie.Need-put-first-three-requires
 unfolding sizeOf blocksOf
-put-word-requires c κs = search needs
-
-narrow-requires-2 : tie.Need-narrow-requires-2
-narrow-requires-2 c κs = search needs
-
-put-word-requires-2 : tie.Need-put-word-requires-2
-unfolding sizeOf blocksOf
-put-word-requires-2 c κs = search needs
-
-put-word-requires-3 : tie.Need-put-word-requires-3
-unfolding sizeOf blocksOf
-put-word-requires-3 c κs = search needs
-
-put-word-requires-4 : tie.Need-put-word-requires-4
-unfolding sizeOf blocksOf
-put-word-requires-4 c κs = search needs
-
-low-word-requires : tie.Need-low-word-requires
-low-word-requires c κs = search needs
-
-put-word-requires-5 : tie.Need-put-word-requires-5
-unfolding sizeOf blocksOf
-put-word-requires-5 c κs = search needs
-
-high-word-requires : tie.Need-high-word-requires
-high-word-requires c κs = search needs
-
-put-word-requires-6 : tie.Need-put-word-requires-6
-unfolding sizeOf blocksOf
-put-word-requires-6 c κs = search needs
+put-first-three-requires c κs = search needs
 
 same-length : tie.Need-same-length
 same-length c = search needs
 
 returns : tie.Need-returns
 returns c =
-    let low : tie.After-low-word = search needs in
-    let fifth : tie.After-put-word5 = search needs in
-    let high : tie.After-high-word = search needs in
-    let sixth : tie.After-put-word6 = search needs in
-    let fourth = fourth-put low in
-    let third = third-put fourth in
-    let second = second-put third in
-    let arcs = arcs-given second in
-    let first = first-put arcs in
-    let vertices = vertices-given first in
-    six-words _ _ _ _ _ _ _ _ _ _ _ _ (vertices .narrow .ensures) (arcs .narrow2 .ensures) (low .low-word .ensures) (high .high-word .ensures) (first .put-word .ensures) (second .put-word2 .ensures) (third .put-word3 .ensures) (fourth .put-word4 .ensures) (fifth .put-word5 .ensures) (sixth .put-word6 .ensures)
+    let first : tie.After-put-first-three = search needs in
+    three-put _ _ _ (first .put-first-three .ensures) (c .if1 .taken)
+
+put-each-requires : tie.Need-put-each-requires
+unfolding sizeOf blocksOf
+put-each-requires c κs =
+    let given : tie.Start = search needs in
+    let first : tie.After-put-first-three = search needs in
+    let places = given .pre .2 in
+    let long = ap length (first .put-first-three .ensures) ∙ length-puts _ _ _ _ in
+    omega arith
+
+same-length-2 : tie.Need-same-length-2
+same-length-2 c = search needs
+
+returns-2 : tie.Need-returns-2
+returns-2 c =
+    let first : tie.After-put-first-three = search needs in
+    let eleven : tie.Else1 = search needs in
+    let each : tie.After-put-each = search needs in
+    eleven-put _ _ _ (first .put-first-three .ensures) (eleven .if1 .left) _ (each .put-each .ensures)
 
 pub write-header-spec : {M : Type 1} → statement M
 write-header-spec =
     tie.close
     (tie.spec
-    narrow-requires
-    put-word-requires
-    narrow-requires-2
-    put-word-requires-2
-    put-word-requires-3
-    put-word-requires-4
-    low-word-requires
-    put-word-requires-5
-    high-word-requires
-    put-word-requires-6
+    put-first-three-requires
     same-length
-    returns)
+    returns
+    put-each-requires
+    same-length-2
+    returns-2)

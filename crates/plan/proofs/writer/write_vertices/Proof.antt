@@ -15,7 +15,7 @@ use Rattle.plan.proofs.writer.write_vertices.Statement.{statement}
 use Rattle.plan.proofs.writer.write_vertices.Tie as tie
 
 abbrev Inv-loop : tie.InvT-loop
-Inv-loop labels weights starts target₀ v₀ target v = PutTo (recordAt 1) (vertexWord (planWith labels weights starts [] [] 0 0 0)) (2 * length labels) target₀ target (2 * v)
+Inv-loop labels weights starts target₀ v₀ target v = PutTo (recordAt 1) (vertexWord (planWith labels weights starts [] [] 0 0 0 [])) (2 * length labels) target₀ target (2 * v)
 
 abbrev μ-loop : tie.MeasureT-loop
 μ-loop labels weights starts target₀ v₀ target v = length labels - v

@@ -38,8 +38,17 @@ unfolding unfitValue
 returns-5 c =
     let not-carried : tie.Else1 = search needs in
     let not-whole : tie.Else2 = search needs in
-    simp (ne-eqb _ _ (not-carried .if1 .left), ne-eqb _ _ (not-whole .if2 .left), ne-eqb _ _ (c .if3 .left))
+    let not-by-imbalance : tie.Else3 = search needs in
+    simp (ne-eqb _ _ (not-carried .if1 .left), ne-eqb _ _ (not-whole .if2 .left), ne-eqb _ _ (not-by-imbalance .if3 .left), eq-eqb _ _ (c .if5 .taken))
+
+returns-6 : tie.Need-returns-6
+unfolding unfitValue
+returns-6 c =
+    let not-carried : tie.Else1 = search needs in
+    let not-whole : tie.Else2 = search needs in
+    let not-by-imbalance : tie.Else3 = search needs in
+    simp (ne-eqb _ _ (not-carried .if1 .left), ne-eqb _ _ (not-whole .if2 .left), ne-eqb _ _ (not-by-imbalance .if3 .left), ne-eqb _ _ (c .if5 .left))
 
 pub unfit-value-spec : {M : Type 1} → statement M
 unfit-value-spec =
-    tie.close (tie.spec returns returns-2 legal-bits-requires returns-3 returns-4 returns-5)
+    tie.close (tie.spec returns returns-2 legal-bits-requires returns-3 returns-4 returns-5 returns-6)

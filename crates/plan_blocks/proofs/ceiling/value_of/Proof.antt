@@ -1,5 +1,4 @@
 -- `ceiling::value_of` meets its contract: each return rewrites with the tests that led there. Assumes nothing.
-use native.Mathlib.Omega.{arith}
 use Rattle.plan_blocks.specs.Plan.{valueOf}
 use Rattle.imbalance.proofs.Choices.{fit-legal}
 use borrow.Author.Tests.{eq-eqb, ne-eqb}
@@ -17,8 +16,7 @@ returns c = let whole : tie.Then1 = search needs in simp (eq-eqb _ _ (whole .if1
 bits-of-requires : tie.Need-bits-of-requires
 bits-of-requires c κs =
     let given : tie.Start = search needs in
-    let not-whole : tie.Else1 = search needs in
-    fit-legal (given .args .asked) (given .pre) (λ z. let t = c .if2 .taken in omega arith) (not-whole .if1 .left)
+    fit-legal (given .args .asked) (given .pre) (c .if2 .taken)
 
 returns-2 : tie.Need-returns-2
 unfolding valueOf

@@ -31,6 +31,9 @@ word-at-requires-6 c κs = search needs
 paired-requires : tie.Need-paired-requires
 paired-requires c κs = search needs
 
+each-at-requires : tie.Need-each-at-requires
+each-at-requires c κs = search needs
+
 returns : tie.Need-returns
 returns c =
     let vertices : tie.After-index = search needs in
@@ -39,7 +42,8 @@ returns c =
     let choices : tie.After-word-at4 = search needs in
     let low : tie.After-word-at5 = search needs in
     let high : tie.After-word-at6 = search needs in
-    header-is _ (vertices .index .ensures) (vertices .before .word-at .ensures) (arcs .index2 .ensures) (arcs .before .word-at2 .ensures) (parts .word-at3 .ensures) (choices .word-at4 .ensures) (c .paired .ensures) (low .word-at5 .ensures) (high .word-at6 .ensures)
+    let values : tie.After-paired = search needs in
+    header-is _ (vertices .index .ensures) (vertices .before .word-at .ensures) (arcs .index2 .ensures) (arcs .before .word-at2 .ensures) (parts .word-at3 .ensures) (choices .word-at4 .ensures) (values .paired .ensures) (low .word-at5 .ensures) (high .word-at6 .ensures) (c .each-at .ensures)
 
 pub header-of-spec : {M : Type 1} → statement M
 header-of-spec =
@@ -54,4 +58,5 @@ header-of-spec =
     word-at-requires-5
     word-at-requires-6
     paired-requires
+    each-at-requires
     returns)

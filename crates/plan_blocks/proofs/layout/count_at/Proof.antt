@@ -7,9 +7,12 @@ use borrow.Author.Needs.{needs}
 use Rattle.plan_blocks.proofs.layout.count_at.Statement.{statement}
 use Rattle.plan_blocks.proofs.layout.count_at.Tie as tie
 
+header-count-requires : tie.Need-header-count-requires
+header-count-requires c κs = search needs
+
 returns : tie.Need-returns
 unfolding countAt
-returns c = simp (eq-eqb _ _ (c .if1 .taken))
+returns c = simp (eq-eqb _ _ (c .before .if1 .taken)) (c .header-count .ensures)
 
 blocks-for-requires : tie.Need-blocks-for-requires
 blocks-for-requires c κs = search needs
@@ -52,6 +55,7 @@ pub count-at-spec : {M : Type 1} → statement M
 count-at-spec =
     tie.close
     (tie.spec
+    header-count-requires
     returns
     blocks-for-requires
     sub-held-by
