@@ -6,8 +6,8 @@ ghost use Rattle.topology.specs.Number.{edgeCutAnswer, lambdaCutAnswer};
 ghost use Rattle.fiduccia_mattheyses.specs.Entry as FM;
 ghost use Rattle.kernighan_lin.specs.Entry as KL;
 ghost use Rattle.arc_swap.specs.Entry as Swap;
-ghost use Rattle.plan.specs.Read.{Read};
-ghost use Rattle.plan.specs.Write.{Written};
+ghost use Rattle.plan_reader.specs.Read.{Read};
+ghost use Rattle.plan_writer.specs.Write.{Written};
 ghost use Rattle.eight_block_grid.specs.SelfTest.{Tested};
 use arc_swap::RunRecord;
 use fiduccia_mattheyses::Report;
@@ -15,8 +15,8 @@ use fiduccia_mattheyses::Settings;
 use fiduccia_mattheyses_pass::Move;
 use imbalance::Ceiling;
 use imbalance::LoadsAnswer;
-use plan::ReadAnswer;
-use plan::WriteAnswer;
+use plan_reader::ReadAnswer;
+use plan_writer::WriteAnswer;
 use topology::CutAnswer;
 
 // The load of each part.
@@ -166,7 +166,7 @@ pub extern "C" fn daunsrevit_read_plan(
         r
         (record { labels = now (labels .exit); weights = now (weights .exit); starts = now (starts .exit); neighbours = now (neighbours .exit); arcWeights = now («arc_weights» .exit) }) ⌝ }
 {
-    plan::read_plan(bytes, labels, weights, starts, neighbours, arc_weights)
+    plan_reader::read_plan(bytes, labels, weights, starts, neighbours, arc_weights)
 }
 
 // Writes a plan file.
@@ -187,7 +187,7 @@ pub extern "C" fn daunsrevit_write_plan(
         r
         (now (target .exit)) ⌝ }
 {
-    plan::write_plan(
+    plan_writer::write_plan(
         labels,
         weights,
         starts,

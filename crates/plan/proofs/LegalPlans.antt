@@ -28,9 +28,9 @@ use Rattle.plan_blocks.specs.Plan.{Plan, Legal, headerIn, outOfRange, unfitValu
 use Rattle.imbalance.proofs.Patterns.{legal-number}
 use Rattle.plan_blocks.proofs.Bits.{fit-whole, choice-above}
 use Rattle.plan_blocks.proofs.Accepts.{in-range}
-use Rattle.plan.specs.Read.{startsOf, ceilingIn}
-use Rattle.plan.specs.Write.{Given, planWith, planFrom, vertices, arcs, unfit, miscounted, badStarts, badLabels, sizeOf, writeNumber}
-use Rattle.plan.proofs.WriteEntry.{rowsIn, Fits}
+use Rattle.plan_reader.specs.Read.{startsOf, ceilingIn}
+use Rattle.plan_writer.specs.Write.{Given, planWith, planFrom, vertices, arcs, unfit, miscounted, badStarts, badLabels, sizeOf, writeNumber}
+use Rattle.plan_writer.proofs.WriteEntry.{rowsIn, Fits}
 
 -- what the types say of what is given: each element is a u32, and so are the whole number and the number of each part; the imbalance is an f64
 pub record Typed (g : Given) : Type 0 where

@@ -1,12 +1,3 @@
--- The laws of the reader and the writer.
-pub mod ReadLaws
-pub mod ReadEntry
-pub mod Puts
-pub mod Blocks
-pub mod WriteTurns
-pub mod WriteTests
-pub mod WriteEntry
+-- The laws of the reader and the writer together.
 pub mod LegalPlans
 pub mod Trips
-pub mod Unique
-pub mod Unused

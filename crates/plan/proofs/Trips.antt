@@ -30,13 +30,13 @@ use Rattle.plan_blocks.proofs.Reread.{same-number, same-plan, length-is, kind-i
 use Rattle.plan_blocks.proofs.RoundTrips.{legal-places}
 use Rattle.plan_blocks.proofs.Changed.{refused-changed}
 use Rattle.plan_blocks.proofs.Exchanges.{refused-exchanged}
-use Rattle.plan.specs.declared.ReadAnswer.{ReadAnswer}
-use Rattle.plan.specs.declared.WriteAnswer.{WriteAnswer}
-use Rattle.plan.specs.Read.{Targets, short, numberFor, readNumber, startsOf, ceilingIn, headerOf, refusalOf, handed, readAnswer, readLeft, Read}
-use Rattle.plan.specs.Write.{Given, planWith, planFrom, vertices, arcs, sizeOf, writeNumber, writeAnswer, writeLeft, Written}
-use Rattle.plan.proofs.ReadLaws.{accepted-places}
-use Rattle.plan.proofs.ReadEntry.{same-targets}
-use Rattle.plan.proofs.WriteEntry.{rowsIn, Fits, fits}
+use Rattle.plan_reader.specs.declared.ReadAnswer.{ReadAnswer}
+use Rattle.plan_reader.specs.Read.{Targets, short, numberFor, readNumber, startsOf, ceilingIn, headerOf, refusalOf, handed, readAnswer, readLeft, Read}
+use Rattle.plan_reader.proofs.ReadLaws.{accepted-places}
+use Rattle.plan_reader.proofs.ReadEntry.{same-targets}
+use Rattle.plan_writer.specs.declared.WriteAnswer.{WriteAnswer}
+use Rattle.plan_writer.specs.Write.{Given, planWith, planFrom, vertices, arcs, sizeOf, writeNumber, writeAnswer, writeLeft, Written}
+use Rattle.plan_writer.proofs.WriteEntry.{rowsIn, Fits, fits}
 use Rattle.plan.proofs.LegalPlans.{Typed, givenOf, legal-given, plan-given, typed-given, fits-given, fits-number, telescope, each-written}
 
 -- what the promises say where the number is 0

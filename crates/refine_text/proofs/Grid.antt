@@ -32,8 +32,8 @@ use Rattle.plan_blocks.specs.Encode.{fileWord, encode}
 use Rattle.plan_blocks.specs.Decode.{planOf, fileNumber}
 use Rattle.plan_blocks.proofs.WordLaws.{length-bytes}
 use Rattle.plan_blocks.proofs.RoundTrips.{decoded, written-then-read}
-use Rattle.plan.specs.declared.ReadAnswer.{ReadAnswer}
-use Rattle.plan.specs.Read.{startsOf, headerOf}
+use Rattle.plan_reader.specs.declared.ReadAnswer.{ReadAnswer}
+use Rattle.plan_reader.specs.Read.{startsOf, headerOf}
 use Rattle.refine_words.specs.Text.{ascii, decimal, decimalIn, numbers, line}
 use Rattle.refine_words.specs.Line.{endLine, cutLine, loadsLine, passesLine, opening, passLine, passLines, labelsLine}
 use Rattle.refine_text.specs.Refine.{beyond, ranked, inputNumber, twoLines, twoShown, twoText, runText, planText, textOf}

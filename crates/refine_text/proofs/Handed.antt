@@ -16,9 +16,9 @@ use Rattle.plan_blocks.specs.Word.{word}
 use Rattle.plan_blocks.specs.Plan.{Plan}
 use Rattle.plan_blocks.specs.Decode.{labelAt, labelled, planOf, fileNumber}
 use Rattle.plan_blocks.proofs.Accepts.{accepts, in-range}
-use Rattle.plan.specs.declared.ReadAnswer.{ReadAnswer}
-use Rattle.plan.specs.Read.{Targets, numberFor, readNumber, startsOf, headerOf, refusalOf, handed, readAnswer, readLeft, Read}
-use Rattle.plan.proofs.ReadLaws.{accepted-places}
+use Rattle.plan_reader.specs.declared.ReadAnswer.{ReadAnswer}
+use Rattle.plan_reader.specs.Read.{Targets, numberFor, readNumber, startsOf, headerOf, refusalOf, handed, readAnswer, readLeft, Read}
+use Rattle.plan_reader.proofs.ReadLaws.{accepted-places}
 use Rattle.refine_words.specs.inner.Steps.{Put}
 use Rattle.refine_words.specs.Line.{refusal}
 use Rattle.refine_words.proofs.Texts.{pasted-first}

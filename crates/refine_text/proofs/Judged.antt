@@ -12,8 +12,8 @@ use Rattle.lists.specs.Number.{orElse}
 use Rattle.lists.proofs.Bools.{and-false, or-true, or-false}
 use Rattle.plan_blocks.specs.Word.{word}
 use Rattle.plan_blocks.specs.Decode.{badLength, planOf, fileNumber}
-use Rattle.plan.specs.Read.{short, numberFor}
-use Rattle.plan.proofs.ReadLaws.{long-enough, accepted-places}
+use Rattle.plan_reader.specs.Read.{short, numberFor}
+use Rattle.plan_reader.proofs.ReadLaws.{long-enough, accepted-places}
 use Rattle.refine_text.specs.Refine.{planVertices, planArcs, inputBytes, beyond, ranked, inputNumber}
 
 -- "12 unread for an input above 22,016 bytes"

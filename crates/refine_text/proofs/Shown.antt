@@ -20,7 +20,7 @@ use Rattle.fiduccia_mattheyses_records.specs.Own.{Lists, lentWith, RefinedWith}
 use Rattle.arc_swap.specs.declared.RunRecord.{RunRecord}
 use Rattle.arc_swap.specs.declared.Report.{Report as ManyReport}
 use Rattle.arc_swap.specs.Entry.{Given as ManyGiven, Lent as ManyLent, number as manyNumber, reportOf as manyReportOf, refused as manyRefused, empty as manyEmpty, answer as manyAnswer, partsOf, Refined}
-use Rattle.plan.specs.declared.ReadAnswer.{ReadAnswer}
+use Rattle.plan_reader.specs.declared.ReadAnswer.{ReadAnswer}
 use Rattle.refine_words.specs.inner.Steps.{Put}
 use Rattle.refine_words.specs.Line.{refusal, opening, passLines, countsLine, labelsLine}
 use Rattle.refine_words.proofs.Texts.{put-as, put-then}

@@ -10,8 +10,8 @@ use Rattle.lists.specs.Fill.{over}
 use Rattle.imbalance.specs.Limit.{mostVertices}
 use Rattle.plan_blocks.specs.Plan.{Plan}
 use Rattle.plan_blocks.specs.Decode.{planOf, fileNumber}
-use Rattle.plan.specs.declared.ReadAnswer.{ReadAnswer}
-use Rattle.plan.specs.Read.{startsOf, headerOf}
+use Rattle.plan_reader.specs.declared.ReadAnswer.{ReadAnswer}
+use Rattle.plan_reader.specs.Read.{startsOf, headerOf}
 use Rattle.fiduccia_mattheyses.specs.declared.Report.{Report as TwoReport}
 use Rattle.fiduccia_mattheyses.specs.Entry.{Given as TwoGiven, Lent as TwoLent, answer as twoAnswer, left as twoLeft}
 use Rattle.fiduccia_mattheyses_records.specs.Own.{Lists, lentWith}

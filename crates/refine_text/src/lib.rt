@@ -1,15 +1,15 @@
 // All of the refine program but reading and writing: one function from the input's bytes to the output's. Document 01, the end of "The eight-block grid".
 mod runs; // runs.rt: a run of FM and a run of arc-swap, as lines
 
-use plan::ReadAnswer;
 use plan_blocks::words;
+use plan_reader::ReadAnswer;
 use refine_words::lines;
 ghost use mathlib.Core.Path.{_≡_};
 ghost use mathlib.Core.Bool.{false};
 ghost use Prim.Native.Nat.{_+_, _≤_};
 ghost use lib.ListN.{length};
 ghost use Rattle.imbalance.specs.Limit.{labelAbove};
-ghost use Rattle.plan.specs.Read.{numberFor};
+ghost use Rattle.plan_reader.specs.Read.{numberFor};
 ghost use Rattle.refine_words.specs.inner.Steps.{Put};
 ghost use Rattle.refine_text.specs.Refine.{planVertices, planArcs, inputBytes, textBytes, inputNumber, runText, Printed};
 
@@ -80,7 +80,7 @@ pub fn refine_text(input: &[u8], output: &mut [u8; TEXT_BYTES]) -> usize
     let mut starts = [0u32; PLAN_VERTICES + 1];
     let mut neighbours = [0u32; PLAN_ARCS];
     let mut arc_weights = [0u32; PLAN_ARCS];
-    let read = plan::read_plan(
+    let read = plan_reader::read_plan(
         input,
         &mut labels,
         &mut weights,

@@ -1,8 +1,0 @@
--- The plan file's reader and writer (document 01, "Plan blocks"; document 02, A2 and A4): what each answers and leaves, for every input.
-
--- ---- What the documents say
-pub mod Read
-pub mod Write
-pub mod Used
--- ---- What the inner functions promise each other
-pub mod inner
