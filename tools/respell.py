@@ -3,7 +3,7 @@
 
 usage: tools/respell.py        at the top of the repository, once, after the toolchain's port.py
 
-Every name is turned in specs/, proofs/, the clauses of src/ and the must-fail edits; in the documents only names that crates/ declares. A part of a name that begins with a capital is a type's or a module's and stays. It also writes `#![tactic(auto)]` into each crate's root file, above its first item.
+Every name is turned in specs/, proofs/, the clauses of src/ and the must-fail edits; in the documents only names that crates/ declares. A part of a name that begins with a capital is a type's or a module's and stays. The fields of records of specs/ have no dash either: `gain-is` to `gain_is`.
 """
 
 import os
@@ -18,11 +18,13 @@ def part(word):
     return HUMP.sub(lambda m: m.group(1) + "_" + m.group(2).lower(), word) if word[:1].islower() else word
 
 
-def turn(text, only=None):
+def turn(text, only=None, dashed=()):
     def one(m):
         name = m.group(0)
         if name in WHOLE:
             return WHOLE[name]
+        if name in dashed:
+            return name.replace("-", "_")
         new = "-".join(part(p) for p in name.split("-"))
         return name if only is not None and name not in only else new
 
@@ -46,28 +48,29 @@ def rewrite(path, turned):
             f.write(new)
 
 
-def with_tactic(text):
-    if "#![tactic(auto)]" in text:
-        return text
-    lines = text.split("\n")
-    at = next(i for i, line in enumerate(lines) if not line.startswith("//"))
-    return "\n".join(lines[:at] + ["#![tactic(auto)]", ""] + lines[at:])
+def fields():
+    """The fields of the records of specs/ that have a dash: a field is spelled as Rust would."""
+    found = set()
+    for path in files(".antt"):
+        if "/specs/" in path:
+            with open(path, encoding="utf-8") as f:
+                found |= set(re.findall(r"^ +pub ([\w'-]*-[\w'-]*) :", f.read(), re.M))
+    return found
 
 
 def main():
-    declared = set()
+    dashed = fields()
+    declared = set(dashed)
     for path in files(".antt"):
         with open(path, encoding="utf-8") as f:
             declared |= {n for n in NAME.findall(f.read()) if HUMP.search(n) and n[0].islower()}
     for path in files(".antt", ".rt"):
-        rewrite(path, turn)
+        rewrite(path, lambda text: turn(text, None, dashed))
     for path in files(".edit"):
-        rewrite(path, lambda text: turn(text, declared))
-    for path in files("src/lib.rt", "src/main.rt"):
-        rewrite(path, with_tactic)
-    documents = ["README.md", "CONTRIBUTING.md"] + [os.path.join(d, n) for d, _, ns in os.walk("docs") for n in ns if n.endswith(".md")]
+        rewrite(path, lambda text: turn(text, declared, dashed))
+    documents = ["README.md", "CONTRIBUTING.md"] + [os.path.join(d, n) for d, _, ns in os.walk("docs") for n in ns if n.endswith(".md") and n != "PORT.md"]
     for path in documents:
-        rewrite(path, lambda text: turn(text, declared))
+        rewrite(path, lambda text: turn(text, declared, dashed))
 
 
 main()

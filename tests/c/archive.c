@@ -105,7 +105,7 @@ static size_t size_at(size_t at)
 
 int main(void)
 {
-    int file = open("target/staticlib/libdaunsrevit.a", 0), objects = 0;
+    int file = open("crates/daunsrevit/out/libdaunsrevit.a", 0), objects = 0;
     long got;
     CHECK(file >= 0);
     while (archive_size < sizeof archive - 1 && (got = read(file, archive + archive_size, sizeof archive - 1 - archive_size)) > 0)

@@ -9,8 +9,8 @@ from pathlib import Path
 HERE = Path(__file__).resolve().parent
 ROOT = HERE.parent.parent
 ORACLE = HERE / "target/release/oracle"
-REPLAY = ROOT / "target/bin/replay"
-ARCHIVE = ROOT / "target/staticlib/libdaunsrevit.a"
+REPLAY = ROOT / "crates/replay/out/replay"
+ARCHIVE = ROOT / "crates/daunsrevit/out/libdaunsrevit.a"
 DRIVER = ROOT / "target/compare/driver"
 
 
@@ -21,8 +21,8 @@ def build_oracle():
 
 
 def build_replay():
-    """Proves and compiles the replay program; nothing is done again that is unchanged."""
-    status = subprocess.run(["rt", "check", "replay"], cwd=ROOT, stdout=sys.stderr).returncode
+    """Proves and compiles the replay program, which rt then runs, on nothing; nothing is done again that is unchanged."""
+    status = subprocess.run(["rt", "run"], cwd=ROOT / "crates/replay", stdin=subprocess.DEVNULL, stdout=sys.stderr).returncode
     if status:
         sys.exit(status)
 
@@ -37,8 +37,8 @@ def oracle_answers(lines):
 
 def toolchain():
     """The kit's own compiler, linker and C library."""
-    kit = Path(subprocess.run(["rt", "doc"], capture_output=True, text=True, check=True).stdout.strip()).parent.parent
-    return kit / "on" / os.uname().machine / "toolchain"
+    kit = Path(subprocess.run(["rt", "doc"], capture_output=True, text=True, check=True).stdout.strip()).parent
+    return kit / "toolchain"
 
 
 def loader():
@@ -68,13 +68,13 @@ def build_driver(archive=None):
     tests/c/run does."""
     if archive is None:
         archive = ARCHIVE
-        status = subprocess.run(["rt", "staticlib", "daunsrevit"], cwd=ROOT, stdout=sys.stderr).returncode
+        status = subprocess.run(["rt", "lib"], cwd=ROOT / "crates/daunsrevit", stdout=sys.stderr).returncode
         if status:
             sys.exit(status)
     DRIVER.parent.mkdir(parents=True, exist_ok=True)
     tools = toolchain()
     lib, made = tools / "lib", DRIVER.with_suffix(".o")
-    flags = "--target=x86_64-unknown-linux-gnu -std=c11 -O2 -Wall -Wextra -Wno-unused-function -Werror".split()
+    flags = "--target=x86_64-unknown-linux-gnu -std=c11 -O2 -Wall -Wextra -Wno-unused-function -Werror -isystem".split() + [ROOT / "tests/headers"]
     subprocess.run([tools / "bin/clang", *flags, "-c", HERE / "driver.c", "-o", made], check=True)
     before = [lib / name for name in ("Scrt1.o", "crti.o", "crtbeginS.o")]
     after = [lib / name for name in ("libc.so.6", "libc_nonshared.a", "ld-linux-x86-64.so.2", "crtendS.o", "crtn.o")]

@@ -23,7 +23,7 @@ use Rattle.arc_swap_attempt.proofs.Tried.{Goal}
 use Rattle.arc_swap.specs.declared.RunRecord.{RunRecord}
 use Rattle.arc_swap.specs.Run.{Terms, noted, run, Summed}
 use Rattle.arc_swap.specs.Entry.{begin}
-use Rattle.arc_swap.specs.inner.Steps.{no-vertex}
+use Rattle.arc_swap.specs.inner.Steps.{no_vertex}
 use Rattle.arc_swap.specs.Demand.{gained, NoPartAbove}
 use Rattle.arc_swap.proofs.Drains.{noted-summed}
 use Rattle.arc_swap.proofs.Keeps.{holds-run}
@@ -87,7 +87,7 @@ module _ (s : Terms) (p₀ : List ℕ) (symmetric : Symmetric (length p₀) s.gr
   kept f i = (holds-run s (length p₀) Kept stay go f i (begin p₀) (record {
     long = refl;
     ok = ok;
-    inside = no-vertex;
+    inside = no_vertex;
     kept = record {
       lower = omega arith;
       sums = D.same (cut s.graph p₀) (cut s.graph p₀) 0 0 (omega arith);

@@ -87,7 +87,7 @@ module _ (s : Terms) (p stack : List ℕ) (c : Standing) (ask : AttemptAsked s p
     aimed t x goes =
         let g = goal s.graph s.parts s.weights s.ceilings p v t x (sym tr-is ∙ goes) in
         let i = aim-in s.graph s.parts p v t g.aim-is in
-        record { target = i.0; apart = λ e. i.1 (sym e); gain-is = g.sums }
+        record { target = i.0; apart = λ e. i.1 (sym e); gain_is = g.sums }
 
     pub move-asked : MoveAsked s.graph s.parts s.weights p stack (popped c) v tr
     move-asked = record {
@@ -115,7 +115,7 @@ pub record Draining (s : Terms) (p₀ stack₀ : List ℕ) (c₀ : Standing) (co
   pub empty : c.fits ≡ false → c.top ≡ 0
   pub rest : (gs : List ℤ) → (hs : List ℤ) × (f : ℕ) × (drain s (fuel s p₀) (at p₀ (stacked stack₀ c₀.top) counts₀ gs (not c₀.fits)) ≡ drain s f (at p (stacked stack c.top) counts hs (not c.fits))) × (c.cut * (s.places + 1) + c.top ≤ f)
 
-module _ (s : Terms) (all-movable : s.movable ≡ (λ v. true)) (p₀ stack₀ : List ℕ) (c₀ : Standing) (counts₀ : RunRecord) (ask : Asked s p₀ stack₀ c₀.top c₀.cut c₀.loads.at counts₀ 0) where
+module _ (s : Terms) (all_movable : s.movable ≡ (λ v. true)) (p₀ stack₀ : List ℕ) (c₀ : Standing) (counts₀ : RunRecord) (ask : Asked s p₀ stack₀ c₀.top c₀.cut c₀.loads.at counts₀ 0) where
   pub draining : (c₀.fits ≡ false → c₀.top ≡ 0) → Draining s p₀ stack₀ c₀ counts₀ p₀ stack₀ c₀ counts₀
   draining none₀ = record {
     ordered = ask.ordered;
@@ -126,7 +126,7 @@ module _ (s : Terms) (all-movable : s.movable ≡ (λ v. true)) (p₀ stack₀ :
     where
       lasts : c₀.cut * (s.places + 1) + c₀.top ≤ fuel s p₀
       lasts =
-          let a = ask.ordered.stood.cut-is in
+          let a = ask.ordered.stood.cut_is in
           let b = ask.ordered.within in
           let c = ask.ordered.places in
           let d = add-mul (cut s.graph p₀) 1 (s.places + 1) in
@@ -156,8 +156,8 @@ module _ (s : Terms) (all-movable : s.movable ≡ (λ v. true)) (p₀ stack₀ :
 
     -- the vertex on top
     module _ (l : 0 < c.top) where
-      fits-is : c.fits ≡ true
-      fits-is = by c.fits refl
+      fits_is : c.fits ≡ true
+      fits_is = by c.fits refl
         where
           by : (b : Bool) → c.fits ≡ b → b ≡ true
           by true e = refl
@@ -201,7 +201,7 @@ module _ (s : Terms) (all-movable : s.movable ≡ (λ v. true)) (p₀ stack₀ :
               a.0,
               a.1 - 1,
               a.2
-                  ∙ ap (λ (b : Bool). drain s a.1 (at p (stacked stack c.top) counts a.0 (not b))) fits-is
+                  ∙ ap (λ (b : Bool). drain s a.1 (at p (stacked stack c.top) counts a.0 (not b))) fits_is
                   ∙ ap₂ (λ (n : ℕ) (k : List ℕ). drain s n (at p k counts a.0 false)) q on-top
                   ∙ drain-step s (a.1 - 1) p (stacked stack (c.top - 1)) v counts a.0 tr tr-is,
               omega arith,
@@ -226,7 +226,7 @@ module _ (s : Terms) (all-movable : s.movable ≡ (λ v. true)) (p₀ stack₀ :
             a.1,
             a.2
                 ∙ ap (drain s a.1) (stayed s tr stays p (stacked stack (c.top - 1)) v counts a.0 ∙ ap (λ (r : RunRecord). at p (stacked stack (c.top - 1)) r a.0 false) (sym counts-are))
-                ∙ ap (λ (b : Bool). drain s a.1 (at p (stacked stack (c.top - 1)) counts' a.0 (not b))) (sym fits-is),
+                ∙ ap (λ (b : Bool). drain s a.1 (at p (stacked stack (c.top - 1)) counts' a.0 (not b))) (sym fits_is),
             omega arith,
           ));
         }
@@ -248,8 +248,8 @@ module _ (s : Terms) (all-movable : s.movable ≡ (λ v. true)) (p₀ stack₀ :
             falls =
                 let a = cut-move s.graph p v t fixed'.symmetric here' in
                 let b = goal'.sums in
-                let g = inv.ordered.stood.cut-is in
-                let e = done.stood.cut-is in
+                let g = inv.ordered.stood.cut_is in
+                let e = done.stood.cut_is in
                 let f = ap (cut s.graph) done.labelled in
                 omega arith
 
@@ -262,7 +262,7 @@ module _ (s : Terms) (all-movable : s.movable ≡ (λ v. true)) (p₀ stack₀ :
             -- what is held after it
             top-by : (b : Bool) → d.fits ≡ b → d.top ≤ length new + (c.top - 1)
             top-by b e =
-                let h = ap length done.pushes.stacked-is in
+                let h = ap length done.pushes.stacked_is in
                 go b e (rw e at h)
               where
                 go : (b : Bool) → d.fits ≡ b → length (stacked stack' d.top) ≡ length (cond b (new ++ stacked stack (c.top - 1)) (stacked stack (c.top - 1))) → d.top ≤ length new + (c.top - 1)
@@ -281,7 +281,7 @@ module _ (s : Terms) (all-movable : s.movable ≡ (λ v. true)) (p₀ stack₀ :
                   ok = rw done.labelled ok';
                   places = long' ∙ inv.ordered.places;
                   within = (let a = done.pushes.within in omega arith);
-                  inside = rw done.pushes.stacked-is (inside-by d.fits);
+                  inside = rw done.pushes.stacked_is (inside-by d.fits);
                   stood = done.stood;
                   summed = summed';
                 }
@@ -294,8 +294,8 @@ module _ (s : Terms) (all-movable : s.movable ≡ (λ v. true)) (p₀ stack₀ :
             unfolding after
             moved hs =
                 let fit : leb (length new + length (stacked stack (c.top - 1))) s.places ≡ d.fits =
-                ap₂ (λ (a b : ℕ). leb (length new + a) b) stacked-size (sym inv.ordered.places) ∙ sym done.pushes.fits-is in
-                rw (goes, all-movable, ← done.labelled, fit, done.pushes.stacked-is, counts-are, goes)
+                ap₂ (λ (a b : ℕ). leb (length new + a) b) stacked-size (sym inv.ordered.places) ∙ sym done.pushes.fits_is in
+                rw (goes, all_movable, ← done.labelled, fit, done.pushes.stacked_is, counts-are, goes)
 
             less : d.cut * (s.places + 1) + d.top + 1 ≤ c.cut * (s.places + 1) + c.top
             less =
@@ -354,7 +354,7 @@ module _ (s : Terms) (all-movable : s.movable ≡ (λ v. true)) (p₀ stack₀ :
 
         pub full : r.st.fits ≡ false → Done (λ x. drain s (fuel s p₀) (standing c₀.fits x)) s p₀ stack₀ c₀.top c₀.cut counts₀ 0 p' stack' counts' r.st
         full e = cases (Done (λ x. drain s (fuel s p₀) (standing c₀.fits x)) s p₀ stack₀ c₀.top c₀.cut counts₀ 0 p' stack' counts' r.st)
-            (λ h. (let q : r.st.fits ≡ c.fits = ap (λ (d : Standing). d.fits) (done.moved.stays h).2 in let f = fits-is in let o : ◌≡◌ {A = ℕ} 0 1 = cc in absurd (omega arith)))
+            (λ h. (let q : r.st.fits ≡ c.fits = ap (λ (d : Standing). d.fits) (done.moved.stays h).2 in let f = fits_is in let o : ◌≡◌ {A = ℕ} 0 1 = cc in absurd (omega arith)))
             (λ t x g. turn-full r.trial done.tried counts' counts-are t x g p' stack' r.st long' (done.moved.goes t x g) e)
 
         -- and the measure falls

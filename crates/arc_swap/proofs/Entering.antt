@@ -30,7 +30,7 @@ use Rattle.arc_swap.specs.declared.Ended.{Ended}
 use Rattle.arc_swap.specs.Run.{Terms, Run, run}
 use Rattle.topology.specs.Given.{graph_of}
 use Rattle.arc_swap.specs.Entry.{Given, Lent, number, parts_of, terms_of, no_counts, begin, run_of, refused, empty, report_of, left_by, answer, left, Refined}
-use Rattle.arc_swap.specs.inner.Steps.{terms_by, no-vertex, at, TurnAsked, PassesDone, Ready, Begins, Ran}
+use Rattle.arc_swap.specs.inner.Steps.{terms_by, no_vertex, at, TurnAsked, PassesDone, Ready, Begins, Ran}
 use Rattle.arc_swap.proofs.Parts.{parts-named, parts-few}
 use Rattle.arc_swap.proofs.Lights.{cut-light}
 
@@ -97,8 +97,8 @@ module _ (p : Given) (labels : List ℕ) (ok : Ready p labels) where
                 };
                 places = refl;
                 within = omega arith;
-                inside = rw (top-none, stacked-none stack) no-vertex;
-                stood = record { cut-is = c-is; loaded = ap (λ (x : Standing). x.loads.at) is.stands };
+                inside = rw (top-none, stacked-none stack) no_vertex;
+                stood = record { cut_is = c-is; loaded = ap (λ (x : Standing). x.loads.at) is.stands };
                 summed = rw empty refl;
               };
               modest = omega arith;
@@ -127,7 +127,7 @@ module _ (p : Given) (l : Lent) (b : Begun) (is : Begins p l.labels b) where
       ap (λ (s : Terms). run s (cut (graph_of p) l.labels + 1) 0 (begin l.labels)) (sym same-terms) ∙ d.leads.1 in
       let ll : labels' ≡ (run_of p l).state.labels = sym (ap (λ (x : Run). x.state.labels) e) in
       record {
-        answered = q-is ∙ report-by b.st.cut r.st.cut r.end r.passes r.st.loads (ap (λ (x : Standing). x.cut) is.stands) (d.stood.cut-is ∙ ap (cut (graph_of p)) ll) (sym (ap (λ (x : Run). x.end) e)) (sym (ap (λ (x : Run). x.passes) e)) (loads-by r.st.loads labels' ll d.stood.loaded);
+        answered = q-is ∙ report-by b.st.cut r.st.cut r.end r.passes r.st.loads (ap (λ (x : Standing). x.cut) is.stands) (d.stood.cut_is ∙ ap (cut (graph_of p)) ll) (sym (ap (λ (x : Run). x.end) e)) (sym (ap (λ (x : Run). x.passes) e)) (loads-by r.st.loads labels' ll d.stood.loaded);
         labels = ll;
         stack = z ∙ filled-whole 0 stack' l.stack long;
         run = sym (ap (λ (x : Run). x.state.counts) e);

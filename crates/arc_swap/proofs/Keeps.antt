@@ -18,7 +18,7 @@ use Rattle.arc_swap_attempt.proofs.Tried.{Goal, goal, aim-in}
 use Rattle.arc_swap_attempt.proofs.Moving.{named-move}
 use Rattle.arc_swap.specs.declared.RunRecord.{RunRecord}
 use Rattle.arc_swap.specs.Run.{Terms, State, noted, after, attempt, drain, enough, on_cut, first_push, turn, sweep, run}
-use Rattle.arc_swap.specs.inner.Steps.{Inside, no-vertex, also}
+use Rattle.arc_swap.specs.inner.Steps.{Inside, no_vertex, also}
 use Rattle.arc_swap.proofs.Spreads.{inside_both, inside-top, inside-rest, pushed-inside}
 
 module _ (s : Terms) (n : ℕ) (P : List ℕ → RunRecord → List ℤ → Type 0)
@@ -79,8 +79,8 @@ module _ (s : Terms) (n : ℕ) (P : List ℕ → RunRecord → List ℤ → Type
   holds-first st v l h = by (eqb s.places 0)
     where
       by : (b : Bool) → Holds (cond b (record { labels = st.labels; stack = []; counts = st.counts; gains = st.gains; full = true }) (record { labels = st.labels; stack = v ∷ []; counts = st.counts; gains = st.gains; full = false }))
-      by true = record { long = h.long; ok = h.ok; inside = no-vertex; kept = h.kept }
-      by false = record { long = h.long; ok = h.ok; inside = also l no-vertex; kept = h.kept }
+      by true = record { long = h.long; ok = h.ok; inside = no_vertex; kept = h.kept }
+      by false = record { long = h.long; ok = h.ok; inside = also l no_vertex; kept = h.kept }
 
   pub holds-turn : (st : State) (v : ℕ) → v < n → Holds st → Holds (turn s st v)
   unfolding turn

@@ -19,7 +19,7 @@ use Rattle.arc_swap_attempt.specs.declared.Trial.{Trial}
 use Rattle.arc_swap_attempt.specs.declared.Trial.TheVariants.{NoGain, BadBalance, Goes}
 use Rattle.arc_swap_attempt.proofs.Tried.{goal}
 use Rattle.arc_swap.specs.Run.{Terms, State, after, attempt, drain, enough, first_push, sweep, run}
-use Rattle.arc_swap.specs.inner.Steps.{no-vertex, also}
+use Rattle.arc_swap.specs.inner.Steps.{no_vertex, also}
 use Rattle.arc_swap.proofs.Keeps.{Holds, holds_after}
 use Rattle.arc_swap.proofs.Spreads.{inside-top}
 
@@ -83,12 +83,12 @@ module _ (s : Terms) (n : ℕ) (symmetric : Symmetric n s.graph) where
   drain-lasts st v l e ok = by (eqb s.places 0) refl
     where
       by : (b : Bool) → eqb s.places 0 ≡ b → let d = drain s (enough s st) (cond b (record { labels = st.labels; stack = []; counts = st.counts; gains = st.gains; full = true }) (record { labels = st.labels; stack = v ∷ []; counts = st.counts; gains = st.gains; full = false })) in (d.full ≡ true) ⊎ (d.stack ≡ [])
-      by true q = drain-ends (enough s st) (record { labels = st.labels; stack = []; counts = st.counts; gains = st.gains; full = true }) (record { long = e; ok = ok; inside = no-vertex; kept = omega arith }) (omega arith) (let a = add-mul (cut s.graph st.labels) 1 (s.places + 1) in omega arith)
+      by true q = drain-ends (enough s st) (record { labels = st.labels; stack = []; counts = st.counts; gains = st.gains; full = true }) (record { long = e; ok = ok; inside = no_vertex; kept = omega arith }) (omega arith) (let a = add-mul (cut s.graph st.labels) 1 (s.places + 1) in omega arith)
       by false q =
           let ne = eqb-false s.places 0 q in
           let a = add-mul (cut s.graph st.labels) 1 (s.places + 1) in
           let o = one-mul (s.places + 1) in
-          drain-ends (enough s st) (record { labels = st.labels; stack = v ∷ []; counts = st.counts; gains = st.gains; full = false }) (record { long = e; ok = ok; inside = also l no-vertex; kept = omega arith }) (omega (arith, ne)) (omega arith)
+          drain-ends (enough s st) (record { labels = st.labels; stack = v ∷ []; counts = st.counts; gains = st.gains; full = false }) (record { long = e; ok = ok; inside = also l no_vertex; kept = omega arith }) (omega (arith, ne)) (omega arith)
 
 -- a pass more in hand changes nothing: each pass but the last lowers the cut
 pub passes-last : (s : Terms) (f i : ℕ) (st : State) → cut s.graph st.labels < f → run s (suc f) i st ≡ run s f i st

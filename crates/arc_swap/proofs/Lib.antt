@@ -1,4 +1,4 @@
--- The laws of a run: emptying the stack, a vertex's turn, a pass, the passes, the call; and the machine-made walks of the functions that pass the run record on.
+-- The laws of a run: emptying the stack, a vertex's turn, a pass, the passes, the call.
 pub mod ShortStacks
 pub mod Spreads
 pub mod Drains
@@ -14,6 +14,5 @@ pub mod Demands
 pub mod Quiet
 pub mod Lasts
 pub mod Promised
-pub mod walk
 pub mod Refusals
 pub mod Unused

@@ -30,9 +30,9 @@ module _ (p : Given) (l : Lent) (r : Report) (k : Lent) (some : length l.labels 
   unfolding answer
   report-is = done.answered ∙ rw (ne_eqb (length l.labels) 0 some, eq-eqb (number p l.labels) 0 zero)
 
-  labels-are : k.labels ≡ (run_of p l).state.labels
+  labels_are : k.labels ≡ (run_of p l).state.labels
   unfolding left left_by
-  labels-are = done.labels ∙ rw (ne_eqb (length l.labels) 0 some, eq-eqb (number p l.labels) 0 zero)
+  labels_are = done.labels ∙ rw (ne_eqb (length l.labels) 0 some, eq-eqb (number p l.labels) 0 zero)
 
   run_is : k.run ≡ (run_of p l).state.counts
   unfolding left left_by
@@ -61,11 +61,11 @@ module _ (p : Given) (l : Lent) (r : Report) (k : Lent) (some : length l.labels 
 
   -- no part ends above the larger of its own ceiling and its starting load
   pub no-part-above : NoPartAbove (terms_of p l) l.labels k.labels
-  no-part-above = rw labels-are all-kept.loads
+  no-part-above = rw labels_are all-kept.loads
 
   -- after end 1 no single block whose best part has room would lower the cut by going there
   pub no-single-block-left : r.end ≡ 1 → NoSingleBlock (terms_of p l) k.labels
   unfolding report_of
   no-single-block-left e =
       let q : (run_of p l).end ≡ 1 = sym (ap (λ (x : Report). x.end) report-is) ∙ e in
-      rw labels-are (no-single-block (terms_of p l) (length l.labels) ok.sound.symmetric l.labels refl named (cut (graph_of p) l.labels + 1) (omega arith) q)
+      rw labels_are (no-single-block (terms_of p l) (length l.labels) ok.sound.symmetric l.labels refl named (cut (graph_of p) l.labels + 1) (omega arith) q)

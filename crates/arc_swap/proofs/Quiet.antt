@@ -27,7 +27,7 @@ use Rattle.arc_swap_attempt.proofs.Tried.{Goal, goal, aim-in, not-goes}
 use Rattle.arc_swap.specs.declared.RunRecord.{RunRecord}
 use Rattle.arc_swap.specs.Run.{Terms, State, Run, noted, after, attempt, drain, enough, on_cut, first_push, turn, sweep, run}
 use Rattle.arc_swap.specs.Entry.{begin}
-use Rattle.arc_swap.specs.inner.Steps.{no-vertex, also, at}
+use Rattle.arc_swap.specs.inner.Steps.{no_vertex, also, at}
 use Rattle.arc_swap.specs.Demand.{NoSingleBlock}
 use Rattle.arc_swap.proofs.Keeps.{Holds, holds_after, holds-drain, holds-turn, holds-sweep}
 use Rattle.arc_swap.proofs.Drains.{drain-full, drain-empty}
@@ -118,7 +118,7 @@ module _ (s : Terms) (n : ℕ) (symmetric : Symmetric n s.graph) where
           omega arith
 
       one : Below (cut s.graph st.labels) (at st.labels (v ∷ []) st.counts st.gains false)
-      one = record { long = h.long; ok = h.ok; inside = also l no-vertex; kept = h.kept }
+      one = record { long = h.long; ok = h.ok; inside = also l no_vertex; kept = h.kept }
 
       off : (b : Bool) → s.movable v && b ≡ false → s.movable v ≡ true → b ≡ false
       off true e m = let o : ◌≡◌ {A = ℕ} 0 1 = cc (rw m at e) in absurd (omega arith)
@@ -211,4 +211,4 @@ module _ (s : Terms) (n : ℕ) (symmetric : Symmetric n s.graph) where
 
   -- after end 1, where the passes last
   pub no-single-block : (p : List ℕ) → length p ≡ n → Named s.graph s.parts p → (f : ℕ) → cut s.graph p < f → (run s f 0 (begin p)).end ≡ 1 → NoSingleBlock s (run s f 0 (begin p)).state.labels
-  no-single-block p e ok f l q = single-from f 0 (begin p) (record { long = e; ok = ok; inside = no-vertex; kept = omega arith }) l q
+  no-single-block p e ok f l q = single-from f 0 (begin p) (record { long = e; ok = ok; inside = no_vertex; kept = omega arith }) l q

@@ -43,7 +43,7 @@ module _ (s : Terms) (p₀ stack₀ : List ℕ) (c₀ : Standing) (counts₀ : R
   pub running : Running s p₀ c₀.cut 0 p₀ stack₀ c₀ counts₀
   running =
       let z : counts₀.attempts ≡ 0 = ap (λ (r : RunRecord). r.attempts) none₀ in
-      let k = ask.asked.ordered.stood.cut-is in
+      let k = ask.asked.ordered.stood.cut_is in
       record {
         empty = ask.empty;
         fit = ask.fit;
@@ -89,10 +89,10 @@ module _ (s : Terms) (p₀ stack₀ : List ℕ) (c₀ : Standing) (counts₀ : R
           )
 
       cut-before : c.cut ≡ cut s.graph p
-      cut-before = inv.ordered.stood.cut-is
+      cut-before = inv.ordered.stood.cut_is
 
       cut-after : d.cut ≡ cut s.graph p'
-      cut-after = done.ordered.stood.cut-is
+      cut-after = done.ordered.stood.cut_is
 
       -- the pushes of a move did not fit
       pub ends-full : d.fits ≡ false → PassesDone s p₀ p' stack' counts' (record { end = 2; passes = i + 1; st = d })

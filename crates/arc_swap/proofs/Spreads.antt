@@ -8,10 +8,10 @@ use Rattle.imbalance.specs.Limit.{most_arcs}
 use Rattle.topology.specs.Graph.{Graph, first, past, neighbour}
 use Rattle.topology.specs.Rule.{Rows}
 use Rattle.arc_swap_attempt.specs.Trial.{has_gain, pushed}
-use Rattle.arc_swap.specs.inner.Steps.{Inside, no-vertex, also}
+use Rattle.arc_swap.specs.inner.Steps.{Inside, no_vertex, also}
 
 pub inside_both : {n : ℕ} {xs ys : List ℕ} → Inside n xs → Inside n ys → Inside n (xs ++ ys)
-inside_both no-vertex b = b
+inside_both no_vertex b = b
 inside_both (also l a) b = also l (inside_both a b)
 
 pub inside-top : {n x : ℕ} {xs : List ℕ} → Inside n (x ∷ xs) → x < n
@@ -32,7 +32,7 @@ module _ (g : Graph) (k : ℕ) (movable : ℕ → Bool) (p : List ℕ) (v : ℕ)
 
   pub pushed-inside : (n : ℕ) → Rows n g → v < n → (m : ℕ) → m ≤ past g v - first g v → Inside n (pushed g k movable p v m)
   unfolding pushed
-  pushed-inside n ok here zero l = no-vertex
+  pushed-inside n ok here zero l = no_vertex
   pushed-inside n ok here (suc m) l = go (movable (neighbour g (first g v + m)) && has_gain g k p (neighbour g (first g v + m))) (pushed-inside n ok here m (omega arith))
     where
       go : (b : Bool) → Inside n (pushed g k movable p v m) → Inside n (cond b (neighbour g (first g v + m) ∷ pushed g k movable p v m) (pushed g k movable p v m))

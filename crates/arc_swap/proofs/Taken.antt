@@ -20,7 +20,7 @@ use Rattle.arc_swap_attempt.specs.declared.Standing.{Standing}
 use Rattle.arc_swap_attempt.proofs.Stacks.{stacked-push, stacked-none}
 use Rattle.arc_swap.specs.declared.RunRecord.{RunRecord}
 use Rattle.arc_swap.specs.Run.{Terms, State, drain, on_cut, first_push, turn}
-use Rattle.arc_swap.specs.inner.Steps.{no-vertex, also, at, standing, spent, most, Asked, TurnAsked, Done, FirstDone}
+use Rattle.arc_swap.specs.inner.Steps.{no_vertex, also, at, standing, spent, most, Asked, TurnAsked, Done, FirstDone}
 use Rattle.arc_swap.proofs.Drains.{drain-empty}
 
 -- ---- the neighbours in another part
@@ -63,14 +63,14 @@ unfolding on_cut
 first-weighed starts neighbours weights labels stack v c stack' r d = record { off = d.off; full = d.full; alone = d.alone }
 
 -- ---- the turn
-module _ (s : Terms) (all-movable : s.movable ≡ (λ v. true)) where
+module _ (s : Terms) (all_movable : s.movable ≡ (λ v. true)) where
   turn-off : (st : State) (v : ℕ) → on_cut s.graph st.labels v ≡ false → turn s st v ≡ st
   unfolding turn
-  turn-off st v e = rw (all-movable, e)
+  turn-off st v e = rw (all_movable, e)
 
   turn_on : (st : State) (v : ℕ) → on_cut s.graph st.labels v ≡ true → turn s st v ≡ drain s ((cut s.graph st.labels + 1) * (s.places + 1)) (first_push s st v)
   unfolding turn
-  turn_on st v e = rw (all-movable, e)
+  turn_on st v e = rw (all_movable, e)
 
   push-full : (p l : List ℕ) (c : RunRecord) (gs : List ℤ) (v : ℕ) → s.places ≡ 0 → first_push s (at p l c gs false) v ≡ at p [] c gs true
   unfolding first_push
@@ -131,7 +131,7 @@ module _ (s : Terms) (all-movable : s.movable ≡ (λ v. true)) where
               ok = ask.asked.ordered.ok;
               places = length-set stack 0 v ∙ ask.asked.ordered.places;
               within = (let a = length-set stack 0 v in let b = big in omega arith);
-              inside = rw alone (also here no-vertex);
+              inside = rw alone (also here no_vertex);
               stood = ask.asked.ordered.stood;
               summed = ask.asked.ordered.summed;
             };

@@ -1,4 +1,6 @@
 // Arc-swap between up to sixteen parts: coupe's algorithms/arc_swap.rs, on one thread. Document 01, "Arc-swap".
+#![tactic(auto)]
+
 ghost use Rattle.std.specs.Prelude.{◌≡◌, false, [], ◌∷◌, ℕ, ◌+◌, ◌*◌, ◌≤◌, length};
 ghost use Rattle.imbalance.specs.Limit.{most_weight};
 ghost use Rattle.topology.specs.Cut.{cut};
@@ -18,7 +20,7 @@ pub use number::parts_of;
 
 // The counts of a run: attempts, and what came of them.
 #[repr(C)]
-#[derive(Drop)]
+#[derive(Clone, Copy)]
 pub struct RunRecord {
     pub attempts: u64,
     pub moves: u64,
@@ -28,14 +30,14 @@ pub struct RunRecord {
 
 // What is asked of the ceiling.
 #[repr(C)]
-#[derive(Drop)]
+#[derive(Clone, Copy)]
 pub struct Settings {
     pub ceiling: Ceiling,
 }
 
 // What a call answers: document 01's number, the run's end, its passes, the first and the last cut, and the loads left.
 #[repr(C)]
-#[derive(Drop)]
+#[derive(Clone, Copy)]
 pub struct Report {
     pub number: u32,
     pub end: u32,
@@ -46,14 +48,14 @@ pub struct Report {
 }
 
 // Where a run stands after an attempt, and what came of it.
-#[derive(Drop)]
+#[derive(Clone, Copy)]
 pub struct Attempted {
     pub st: Standing,
     pub trial: Trial,
 }
 
 // What the passes leave: the run's end, how many there were, and where it stands.
-#[derive(Drop)]
+#[derive(Clone, Copy)]
 pub struct Ended {
     pub end: u32,
     pub passes: u32,
@@ -61,14 +63,14 @@ pub struct Ended {
 }
 
 // What a run begins with: what bounds its moves, and where it stands.
-#[derive(Drop)]
+#[derive(Clone, Copy)]
 pub struct Begun {
     pub limits: Limits,
     pub st: Standing,
 }
 
 // What a call answers by value: the report, and the run record after it.
-#[derive(Drop)]
+#[derive(Clone, Copy)]
 pub struct Answered {
     pub report: Report,
     pub run: RunRecord,

@@ -66,8 +66,8 @@ module _ (g : Graph) (k : ℕ) (ws p s₀ : List ℕ) (c : Standing) (v : ℕ) (
   cut-falls : cut g (set p v t) + x ≡ c.cut
   cut-falls =
       let a = cut-move g p v t ask.symmetric ask.here in
-      let b = aimed.gain-is in
-      let d = ask.stood.cut-is in
+      let b = aimed.gain_is in
+      let d = ask.stood.cut_is in
       omega arith
 
   -- the gain is no more than the cut
@@ -84,7 +84,7 @@ module _ (g : Graph) (k : ℕ) (ws p s₀ : List ℕ) (c : Standing) (v : ℕ) (
     goes = λ u y q. rw (← same u y (sym goes ∙ q)) (record {
       labelled = refl;
       stood = record {
-        cut-is = let a = cut-falls in omega arith;
+        cut_is = let a = cut-falls in omega arith;
         loaded = e ∙ rw ask.stood.loaded (loads-move ws p v t ask.here own_below to_below aimed.apart);
       };
       pushes = d;

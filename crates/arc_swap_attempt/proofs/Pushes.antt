@@ -34,7 +34,7 @@ pub record Pushing (g : Graph) (k : ℕ) (p : List ℕ) (v : ℕ) (s₀ : List �
   pub long : length s ≡ length s₀
   pub within : top ≤ length s₀
   pub top-is : top ≡ length (news g k p v (e - first g v)) + n
-  pub stacked-is : stacked s top ≡ news g k p v (e - first g v) ++ stacked s₀ n
+  pub stacked_is : stacked s top ≡ news g k p v (e - first g v) ++ stacked s₀ n
   pub kept : stacked s n ≡ stacked s₀ n
 
 module _ (g : Graph) (k : ℕ) (p : List ℕ) (v : ℕ) (s₀ : List ℕ) (n : ℕ) (places : n ≤ length s₀) where
@@ -48,7 +48,7 @@ module _ (g : Graph) (k : ℕ) (p : List ℕ) (v : ℕ) (s₀ : List ℕ) (n : �
         long = refl;
         within = places;
         top-is = rw z (omega arith);
-        stacked-is = rw z;
+        stacked_is = rw z;
         kept = refl;
       }
 
@@ -77,7 +77,7 @@ module _ (g : Graph) (k : ℕ) (p : List ℕ) (v : ℕ) (s₀ : List ℕ) (n : �
             long = inv.long;
             within = inv.within;
             top-is = rw a inv.top-is;
-            stacked-is = rw a inv.stacked-is;
+            stacked_is = rw a inv.stacked_is;
             kept = inv.kept;
           }
 
@@ -95,7 +95,7 @@ module _ (g : Graph) (k : ℕ) (p : List ℕ) (v : ℕ) (s₀ : List ℕ) (n : �
               long = length-set s top u ∙ inv.long;
               within = omega arith;
               top-is = rw one (omega arith);
-              stacked-is = stacked-push s top u (omega arith) ∙ rw one (ap (λ (ys : List ℕ). u ∷ ys) inv.stacked-is);
+              stacked_is = stacked-push s top u (omega arith) ∙ rw one (ap (λ (ys : List ℕ). u ∷ ys) inv.stacked_is);
               kept = stacked-above s top u n (omega arith) ∙ inv.kept;
             }
 
@@ -105,8 +105,8 @@ module _ (g : Graph) (k : ℕ) (p : List ℕ) (v : ℕ) (s₀ : List ℕ) (n : �
             let x = inv.top-is in
             let z : suc (length (news g k p v i)) ≤ length (pushed_by g k p v) = grown in
             record {
-              fits-is = sym (lt-leb (length (pushed_by g k p v) + n) (length s₀) (omega arith));
-              stacked-is = inv.kept;
+              fits_is = sym (lt-leb (length (pushed_by g k p v) + n) (length s₀) (omega arith));
+              stacked_is = inv.kept;
               within = places;
             }
           where
@@ -125,7 +125,7 @@ module _ (g : Graph) (k : ℕ) (p : List ℕ) (v : ℕ) (s₀ : List ℕ) (n : �
         let x : top ≡ length (pushed_by g k p v) + n = rw q at inv.top-is in
         let y = inv.within in
         record {
-          fits-is = sym (le-leb (length (pushed_by g k p v) + n) (length s₀) (omega arith));
-          stacked-is = rw q at inv.stacked-is;
+          fits_is = sym (le-leb (length (pushed_by g k p v) + n) (length s₀) (omega arith));
+          stacked_is = rw q at inv.stacked_is;
           within = inv.within;
         }

@@ -1,4 +1,6 @@
 // The C entry points, as include/daunsrevit.h declares them. Each only calls the checked entry of its crate and has that entry's promise. Document 01, "Numbers a call gives back".
+#![tactic(auto)]
+
 ghost use Rattle.std.specs.Prelude.{◌≡◌};
 ghost use Rattle.imbalance.specs.Number.{loads_answer};
 ghost use Rattle.topology.specs.Graph.{in_rows};

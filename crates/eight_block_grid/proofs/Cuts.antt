@@ -52,14 +52,14 @@ one_number labels r e = (e, e ∙ at (eqb 8 (length labels)) refl)
     at true q = rw (← eqb-true 8 (length labels) q, sound, rows-sound, light-arcs)
     at false q = let o = not_eight (length labels) q in rw (o.0, o.1)
 
-pub row-1 : (edge_cut_answer grid A ≡ record { number = 0; cut = 6 }) × (lambda_cut_answer grid ones A ≡ record { number = 0; cut = 6 }) × (loads_answer ones A ≡ record { number = 0; loads = four_four })
+pub row_1 : (edge_cut_answer grid A ≡ record { number = 0; cut = 6 }) × (lambda_cut_answer grid ones A ≡ record { number = 0; cut = 6 }) × (loads_answer ones A ≡ record { number = 0; loads = four_four })
 unfolding edge_cut_answer edge_cut_number lambda_cut_answer lambda_cut_number loads_answer loads_number cut lambda parts_around touches load label_above graph_number rows_number misfit oversize rows_ok starts_ok arc_ok has_arc answered heavy arcs between sum total table all all_from any any_from
-row-1 = (refl, refl, refl)
+row_1 = (refl, refl, refl)
 
-pub row-2 : (edge_cut_answer grid B ≡ record { number = 0; cut = 2 }) × (lambda_cut_answer grid ones B ≡ record { number = 0; cut = 4 })
+pub row_2 : (edge_cut_answer grid B ≡ record { number = 0; cut = 2 }) × (lambda_cut_answer grid ones B ≡ record { number = 0; cut = 4 })
 unfolding edge_cut_answer edge_cut_number lambda_cut_answer lambda_cut_number cut lambda parts_around touches label_above graph_number rows_number misfit oversize rows_ok starts_ok arc_ok has_arc answered heavy arcs between sum total all all_from any any_from
-row-2 = (refl, refl)
+row_2 = (refl, refl)
 
-pub row-3 : gains_in_a ≡ eight_gains
+pub row_3 : gains_in_a ≡ eight_gains
 unfolding table gain into arcs between sum
-row-3 = refl
+row_3 = refl

@@ -21,14 +21,14 @@ use Rattle.fiduccia_mattheyses.specs.Entry.{unfit, short, number_of, terms_of, r
 use Rattle.eight_block_grid.specs.Inputs.{fm_plan, fm_lent}
 use Rattle.eight_block_grid.specs.TenRows.{four_four, fm_left}
 
-pub row-4 : ((terms_of (fm_plan 2 0) fm_lent).ceilings ≡ replicate 16 5) × (answer (fm_plan 2 0) fm_lent ≡ record { number = 0; end = 1; passes = 2; first = 6; last = 2; loads = four_four }) × (left (fm_plan 2 0) fm_lent ≡ fm_left B (2 ∷ 0 ∷ []) (0 ∷ 0 ∷ []))
+pub row_4 : ((terms_of (fm_plan 2 0) fm_lent).ceilings ≡ replicate 16 5) × (answer (fm_plan 2 0) fm_lent ≡ record { number = 0; end = 1; passes = 2; first = 6; last = 2; loads = four_four }) × (left (fm_plan 2 0) fm_lent ≡ fm_left B (2 ∷ 0 ∷ []) (0 ∷ 0 ∷ []))
 unfolding answer left report_of left_by number_of unfit short unfit_choice legal_e le label_above graph_number rows_number misfit oversize rows_ok starts_ok arc_ok has_arc answered heavy all all_from any any_from written run pass walk next move_on flips choice better allowed fits after worth member flip best gain into arcs cut load between sum table total ceilings ceiling largest ceiling_of limit_of add div of_int mul
-row-4 = (refl, refl, refl)
+row_4 = (refl, refl, refl)
 
-pub row-5 : (answer (fm_plan 2 1) fm_lent ≡ record { number = 0; end = 1; passes = 2; first = 6; last = 2; loads = four_four }) × (left (fm_plan 2 1) fm_lent ≡ fm_left B (3 ∷ 1 ∷ []) (1 ∷ 1 ∷ []))
+pub row_5 : (answer (fm_plan 2 1) fm_lent ≡ record { number = 0; end = 1; passes = 2; first = 6; last = 2; loads = four_four }) × (left (fm_plan 2 1) fm_lent ≡ fm_left B (3 ∷ 1 ∷ []) (1 ∷ 1 ∷ []))
 unfolding answer left report_of left_by number_of unfit short unfit_choice legal_e le label_above graph_number rows_number misfit oversize rows_ok starts_ok arc_ok has_arc answered heavy all all_from any any_from written run pass walk next move_on flips choice better allowed fits after worth member flip best gain into arcs cut load between sum table total ceilings ceiling largest ceiling_of limit_of add div of_int mul
-row-5 = (refl, refl)
+row_5 = (refl, refl)
 
-pub row-6 : (answer (fm_plan 0 0) fm_lent ≡ record { number = 0; end = 1; passes = 1; first = 6; last = 6; loads = four_four }) × (left (fm_plan 0 0) fm_lent ≡ fm_left A (0 ∷ []) (0 ∷ []))
+pub row_6 : (answer (fm_plan 0 0) fm_lent ≡ record { number = 0; end = 1; passes = 1; first = 6; last = 6; loads = four_four }) × (left (fm_plan 0 0) fm_lent ≡ fm_left A (0 ∷ []) (0 ∷ []))
 unfolding answer left report_of left_by number_of unfit short unfit_choice legal_e le label_above graph_number rows_number misfit oversize rows_ok starts_ok arc_ok has_arc answered heavy all all_from any any_from written run pass walk next move_on flips choice better allowed fits after worth member flip best gain into arcs cut load between sum table total ceilings ceiling largest ceiling_of limit_of add div of_int mul
-row-6 = (refl, refl)
+row_6 = (refl, refl)

@@ -56,12 +56,12 @@ two-parts v = go (ltb v 8) refl
     go false t = rw (get_or-eq_default A 0 {n = v} (ltb-false v 8 t)) (omega arith)
 
 -- the gains of a list of zeros, written one by one, are those of row 3
-pub gains-are : fresh_gains grid A (no_gains 8) ≡ gains_in_a
+pub gains_are : fresh_gains grid A (no_gains 8) ≡ gains_in_a
 unfolding written table
-gains-are = refl
+gains_are = refl
 
 pub gains-compared : (gains : List ℤ) (b : Bool) → gains ≡ fresh_gains grid A (no_gains 8) → b ≡ same_gains gains eight_gains → b ≡ row3
-gains-compared gains b e s = s ∙ ap (λ (gs : List ℤ). same_gains gs eight_gains) (e ∙ gains-are)
+gains-compared gains b e s = s ∙ ap (λ (gs : List ℤ). same_gains gs eight_gains) (e ∙ gains_are)
 
 pub cuts-give : (labels numbers : List ℕ) (edge lambda : CutAnswer) (b : Bool) → edge ≡ edge_cut_answer grid labels → lambda ≡ lambda_cut_answer grid ones labels → b ≡ same (cuts_seen edge lambda) numbers → b ≡ cuts_give labels numbers
 unfolding cuts_give

@@ -52,48 +52,48 @@ rounds-hold = rw totals-are refl
 module _ (t : TenRows) where
   pub holds-1 : row1 ≡ true
   unfolding alike all
-  holds-1 = ap₂ ◌&&◌ (cuts-hold _ _ _ _ t.row-1.0 t.row-1.1 refl) (loads-hold _ _ t.row-1.2 refl)
+  holds-1 = ap₂ ◌&&◌ (cuts-hold _ _ _ _ t.row_1.0 t.row_1.1 refl) (loads-hold _ _ t.row_1.2 refl)
 
   pub holds-2 : row2 ≡ true
   unfolding alike all
-  holds-2 = cuts-hold _ _ _ _ t.row-2.0 t.row-2.1 refl
+  holds-2 = cuts-hold _ _ _ _ t.row_2.0 t.row_2.1 refl
 
   pub holds-3 : row3 ≡ true
   unfolding alike all
-  holds-3 = ap (λ (gs : List ℤ). same_gains gs eight_gains) t.row-3
+  holds-3 = ap (λ (gs : List ℤ). same_gains gs eight_gains) t.row_3
 
   pub holds-4 : row4 ≡ true
   unfolding alike all
-  holds-4 = fm-holds _ _ _ _ _ _ t.row-4.1 t.row-4.2 refl
+  holds-4 = fm-holds _ _ _ _ _ _ t.row_4.1 t.row_4.2 refl
 
   pub holds-5 : row5 ≡ true
   unfolding alike all
-  holds-5 = fm-holds _ _ _ _ _ _ t.row-5.0 t.row-5.1 refl
+  holds-5 = fm-holds _ _ _ _ _ _ t.row_5.0 t.row_5.1 refl
 
   pub holds-6 : row6 ≡ true
   unfolding alike all
-  holds-6 = fm-holds _ _ _ _ _ _ t.row-6.0 t.row-6.1 refl
+  holds-6 = fm-holds _ _ _ _ _ _ t.row_6.0 t.row_6.1 refl
 
   pub holds-7 : row7 ≡ true
   unfolding alike all
-  holds-7 = kl-holds _ _ _ _ _ _ _ t.row-7.0 t.row-7.1 refl
+  holds-7 = kl-holds _ _ _ _ _ _ _ t.row_7.0 t.row_7.1 refl
 
   pub holds-8 : row8 ≡ true
   unfolding alike all
-  holds-8 = kl-holds _ _ _ _ _ _ _ t.row-8.0 t.row-8.1 refl
+  holds-8 = kl-holds _ _ _ _ _ _ _ t.row_8.0 t.row_8.1 refl
 
   pub holds-9 : row9 ≡ true
   unfolding alike all
-  holds-9 = kl-holds _ _ _ _ _ _ _ t.row-9.0 t.row-9.1 refl
+  holds-9 = kl-holds _ _ _ _ _ _ _ t.row_9.0 t.row_9.1 refl
 
   pub holds-10 : row10 ≡ true
   unfolding alike all
-  holds-10 = swap_holds _ _ _ _ t.row-10.0 t.row-10.1 refl
+  holds-10 = swap_holds _ _ _ _ t.row_10.0 t.row_10.1 refl
 
   -- "These ten are proved together": so none differs
-  pub none-differs : first_differing ≡ 0
+  pub none_differs : first_differing ≡ 0
   unfolding first_differing
-  none-differs = rw (holds-1, holds-2, holds-3, holds-4, holds-5, holds-6, holds-7, holds-8, holds-9, holds-10, rounds-hold) refl
+  none_differs = rw (holds-1, holds-2, holds-3, holds-4, holds-5, holds-6, holds-7, holds-8, holds-9, holds-10, rounds-hold) refl
 
 -- a row that holds was not found to differ
 pub not_so : {P : Type 0} {q row : Bool} → row ≡ true → q ≡ row → not q ≡ true → P

@@ -16,14 +16,14 @@ use Rattle.kernighan_lin.specs.Entry.{uses, different, mislabelled, short, numbe
 use Rattle.eight_block_grid.specs.Inputs.{kl_plan, kl_lent}
 use Rattle.eight_block_grid.specs.TenRows.{labels8}
 
-pub row-7 : (answer (kl_plan 1 1) (kl_lent A) ≡ record { number = 0; end = 0; passes = 1; first = 6; last = 2 }) × (left (kl_plan 1 1) (kl_lent A) ≡ kl_lent B)
+pub row_7 : (answer (kl_plan 1 1) (kl_lent A) ≡ record { number = 0; end = 0; passes = 1; first = 6; last = 2 }) × (left (kl_plan 1 1) (kl_lent A) ≡ kl_lent B)
 unfolding answer left report_of left_by run_of number_of uses different mislabelled short label_above graph_number rows_number misfit oversize rows_ok starts_ok arc_ok has_arc answered heavy total all all_from any any_from written run pass walk next after pair start swapped largest updated added fresh table best cut into joins arcs between sum
-row-7 = (refl, refl)
+row_7 = (refl, refl)
 
-pub row-8 : (answer (kl_plan 1 1) (kl_lent B) ≡ record { number = 0; end = 1; passes = 1; first = 2; last = 4 }) × (left (kl_plan 1 1) (kl_lent B) ≡ kl_lent labels8)
+pub row_8 : (answer (kl_plan 1 1) (kl_lent B) ≡ record { number = 0; end = 1; passes = 1; first = 2; last = 4 }) × (left (kl_plan 1 1) (kl_lent B) ≡ kl_lent labels8)
 unfolding answer left report_of left_by run_of number_of uses different mislabelled short label_above graph_number rows_number misfit oversize rows_ok starts_ok arc_ok has_arc answered heavy total all all_from any any_from written run pass walk next after pair start swapped largest updated added fresh table best cut into joins arcs between sum
-row-8 = (refl, refl)
+row_8 = (refl, refl)
 
-pub row-9 : (answer (kl_plan 8 0) (kl_lent B) ≡ record { number = 0; end = 1; passes = 1; first = 2; last = 2 }) × (left (kl_plan 8 0) (kl_lent B) ≡ kl_lent B)
+pub row_9 : (answer (kl_plan 8 0) (kl_lent B) ≡ record { number = 0; end = 1; passes = 1; first = 2; last = 2 }) × (left (kl_plan 8 0) (kl_lent B) ≡ kl_lent B)
 unfolding answer left report_of left_by run_of number_of uses different mislabelled short label_above graph_number rows_number misfit oversize rows_ok starts_ok arc_ok has_arc answered heavy total all all_from any any_from written run pass walk next after pair start swapped largest updated added fresh table best cut into joins arcs between sum
-row-9 = (refl, refl)
+row_9 = (refl, refl)

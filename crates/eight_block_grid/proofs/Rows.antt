@@ -8,14 +8,14 @@ use Rattle.eight_block_grid.proofs.SwapRuns as Swap
 pub ten-rows : TenRows
 ten-rows =
     record {
-      row-1 = Cuts.row-1;
-      row-2 = Cuts.row-2;
-      row-3 = Cuts.row-3;
-      row-4 = FM.row-4;
-      row-5 = FM.row-5;
-      row-6 = FM.row-6;
-      row-7 = KL.row-7;
-      row-8 = KL.row-8;
-      row-9 = KL.row-9;
-      row-10 = Swap.row-10;
+      row_1 = Cuts.row_1;
+      row_2 = Cuts.row_2;
+      row_3 = Cuts.row_3;
+      row_4 = FM.row_4;
+      row_5 = FM.row_5;
+      row_6 = FM.row_6;
+      row_7 = KL.row_7;
+      row_8 = KL.row_8;
+      row_9 = KL.row_9;
+      row_10 = Swap.row_10;
     }

@@ -18,8 +18,8 @@ use Rattle.arc_swap.specs.Entry.{number, parts_of, report_of, left_by, answer, l
 use Rattle.eight_block_grid.specs.Inputs.{zeros, swap_plan, swap_lent}
 use Rattle.eight_block_grid.specs.TenRows.{four_four}
 
-pub row-10 :
+pub row_10 :
     (answer swap_plan swap_lent ≡ record { number = 0; end = 1; passes = 2; first = 6; last = 2; loads = four_four })
     × (left swap_plan swap_lent ≡ record { labels = B; stack = zeros 8; run = record { attempts = 12; moves = 4; no_gain = 7; bad_balance = 1 } })
 unfolding answer left report_of left_by number parts_of unfit_choice legal_e le label_above graph_number rows_number misfit oversize rows_ok starts_ok arc_ok has_arc answered heavy total all all_from any any_from written run sweep turn first_push on_cut drain attempt after trial pushed has_gain aim best cut gain load into arcs between sum table ceilings ceiling largest ceiling_of limit_of add div of_int mul
-row-10 = (refl, refl)
+row_10 = (refl, refl)

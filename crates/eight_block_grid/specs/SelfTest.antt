@@ -159,4 +159,4 @@ first_differing =
 -- THE PROMISE: the answer r is that comparison, and nothing differs
 pub record Tested (r : ℕ) : Type 0 where
   pub compared : r ≡ first_differing
-  pub none-differs : r ≡ 0
+  pub none_differs : r ≡ 0

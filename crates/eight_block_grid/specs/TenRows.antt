@@ -36,24 +36,24 @@ fm_left labels made rewound =
 
 pub record TenRows : Type 0 where
   -- "1. A: cut 6, lambda 6, loads 4 and 4."
-  pub row-1 : (edge_cut_answer grid A ≡ record { number = 0; cut = 6 }) × (lambda_cut_answer grid ones A ≡ record { number = 0; cut = 6 }) × (loads_answer ones A ≡ record { number = 0; loads = four_four })
+  pub row_1 : (edge_cut_answer grid A ≡ record { number = 0; cut = 6 }) × (lambda_cut_answer grid ones A ≡ record { number = 0; cut = 6 }) × (loads_answer ones A ≡ record { number = 0; loads = four_four })
   -- "2. B: cut 2, lambda 4."
-  pub row-2 : (edge_cut_answer grid B ≡ record { number = 0; cut = 2 }) × (lambda_cut_answer grid ones B ≡ record { number = 0; cut = 4 })
+  pub row_2 : (edge_cut_answer grid B ≡ record { number = 0; cut = 2 }) × (lambda_cut_answer grid ones B ≡ record { number = 0; cut = 4 })
   -- "3. Gains in A: -2, 1, 1, -2, 0, 3, 3, 0."
-  pub row-3 : gains_in_a ≡ eight_gains
+  pub row_3 : gains_in_a ≡ eight_gains
   -- "4. FM on A, e = 0.25 (ceiling 5), bad limit 0, P = 64, moves 8: B, rows 2/0 and 0/0, end 1."
-  pub row-4 : ((FM.terms_of (fm_plan 2 0) fm_lent).ceilings ≡ replicate 16 5) × (FM.answer (fm_plan 2 0) fm_lent ≡ record { number = 0; end = 1; passes = 2; first = 6; last = 2; loads = four_four }) × (FM.left (fm_plan 2 0) fm_lent ≡ fm_left B (2 ∷ 0 ∷ []) (0 ∷ 0 ∷ []))
+  pub row_4 : ((FM.terms_of (fm_plan 2 0) fm_lent).ceilings ≡ replicate 16 5) × (FM.answer (fm_plan 2 0) fm_lent ≡ record { number = 0; end = 1; passes = 2; first = 6; last = 2; loads = four_four }) × (FM.left (fm_plan 2 0) fm_lent ≡ fm_left B (2 ∷ 0 ∷ []) (0 ∷ 0 ∷ []))
   -- "5. Same, bad limit 1: B, rows 3/1 and 1/1."
-  pub row-5 : (FM.answer (fm_plan 2 1) fm_lent ≡ record { number = 0; end = 1; passes = 2; first = 6; last = 2; loads = four_four }) × (FM.left (fm_plan 2 1) fm_lent ≡ fm_left B (3 ∷ 1 ∷ []) (1 ∷ 1 ∷ []))
+  pub row_5 : (FM.answer (fm_plan 2 1) fm_lent ≡ record { number = 0; end = 1; passes = 2; first = 6; last = 2; loads = four_four }) × (FM.left (fm_plan 2 1) fm_lent ≡ fm_left B (3 ∷ 1 ∷ []) (1 ∷ 1 ∷ []))
   -- "6. Carried ceiling: A, row 0/0."
-  pub row-6 : (FM.answer (fm_plan 0 0) fm_lent ≡ record { number = 0; end = 1; passes = 1; first = 6; last = 6; loads = four_four }) × (FM.left (fm_plan 0 0) fm_lent ≡ fm_left A (0 ∷ []) (0 ∷ []))
+  pub row_6 : (FM.answer (fm_plan 0 0) fm_lent ≡ record { number = 0; end = 1; passes = 1; first = 6; last = 6; loads = four_four }) × (FM.left (fm_plan 0 0) fm_lent ≡ fm_left A (0 ∷ []) (0 ∷ []))
   -- "7. KL on A, P 1, swap limit 1, bad limit 1: B."
-  pub row-7 : (KL.answer (kl_plan 1 1) (kl_lent A) ≡ record { number = 0; end = 0; passes = 1; first = 6; last = 2 }) × (KL.left (kl_plan 1 1) (kl_lent A) ≡ kl_lent B)
+  pub row_7 : (KL.answer (kl_plan 1 1) (kl_lent A) ≡ record { number = 0; end = 0; passes = 1; first = 6; last = 2 }) × (KL.left (kl_plan 1 1) (kl_lent A) ≡ kl_lent B)
   -- "8. KL on B, the same: 0,0,0,1,0,1,1,1, cut 4."
-  pub row-8 : (KL.answer (kl_plan 1 1) (kl_lent B) ≡ record { number = 0; end = 1; passes = 1; first = 2; last = 4 }) × (KL.left (kl_plan 1 1) (kl_lent B) ≡ kl_lent labels8)
+  pub row_8 : (KL.answer (kl_plan 1 1) (kl_lent B) ≡ record { number = 0; end = 1; passes = 1; first = 2; last = 4 }) × (KL.left (kl_plan 1 1) (kl_lent B) ≡ kl_lent labels8)
   -- "9. KL on B, P 1, bad limit 0: B, end 1."
-  pub row-9 : (KL.answer (kl_plan 8 0) (kl_lent B) ≡ record { number = 0; end = 1; passes = 1; first = 2; last = 2 }) × (KL.left (kl_plan 8 0) (kl_lent B) ≡ kl_lent B)
+  pub row_9 : (KL.answer (kl_plan 8 0) (kl_lent B) ≡ record { number = 0; end = 1; passes = 1; first = 2; last = 2 }) × (KL.left (kl_plan 8 0) (kl_lent B) ≡ kl_lent B)
   -- "10. Arc-swap on A, e = 0.25, stack 8: B; passes 2, attempts 12, moves 4, no-gain 7, bad-balance 1."
-  pub row-10 :
+  pub row_10 :
       (Swap.answer swap_plan swap_lent ≡ record { number = 0; end = 1; passes = 2; first = 6; last = 2; loads = four_four })
       × (Swap.left swap_plan swap_lent ≡ record { labels = B; stack = zeros 8; run = record { attempts = 12; moves = 4; no_gain = 7; bad_balance = 1 } })

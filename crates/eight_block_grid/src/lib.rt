@@ -1,4 +1,6 @@
 // The eight-block grid as constant tables, and the self-test over its ten rows and three ceilings. Document 01, "The eight-block grid" and "Ceiling".
+#![tactic(auto)]
+
 mod same; // same.rt: whether labels, numbers and gains are the same
 
 ghost use Rattle.std.specs.Prelude.{◌≡◌};

@@ -59,13 +59,13 @@ passes-within s (suc k) p = go (ltb (pass s p).least (cut s.graph p)) refl (pass
 
 least-cut : (s : Terms) (p : List ℕ) → (pass s p).least ≡ cut s.graph (pass s p).labels
 unfolding pass
-least-cut s p = (keeps-walk s p s.move_limit).least-is
+least-cut s p = (keeps-walk s p s.move_limit).least_is
 
 -- "passes at most starting cut + 1": each pass but the last lowers the cut
-pub few-passes : (s : Terms) (k : ℕ) (p : List ℕ) → length (run s k p).rows ≤ cut s.graph p + 1
+pub few_passes : (s : Terms) (k : ℕ) (p : List ℕ) → length (run s k p).rows ≤ cut s.graph p + 1
 unfolding run
-few-passes s zero p = omega arith
-few-passes s (suc k) p = go (ltb (pass s p).least (cut s.graph p)) refl (few-passes s k (pass s p).labels)
+few_passes s zero p = omega arith
+few_passes s (suc k) p = go (ltb (pass s p).least (cut s.graph p)) refl (few_passes s k (pass s p).labels)
   where
     least : (pass s p).least ≡ cut s.graph (pass s p).labels
     least = least-cut s p

@@ -18,7 +18,7 @@ use Rattle.topology.specs.Given.{graph_of}
 use Rattle.fiduccia_mattheyses.specs.Entry.{Given, Lent, terms_of, run_of, report_of, left_by, Refined}
 use Rattle.fiduccia_mattheyses.specs.Demand.{EarliestOfLeast, states, NoSingleBlock, DemandThree}
 use Rattle.fiduccia_mattheyses.proofs.Running.{mades, run-last, run_more}
-use Rattle.fiduccia_mattheyses.proofs.Results.{Done, two_ways, no-vertices, ran, passes-are, made_at}
+use Rattle.fiduccia_mattheyses.proofs.Results.{Done, two_ways, no-vertices, ran, passes_are, made_at}
 use Rattle.fiduccia_mattheyses.proofs.Earliest.{earliest-is}
 use Rattle.fiduccia_mattheyses.proofs.Least.{leaves-the-least}
 use Rattle.fiduccia_mattheyses.proofs.States.{states-counted}
@@ -42,9 +42,9 @@ none-same (x ∷ xs) ys a b = absurd (omega (arith, a))
 
 module _ (p : Given) (l : Lent) (r : Report) (k : Lent) (f : Refined p l r k) (z : r.number ≡ 0) where
   -- the labels are those of the run, for no vertices too
-  labels-are : k.labels ≡ (run_of p l).labels
+  labels_are : k.labels ≡ (run_of p l).labels
   unfolding left_by
-  labels-are = go (two_ways p l r k f z)
+  labels_are = go (two_ways p l r k f z)
     where
       go : Done p l r k → k.labels ≡ (run_of p l).labels
       go (no-vertices n e q) = rw q (none-same l.labels (run_of p l).labels n (run_long (terms_of p l) p.settings.passes l.labels ∙ n))
@@ -63,9 +63,9 @@ module _ (p : Given) (l : Lent) (r : Report) (k : Lent) (f : Refined p l r k) (z
   -- Demand 3 holds of every result with number 0.
   pub demand-three : DemandThree p l r k
   demand-three = record {
-    least = labels-are ∙ leaves-the-least (terms_of p l) p.settings.passes l.labels;
-    single = λ one moves. rw labels-are (single one moves);
-    boards = rw labels-are (no-board-above (terms_of p l) p.settings.passes l.labels);
+    least = labels_are ∙ leaves-the-least (terms_of p l) p.settings.passes l.labels;
+    single = λ one moves. rw labels_are (single one moves);
+    boards = rw labels_are (no-board-above (terms_of p l) p.settings.passes l.labels);
   }
 
   -- Its first sentence holds with no word of how the labels are found: they stand among the start and the states after each move made, none of these has a lower cut, and each before them has a higher one.
@@ -85,5 +85,5 @@ module _ (p : Given) (l : Lent) (r : Report) (k : Lent) (f : Refined p l r k) (z
           let few = sum-most (length (mades rows)) 0 (λ i. get_or (mades rows) i 0) (λ i h. (let c = (counted-at (length l.labels) rows (rows-counted (terms_of p l) p.settings.passes l.labels) i (let m = length-map rows (λ (x : Pass). x.made) in omega arith)).0 in omega arith)) in
           rw (ap (λ (x : Report). x.passes) e) (omega (arith, sum-none (λ i. get_or k.made i 0)))
       go (ran n a d) =
-          rw (length-map rows (λ (x : Pass). x.made), ← passes-are p l r k d)
+          rw (length-map rows (λ (x : Pass). x.made), ← passes_are p l r k d)
           (sum-ext r.passes (λ i. get_or (mades rows) i 0) (λ i. get_or k.made i 0) (λ i h. sym (made_at p l r k d i h)))

@@ -66,13 +66,13 @@ ready p l k s e z =
     let s1 = or-false (ltb r.moves n) (ltb r.made q || ltb r.rewound q) s0.1 in
     let s2 = or-false (ltb r.made q) (ltb r.rewound q) s1.1 in
     record {
-      a-vertex = omega arith;
+      a_vertex = omega arith;
       beginnable = record { sound = sound n p.weights (graph_of p) both.0; labelled = six.0; fit = u.1 };
-      few-passes = ltb-false most_passes q u.0;
-      in-gains = ltb-false r.gains n s0.0;
-      in-moves = ltb-false r.moves n s1.0;
-      in-made = ltb-false r.made q s2.0;
-      in-rewound = ltb-false r.rewound q s2.1;
+      few_passes = ltb-false most_passes q u.0;
+      in_gains = ltb-false r.gains n s0.0;
+      in_moves = ltb-false r.moves n s1.0;
+      in_made = ltb-false r.made q s2.0;
+      in_rewound = ltb-false r.rewound q s2.1;
     }
 
 -- ---- the first places of a list, lent on and joined again with the rest
@@ -91,8 +91,8 @@ module _ {A : Type 0} (n : ℕ) (xs ys : List A) (e : length ys ≡ length (take
 -- ---- where the run begins
 module _ (p : Given) (labels : List ℕ) (a : Beginnable p labels) where
   -- labels 0 or 1, also past the list's end
-  two-labels : (x : ℕ) → part labels x < 2
-  two-labels x = go (ltb x (length labels)) refl
+  two_labels : (x : ℕ) → part labels x < 2
+  two_labels x = go (ltb x (length labels)) refl
     where
       go : (t : Bool) → ltb x (length labels) ≡ t → part labels x < 2
       go true t = let h = label-most 1 labels a.labelled x (ltb-true x (length labels) t) in omega arith
@@ -104,11 +104,11 @@ module _ (p : Given) (labels : List ℕ) (a : Beginnable p labels) where
     paired = a.sound.weighed;
     few = a.sound.rows.few;
     light = a.sound.light;
-    named = any-nowhere (length labels) (λ v. ltb 15 (get_or labels v 0)) (λ v k. (let h = two-labels v in le-ltb 15 (get_or labels v 0) (omega arith)));
+    named = any-nowhere (length labels) (λ v. ltb 15 (get_or labels v 0)) (λ v k. (let h = two_labels v in le-ltb 15 (get_or labels v 0) (omega arith)));
   }
 
   pub begins : (loads : Loads) (total' : ℕ) → loads ≡ loads_of p.weights labels → total' ≡ total p.weights → (b : Begun) → b.limits.ceilings.at ≡ ceilings loads.at total' 2 p.settings.ceiling → b.limits.bad ≡ p.settings.bad → b.limits.moves ≡ p.settings.moves → b.loads ≡ loads → b.cut ≡ cut (graph_of p) labels → Begins p labels b
-  begins loads total' el et b ec eb em eo eu = record { capped = ec ∙ rw (el, et); bad-is = eb; moves-are = em; loaded = eo ∙ el; cut-is = eu }
+  begins loads total' el et b ec eb em eo eu = record { capped = ec ∙ rw (el, et); bad_is = eb; moves_are = em; loaded = eo ∙ el; cut_is = eu }
 
 -- ---- the run
 module _ (p : Given) (l : Lent) (a : Ready p l) where
@@ -121,7 +121,7 @@ module _ (p : Given) (l : Lent) (a : Ready p l) where
 
     -- the terms that the code works with are the definition's
     same-terms : s ≡ terms_of p l
-    same-terms = λ i. record { graph = graph_of p; weights = p.weights; ceilings = g.capped i; movable = λ v. true; bad_limit = g.bad-is i; move_limit = g.moves-are i }
+    same-terms = λ i. record { graph = graph_of p; weights = p.weights; ceilings = g.capped i; movable = λ v. true; bad_limit = g.bad_is i; move_limit = g.moves_are i }
 
     fixed : Fixed s n
     fixed =
@@ -133,7 +133,7 @@ module _ (p : Given) (l : Lent) (a : Ready p l) where
           light = r.light;
           light_arcs = r.light_arcs;
           capped = ap length g.capped ∙ ceilings-long _ _ _ _;
-          all-movable = λ v. refl;
+          all_movable = λ v. refl;
         }
 
     -- what the passes ask: the gains' first n places are lent on
@@ -141,15 +141,15 @@ module _ (p : Given) (l : Lent) (a : Ready p l) where
     passes-asked gains eg = record {
       begun = record {
         fixed = fixed;
-        two-labels = two-labels p l.labels a.beginnable;
+        two_labels = two_labels p l.labels a.beginnable;
         gained = eg;
-        places = a.in-moves;
+        places = a.in_moves;
         loaded = ap (λ (x : Loads). x.at) g.loaded;
-        cut-is = g.cut-is;
+        cut_is = g.cut_is;
       };
-      in-made = a.in-made;
-      in-rewound = a.in-rewound;
-      few-passes = a.few-passes;
+      in_made = a.in_made;
+      in_rewound = a.in_rewound;
+      few_passes = a.few_passes;
     }
 
     -- lists that agree from n on are alike once their first n places are filled
@@ -195,16 +195,16 @@ module _ (p : Given) (l : Lent) (a : Ready p l) where
               record {
                 number = 0;
                 end = (d.end_is ∙ ap (λ (x : Run). x.end) rr) i;
-                passes = (d.passes-are ∙ ap (λ (x : Run). length x.rows) rr) i;
-                first = g.cut-is i;
-                last = (d.cut-is ∙ ap (cut (graph_of p)) ll) i;
+                passes = (d.passes_are ∙ ap (λ (x : Run). length x.rows) rr) i;
+                first = g.cut_is i;
+                last = (d.cut_is ∙ ap (cut (graph_of p)) ll) i;
                 loads = record { at = (d.loaded ∙ ap (λ (x : List ℕ). table 16 (load p.weights x)) ll) i };
               });
           labels = ll;
-          gains = eg ∙ refilled (pos 0) gains' l.gains gl a.in-gains gd;
-          moves = em' ∙ refilled no_move moves' l.moves d.moves_long a.in-moves d.moves-past;
-          made = d.made-are ∙ ap (λ (x : Run). over (map (λ (y : Pass). y.made) x.rows) l.made) rr;
-          rewound = d.rewound-are ∙ ap (λ (x : Run). over (map (λ (y : Pass). y.rewound) x.rows) l.rewound) rr;
+          gains = eg ∙ refilled (pos 0) gains' l.gains gl a.in_gains gd;
+          moves = em' ∙ refilled no_move moves' l.moves d.moves_long a.in_moves d.moves_past;
+          made = d.made_are ∙ ap (λ (x : Run). over (map (λ (y : Pass). y.made) x.rows) l.made) rr;
+          rewound = d.rewound_are ∙ ap (λ (x : Run). over (map (λ (y : Pass). y.rewound) x.rows) l.rewound) rr;
         }
 
 -- ---- the call's ways out: answered at once, or run

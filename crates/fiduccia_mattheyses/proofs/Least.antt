@@ -73,7 +73,7 @@ module _ (s : Terms) (p : List ℕ) where
           let v = m.0 in
           let here : t.labels ≡ flip st.labels v = ap (λ (x : State). x.labels) m.2 ∙ labels-of st v in
           let kt : Keeps s p t = rw m.2 (keeps-move s p st v h) in
-          let low : ltb (measure (flip st.labels v)) st.least ≡ ltb (measure t.labels) (measure (kept-labels p st)) = ap₂ ltb (ap measure (sym here)) h.least-is in
+          let low : ltb (measure (flip st.labels v)) st.least ≡ ltb (measure t.labels) (measure (kept-labels p st)) = ap₂ ltb (ap measure (sym here)) h.least_is in
           ap (kept-labels p) (walk_step s k st t e)
           ∙ ih t kt
           ∙ ap (λ (x : List ℕ). earliest measure x (states_from s k t)) (ap (kept-labels p) m.2 ∙ kept_move st v h ∙ ap (λ (b : Bool). cond b (flip st.labels v) (kept-labels p st)) low ∙ ap (λ (x : List ℕ). cond (ltb (measure t.labels) (measure (kept-labels p st))) x (kept-labels p st)) (sym here))

@@ -1,7 +1,6 @@
 -- The laws of the run, and the machine-made walks of the functions over lists of move records.
 pub mod Running
 pub mod Entering
-pub mod walk
 pub mod Unique
 pub mod Results
 pub mod Earliest

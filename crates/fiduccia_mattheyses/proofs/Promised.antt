@@ -13,8 +13,8 @@ use Rattle.fiduccia_mattheyses.specs.Entry.{Given, Lent, terms_of, run_of, empty
 use Rattle.fiduccia_mattheyses.specs.inner.Steps.{Ready, Ran}
 use Rattle.fiduccia_mattheyses.specs.Counts.{CountsKept}
 use Rattle.fiduccia_mattheyses.proofs.Running.{mades, rewounds, over-long}
-use Rattle.fiduccia_mattheyses.proofs.Counts.{rows-counted, counted-at, few-passes, passes-within}
-use Rattle.fiduccia_mattheyses.proofs.Results.{Done, two_ways, no-vertices, ran, passes-are, made_at, rewound-at}
+use Rattle.fiduccia_mattheyses.proofs.Counts.{rows-counted, counted-at, few_passes, passes-within}
+use Rattle.fiduccia_mattheyses.proofs.Results.{Done, two_ways, no-vertices, ran, passes_are, made_at, rewound-at}
 
 module _ (p : Given) (l : Lent) (r : Report) (k : Lent) where
   empty-counts : r ≡ empty → CountsKept p l r k
@@ -23,9 +23,9 @@ module _ (p : Given) (l : Lent) (r : Report) (k : Lent) where
       record {
         passes = omega arith;
         limit = omega arith;
-        no-vertex = λ n. no-pass;
-        in-made = omega arith;
-        in-rewound = omega arith;
+        no_vertex = λ n. no-pass;
+        in_made = omega arith;
+        in_rewound = omega arith;
         made = λ i h. absurd (omega arith);
         rewound = λ i h. absurd (omega arith);
       }
@@ -33,11 +33,11 @@ module _ (p : Given) (l : Lent) (r : Report) (k : Lent) where
   run-counts : (length l.labels ≡ 0 → ⊥) → Ready p l → Ran p l r k → CountsKept p l r k
   unfolding report_of left_by
   run-counts some a d = record {
-    passes = let c = few-passes (terms_of p l) p.settings.passes l.labels in let first : r.first ≡ cut (graph_of p) l.labels = ap (λ (x : Report). x.first) d.answered in omega (arith, count);
+    passes = let c = few_passes (terms_of p l) p.settings.passes l.labels in let first : r.first ≡ cut (graph_of p) l.labels = ap (λ (x : Report). x.first) d.answered in omega (arith, count);
     limit = within;
-    no-vertex = λ n. absurd (some n);
-    in-made = rw d.made (long (λ (x : Pass). x.made) l.made a.in-made);
-    in-rewound = rw d.rewound (long (λ (x : Pass). x.rewound) l.rewound a.in-rewound);
+    no_vertex = λ n. absurd (some n);
+    in_made = rw d.made (long (λ (x : Pass). x.made) l.made a.in_made);
+    in_rewound = rw d.rewound (long (λ (x : Pass). x.rewound) l.rewound a.in_rewound);
     made = λ i h. rw (made_at p l r k d i h) (each i h).0;
     rewound = λ i h. rw (made_at p l r k d i h, rewound-at p l r k d i h) (each i h).1;
   }
@@ -46,7 +46,7 @@ module _ (p : Given) (l : Lent) (r : Report) (k : Lent) where
       rows = (run_of p l).rows
 
       count : r.passes ≡ length rows
-      count = passes-are p l r k d
+      count = passes_are p l r k d
 
       within : r.passes ≤ p.settings.passes
       within = let c = passes-within (terms_of p l) p.settings.passes l.labels in omega (arith, count)

@@ -46,12 +46,12 @@ module _ (p : Given) (l : Lent) (r : Report) (k : Lent) (d : Ran p l r k) where
   abbrev rows : List Pass
   rows = (run_of p l).rows
 
-  pub passes-are : r.passes ≡ length rows
+  pub passes_are : r.passes ≡ length rows
   unfolding report_of
-  passes-are = ap (λ (x : Report). x.passes) d.answered
+  passes_are = ap (λ (x : Report). x.passes) d.answered
 
   row_at : (f : Pass → ℕ) (ys : List ℕ) (i : ℕ) → i < r.passes → get_or (over (map f rows) ys) i 0 ≡ get_or (map f rows) i 0
-  row_at f ys i h = get_or-append (map f rows) (drop (length (map f rows)) ys) 0 i (let a = length-map rows f in let b = passes-are in omega arith)
+  row_at f ys i h = get_or-append (map f rows) (drop (length (map f rows)) ys) 0 i (let a = length-map rows f in let b = passes_are in omega arith)
 
   pub made_at : (i : ℕ) → i < r.passes → get_or k.made i 0 ≡ get_or (mades rows) i 0
   unfolding left_by

@@ -76,10 +76,10 @@ pub record Running (s : Terms) (limit : ℕ) (p : List ℕ) (moves₀ : List Mov
   pub long : length labels ≡ length p
   pub count : length rows ≡ passes
   pub within : passes ≤ limit
-  pub made-are : made ≡ over (mades rows) made₀
-  pub rewound-are : rewound ≡ over (rewounds rows) rewound₀
+  pub made_are : made ≡ over (mades rows) made₀
+  pub rewound_are : rewound ≡ over (rewounds rows) rewound₀
   pub moves_long : length moves ≡ length moves₀
-  pub moves-past : drop (length p) moves ≡ drop (length p) moves₀
+  pub moves_past : drop (length p) moves ≡ drop (length p) moves₀
   pub rest : run s limit p ≡ after-rows rows (run s (limit - passes) labels)
 
 module _ (s : Terms) (limit : ℕ) (p : List ℕ) (gains₀ : List ℤ) (moves₀ : List Move) (made₀ rewound₀ : List ℕ) (first : Loads) (cut₀ : ℕ) (a : PassesAsked s limit p gains₀ moves₀ made₀ rewound₀ first.at cut₀) where
@@ -90,10 +90,10 @@ module _ (s : Terms) (limit : ℕ) (p : List ℕ) (gains₀ : List ℤ) (moves�
     long = refl;
     count = refl;
     within = omega arith;
-    made-are = refl;
-    rewound-are = refl;
+    made_are = refl;
+    rewound_are = refl;
     moves_long = refl;
-    moves-past = refl;
+    moves_past = refl;
     rest = let r : limit - 0 ≡ limit = omega arith in rw r;
   }
 
@@ -102,11 +102,11 @@ module _ (s : Terms) (limit : ℕ) (p : List ℕ) (gains₀ : List ℤ) (moves�
     rows_long =
         let c = g.count in
         let w = g.within in
-        let i = a.in-made in
-        let j = a.in-rewound in
+        let i = a.in_made in
+        let j = a.in_rewound in
         let m = map-long (λ (r : Pass). r.made) g.rows in
         let n = map-long (λ (r : Pass). r.rewound) g.rows in
-        (ap length g.made-are ∙ over-long (mades g.rows) made₀ (omega arith), ap length g.rewound-are ∙ over-long (rewounds g.rows) rewound₀ (omega arith))
+        (ap length g.made_are ∙ over-long (mades g.rows) made₀ (omega arith), ap length g.rewound_are ∙ over-long (rewounds g.rows) rewound₀ (omega arith))
 
     -- a pass's counts are small, and its row is in the lists
     pub row-asked : passes < limit → (labels' : List ℕ) (moves' : List Move) (r : Passed) → PassDone s labels moves labels' moves' r → RowAsked made rewound passes r.made r.kept
@@ -116,10 +116,10 @@ module _ (s : Terms) (limit : ℕ) (p : List ℕ) (gains₀ : List ℤ) (moves�
         let l = rows_long in
         let l0 = l.0 in
         let l1 = l.1 in
-        let i = a.in-made in
-        let j = a.in-rewound in
-        let k = a.few-passes in
-        record { in-made = omega arith; in-rewound = omega arith; few-passes = omega arith; few = omega arith; kept-within = d.kept-within }
+        let i = a.in_made in
+        let j = a.in_rewound in
+        let k = a.few_passes in
+        record { in_made = omega arith; in_rewound = omega arith; few_passes = omega arith; few = omega arith; kept_within = d.kept_within }
 
     -- at the pass limit
     pub running-full : limit ≤ passes → (r : Ended) → r ≡ record { end = 0; passes = passes; cut = cut₁; loads = loads } → PassesDone s limit p moves₀ made₀ rewound₀ labels moves made rewound r
@@ -132,13 +132,13 @@ module _ (s : Terms) (limit : ℕ) (p : List ℕ) (gains₀ : List ℤ) (moves�
         (record {
           labelled = sym (ap (λ (x : Run). x.labels) t);
           end_is = sym (ap (λ (x : Run). x.end) t);
-          passes-are = sym (ap length rs ∙ g.count);
-          cut-is = g.asked.cut-is;
+          passes_are = sym (ap length rs ∙ g.count);
+          cut_is = g.asked.cut_is;
           loaded = g.asked.loaded;
-          made-are = g.made-are ∙ ap (λ (x : List Pass). over (mades x) made₀) (sym rs);
-          rewound-are = g.rewound-are ∙ ap (λ (x : List Pass). over (rewounds x) rewound₀) (sym rs);
+          made_are = g.made_are ∙ ap (λ (x : List Pass). over (mades x) made₀) (sym rs);
+          rewound_are = g.rewound_are ∙ ap (λ (x : List Pass). over (rewounds x) rewound₀) (sym rs);
           moves_long = g.moves_long;
-          moves-past = g.moves-past;
+          moves_past = g.moves_past;
         })
 
     -- one pass more
@@ -152,22 +152,22 @@ module _ (s : Terms) (limit : ℕ) (p : List ℕ) (gains₀ : List ℤ) (moves�
       made-now : made' ≡ over (mades rows') made₀
       made-now =
           let c = g.count in
-          let i = a.in-made in
+          let i = a.in_made in
           let m = map-long (λ (q : Pass). q.made) g.rows in
-          w.made-are
-          ∙ ap (set made passes) d.made-is
-          ∙ ap (λ (l : List ℕ). set l passes this.made) g.made-are
+          w.made_are
+          ∙ ap (set made passes) d.made_is
+          ∙ ap (λ (l : List ℕ). set l passes this.made) g.made_are
           ∙ over-more (mades g.rows) made₀ passes this.made (m ∙ c) (omega arith)
           ∙ ap (λ (l : List ℕ). over l made₀) (sym (map_more (λ (q : Pass). q.made) g.rows this))
 
       rewound-now : rewound' ≡ over (rewounds rows') rewound₀
       rewound-now =
           let c = g.count in
-          let i = a.in-rewound in
+          let i = a.in_rewound in
           let m = map-long (λ (q : Pass). q.rewound) g.rows in
-          w.rewound-are
-          ∙ ap (set rewound passes) d.rewound-is
-          ∙ ap (λ (l : List ℕ). set l passes this.rewound) g.rewound-are
+          w.rewound_are
+          ∙ ap (set rewound passes) d.rewound_is
+          ∙ ap (λ (l : List ℕ). set l passes this.rewound) g.rewound_are
           ∙ over-more (rewounds g.rows) rewound₀ passes this.rewound (m ∙ c) (omega arith)
           ∙ ap (λ (l : List ℕ). over l rewound₀) (sym (map_more (λ (q : Pass). q.rewound) g.rows this))
 
@@ -177,8 +177,8 @@ module _ (s : Terms) (limit : ℕ) (p : List ℕ) (gains₀ : List ℤ) (moves�
       -- a pass that lowered nothing ends the run
       running-gainless : cut₁ ≤ r.cut → (q : Ended) → q ≡ record { end = 1; passes = passes + 1; cut = r.cut; loads = r.loads } → PassesDone s limit p moves₀ made₀ rewound₀ labels' moves' made' rewound' q
       running-gainless h q e =
-          let k = g.asked.cut-is in
-          let l = d.least-is in
+          let k = g.asked.cut_is in
+          let l = d.least_is in
           let b : ltb this.least (cut s.graph labels) ≡ false = le-ltb this.least (cut s.graph labels) (omega arith) in
           let t : run s limit p ≡ record { end = 1; rows = rows'; labels = this.labels } = unrolled ∙ ap (after-rows g.rows) (run-last s (limit - (passes + 1)) labels b) in
           let rs : (run s limit p).rows ≡ rows' = ap (λ (x : Run). x.rows) t in
@@ -186,20 +186,20 @@ module _ (s : Terms) (limit : ℕ) (p : List ℕ) (gains₀ : List ℤ) (moves�
           (record {
             labelled = d.labelled ∙ sym (ap (λ (x : Run). x.labels) t);
             end_is = sym (ap (λ (x : Run). x.end) t);
-            passes-are = sym (ap length rs ∙ length-append g.rows (this ∷ []) ∙ ap (λ (j : ℕ). j + 1) g.count);
-            cut-is = d.cut-is;
+            passes_are = sym (ap length rs ∙ length-append g.rows (this ∷ []) ∙ ap (λ (j : ℕ). j + 1) g.count);
+            cut_is = d.cut_is;
             loaded = d.loaded;
-            made-are = made-now ∙ ap (λ (x : List Pass). over (mades x) made₀) (sym rs);
-            rewound-are = rewound-now ∙ ap (λ (x : List Pass). over (rewounds x) rewound₀) (sym rs);
+            made_are = made-now ∙ ap (λ (x : List Pass). over (mades x) made₀) (sym rs);
+            rewound_are = rewound-now ∙ ap (λ (x : List Pass). over (rewounds x) rewound₀) (sym rs);
             moves_long = d.moves_long ∙ g.moves_long;
-            moves-past = ap (λ (i : ℕ). drop i moves') (sym g.long) ∙ d.moves-past ∙ ap (λ (i : ℕ). drop i moves) g.long ∙ g.moves-past;
+            moves_past = ap (λ (i : ℕ). drop i moves') (sym g.long) ∙ d.moves_past ∙ ap (λ (i : ℕ). drop i moves) g.long ∙ g.moves_past;
           })
 
       -- else it goes on
       running-on : r.cut < cut₁ → Running s limit p moves₀ made₀ rewound₀ labels' gains' moves' made' rewound' r.loads r.cut (passes + 1)
       running-on h =
-          let k = g.asked.cut-is in
-          let l = d.least-is in
+          let k = g.asked.cut_is in
+          let l = d.least_is in
           let b : ltb this.least (cut s.graph labels) ≡ true = lt-ltb this.least (cut s.graph labels) (omega arith) in
           let t : run s limit p ≡ after-rows g.rows (record { end = (run s (limit - (passes + 1)) this.labels).end; rows = this ∷ (run s (limit - (passes + 1)) this.labels).rows; labels = (run s (limit - (passes + 1)) this.labels).labels }) = unrolled ∙ ap (after-rows g.rows) (run_more s (limit - (passes + 1)) labels b) in
           let ll : length labels' ≡ length labels = d.long in
@@ -207,19 +207,19 @@ module _ (s : Terms) (limit : ℕ) (p : List ℕ) (gains₀ : List ℤ) (moves�
             rows = rows';
             asked = record {
               fixed = rw ll g.asked.fixed;
-              two-labels = d.two-labels;
+              two_labels = d.two_labels;
               gained = gl ∙ g.asked.gained ∙ sym ll;
               places = let q = g.asked.places in let z = d.moves_long in omega arith;
               loaded = d.loaded;
-              cut-is = d.cut-is;
+              cut_is = d.cut_is;
             };
             long = ll ∙ g.long;
             count = length-append g.rows (this ∷ []) ∙ ap (λ (j : ℕ). j + 1) g.count;
             within = omega arith;
-            made-are = made-now;
-            rewound-are = rewound-now;
+            made_are = made-now;
+            rewound_are = rewound-now;
             moves_long = d.moves_long ∙ g.moves_long;
-            moves-past = ap (λ (i : ℕ). drop i moves') (sym g.long) ∙ d.moves-past ∙ ap (λ (i : ℕ). drop i moves) g.long ∙ g.moves-past;
+            moves_past = ap (λ (i : ℕ). drop i moves') (sym g.long) ∙ d.moves_past ∙ ap (λ (i : ℕ). drop i moves) g.long ∙ g.moves_past;
             rest =
                 t
                 ∙ ap (λ (z : List Pass). record { end = (run s (limit - (passes + 1)) this.labels).end; rows = z; labels = (run s (limit - (passes + 1)) this.labels).labels }) (sym (append_assoc g.rows (this ∷ []) (run s (limit - (passes + 1)) this.labels).rows))
@@ -234,7 +234,7 @@ module _ (s : Terms) (limit : ℕ) (p : List ℕ) (gains₀ : List ℤ) (moves�
     pass-ends u = go (leb cut₁ r.cut) refl (rw e at u)
       where
         go : (t : Bool) → leb cut₁ r.cut ≡ t → (◌≡◌ {A = ℕ} (cond t 1 0) 0 → ⊥) → PassesDone s limit p moves₀ made₀ rewound₀ labels' moves' made' rewound' q
-        go true v h = running-gainless labels gains moves made rewound loads cut₁ passes g lt labels' gains' moves' r d gl made' rewound' next w (leb-true cut₁ r.cut v) q (e ∙ (λ i. record { end = cond (v i) 1 0; passes = w.passes-are i; cut = r.cut; loads = r.loads }))
+        go true v h = running-gainless labels gains moves made rewound loads cut₁ passes g lt labels' gains' moves' r d gl made' rewound' next w (leb-true cut₁ r.cut v) q (e ∙ (λ i. record { end = cond (v i) 1 0; passes = w.passes_are i; cut = r.cut; loads = r.loads }))
         go false v h = absurd (h refl)
 
     -- it goes on
@@ -244,4 +244,4 @@ module _ (s : Terms) (limit : ℕ) (p : List ℕ) (gains₀ : List ℤ) (moves�
       where
         go : (t : Bool) → leb cut₁ r.cut ≡ t → ◌≡◌ {A = ℕ} (cond t 1 0) 0 → Running s limit p moves₀ made₀ rewound₀ labels' gains' moves' made' rewound' r.loads r.cut next
         go true v h = absurd (omega arith)
-        go false v h = rw w.passes-are (running-on labels gains moves made rewound loads cut₁ passes g lt labels' gains' moves' r d gl made' rewound' next w (leb-false cut₁ r.cut v))
+        go false v h = rw w.passes_are (running-on labels gains moves made rewound loads cut₁ passes g lt labels' gains' moves' r d gl made' rewound' next w (leb-false cut₁ r.cut v))

@@ -14,10 +14,10 @@ pub record CountsKept (p : Given) (l : Lent) (r : Report) (k : Lent) : Type 0 wh
   -- "Passes are at most starting cut + 1", and at most the pass limit; with n = 0 there are none
   pub passes : r.passes ≤ r.first + 1
   pub limit : r.passes ≤ p.settings.passes
-  pub no-vertex : length l.labels ≡ 0 → r.passes ≡ 0
+  pub no_vertex : length l.labels ≡ 0 → r.passes ≡ 0
   -- each pass has its row in both lists
-  pub in-made : r.passes ≤ length k.made
-  pub in-rewound : r.passes ≤ length k.rewound
+  pub in_made : r.passes ≤ length k.made
+  pub in_rewound : r.passes ≤ length k.rewound
   -- "moves in a pass at most n", and no pass rewinds more moves than it made
   pub made : (i : ℕ) → i < r.passes → get_or k.made i 0 ≤ length l.labels
   pub rewound : (i : ℕ) → i < r.passes → get_or k.rewound i 0 ≤ get_or k.made i 0

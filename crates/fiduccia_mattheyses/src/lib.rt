@@ -1,4 +1,6 @@
 // Fiduccia-Mattheyses between two parts: coupe's algorithms/fiduccia_mattheyses.rs. Document 01, "FM"; document 02, A4.
+#![tactic(auto)]
+
 mod answers;
 mod number;
 mod steps;
@@ -12,7 +14,7 @@ use imbalance::{Ceiling, Loads};
 
 // The pass, move and bad limits, and what is asked of the ceiling.
 #[repr(C)]
-#[derive(Drop)]
+#[derive(Clone, Copy)]
 pub struct Settings {
     pub passes: u32,
     pub moves: u32,
@@ -22,7 +24,7 @@ pub struct Settings {
 
 // What a call answers: document 01's number, the run's end, its passes, the first and the last cut, and the loads left.
 #[repr(C)]
-#[derive(Drop)]
+#[derive(Clone, Copy)]
 pub struct Report {
     pub number: u32,
     pub end: u32,
@@ -33,14 +35,14 @@ pub struct Report {
 }
 
 // What a call comes to before a run: it is answered, with a number and an end, or it runs.
-#[derive(Drop)]
+#[derive(Clone, Copy)]
 pub enum Call {
     Answered(u32, u32),
     Runs,
 }
 
 // What a run begins with: the limits of its passes, and the loads and the cut of the labels.
-#[derive(Drop)]
+#[derive(Clone, Copy)]
 pub struct Begun {
     pub limits: Limits,
     pub loads: Loads,
@@ -48,7 +50,7 @@ pub struct Begun {
 }
 
 // What the passes leave: the run's end, which is 0 until a pass is gainless, how many there were, the cut and the loads.
-#[derive(Drop)]
+#[derive(Clone, Copy)]
 pub struct Ended {
     pub end: u32,
     pub passes: u32,
@@ -140,7 +142,7 @@ fn refine(
 }
 
 // The lengths of the lent lists.
-#[derive(Drop)]
+#[derive(Clone, Copy)]
 pub struct Lengths {
     pub gains: usize,
     pub moves: usize,

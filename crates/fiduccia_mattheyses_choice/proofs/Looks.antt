@@ -90,11 +90,11 @@ module _ (rooms lifts : List ℕ) (gains : List ℤ) (labels weights : List ℕ)
             vertex = v;
             past_is = λ q. refl;
             here = λ q. here;
-            may-is = λ q. rw (free-v e, and_left (F v) (beats (G v) (L v) held.gain held.load) e);
-            gain-is = λ q. refl;
+            may_is = λ q. rw (free-v e, and_left (F v) (beats (G v) (L v) held.gain held.load) e);
+            gain_is = λ q. refl;
             load_is = λ q. refl;
-            gain-was = λ q. clash true refl q;
-            load-was = λ q. clash true refl q;
+            gain_was = λ q. clash true refl q;
+            load_was = λ q. clash true refl q;
             free = free-v e;
           }
       held_by false e = h
@@ -172,11 +172,11 @@ module _ (rooms lifts : List ℕ) (gains : List ℤ) (labels weights : List ℕ)
         vertex = 0;
         past_is = λ q. clash false q refl;
         here = λ q. clash false q refl;
-        may-is = λ q. clash false q refl;
-        gain-is = λ q. clash false q refl;
+        may_is = λ q. clash false q refl;
+        gain_is = λ q. clash false q refl;
         load_is = λ q. clash false q refl;
-        gain-was = λ q. refl;
-        load-was = λ q. refl;
+        gain_was = λ q. refl;
+        load_was = λ q. refl;
         free = st;
       }
 

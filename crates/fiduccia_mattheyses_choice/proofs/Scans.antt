@@ -43,6 +43,20 @@ pub swept-from :
     → Swept rooms lifts gains labels weights (start_of found) v held
 swept-from rooms lifts gains labels weights found held g l v s e f = rw (← e, ← f) s
 
+-- what the sample found and the sweep left, by loads and ceilings: the code's rooms and lifts are theirs
+pub seen :
+    (rooms lifts loads ceilings : List ℕ) (gains : List ℤ) (labels weights : List ℕ) (found held : Held) (g : ℤ) (l v : ℕ)
+    → rooms ≡ rooms_of loads ceilings
+    → lifts ≡ lifts_of loads
+    → Holds rooms lifts gains labels weights nobody found
+    → Swept rooms lifts gains labels weights (record { past = 0; gain = g; load = l }) v held
+    → g ≡ found.gain
+    → l ≡ found.load + 1
+    → Holds (rooms_of loads ceilings) (lifts_of loads) gains labels weights nobody found
+    × Swept (rooms_of loads ceilings) (lifts_of loads) gains labels weights (start_of found) v held
+seen rooms lifts loads ceilings gains labels weights found held g l v a b h s e f =
+    (rw (a, b) at h, swept-from (rooms_of loads ceilings) (lifts_of loads) gains labels weights found held g l v (rw (a, b) at s) e f)
+
 -- neither load is below the lesser
 pub lesser-least : (loads : List ℕ) → (lesser loads ≤ get_or loads 0 0) × (lesser loads ≤ get_or loads 1 0)
 lesser-least loads = go (ltb (get_or loads 0 0) (get_or loads 1 0)) refl
@@ -106,34 +120,34 @@ module _ (gains : List ℤ) (labels weights loads ceilings : List ℕ) (q : Scan
       record {
         gained = q.gained;
         weighed = q.weighed;
-        two-labels = q.two-labels;
+        two_labels = q.two_labels;
         roomed = refl;
         lifted = refl;
         light = each_label (λ p. get_or lifts p 0 ≤ most_weight) (let l = q.light 1 (omega arith) in omega arith) (let l = q.light 0 (omega arith) in omega arith);
       }
 
   small : (v : ℕ) → L v + 1 < far
-  small v = let m = sighted.light (part labels v) (q.two-labels v) in omega (arith, narrow v)
+  small v = let m = sighted.light (part labels v) (q.two_labels v) in omega (arith, narrow v)
 
   -- so that the load, the room and the order are those of the promise
   load_is : (v : ℕ) → lesser loads + L v ≡ load_after loads weights labels v
   load_is v =
       let m = lesser-least loads in
-      let e = each_label (λ p. lesser loads + get_or lifts p 0 ≡ get_or loads (other p) 0) (omega (arith, m.1)) (omega (arith, m.0)) (part labels v) (q.two-labels v) in
+      let e = each_label (λ p. lesser loads + get_or lifts p 0 ≡ get_or loads (other p) 0) (omega (arith, m.1)) (omega (arith, m.0)) (part labels v) (q.two_labels v) in
       omega arith
 
-  fits-is : (v : ℕ) → fits_of rooms lifts gains labels weights v ≡ leb (load_after loads weights labels v) (ceiling_at ceilings labels v)
-  fits-is v =
+  fits_is : (v : ℕ) → fits_of rooms lifts gains labels weights v ≡ leb (load_after loads weights labels v) (ceiling_at ceilings labels v)
+  fits_is v =
       each_label (λ p. ltb (get_or weights v 0) (get_or rooms p 0) ≡ leb (get_or loads (other p) 0 + get_or weights v 0) (get_or ceilings (other p) 0))
       (room-is (get_or loads 1 0) (get_or ceilings 1 0) (get_or weights v 0) (omega (arith, narrow v)))
       (room-is (get_or loads 0 0) (get_or ceilings 0 0) (get_or weights v 0) (omega (arith, narrow v)))
-      (part labels v) (q.two-labels v)
+      (part labels v) (q.two_labels v)
 
   goes_before-is : (u v : ℕ) → B u v ≡ beats (G u) (load_after loads weights labels u) (G v) (load_after loads weights labels v)
   goes_before-is u v = rw (← load_is u, ← load_is v) (ap (λ (b : Bool). lt_z (G v) (G u) || (le_z (G v) (G u) && b)) (ltb-above (lesser loads) (L u) (L v)))
 
   pick_is : picked G (best M B (length labels)) ≡ pick
-  pick_is = λ i. picked G (best (λ v. is_free (G v) && fits-is v i) (λ u v. goes_before-is u v i) (length labels))
+  pick_is = λ i. picked G (best (λ v. is_free (G v) && fits_is v i) (λ u v. goes_before-is u v i) (length labels))
 
   -- what is sampled has a load within the bound
   pub sample-near : (found : Held) → Holds rooms lifts gains labels weights nobody found → found.load ≤ far
@@ -141,27 +155,27 @@ module _ (gains : List ℤ) (labels weights loads ceilings : List ℕ) (q : Scan
     where
       go : (t : Bool) → h.found ≡ t → found.load ≤ far
       go true f = let k = h.load_is f in let i = small h.vertex in omega arith
-      go false f = let k = h.load-was f in omega arith
+      go false f = let k = h.load_was f in omega arith
 
   module _ (found held : Held) (h : Holds rooms lifts gains labels weights nobody found) (s : Swept rooms lifts gains labels weights (start_of found) (length labels) held) where
     -- the vertex sampled goes before the start, so that a vertex comes to be held
     sampled : h.found ≡ true → s.holds.found ≡ false → ⊥
     sampled f n =
         let x = h.vertex in
-        let g = s.holds.gain-was n ∙ h.gain-is f in
-        let l = s.holds.load-was n in
+        let g = s.holds.gain_was n ∙ h.gain_is f in
+        let l = s.holds.load_was n in
         let k = h.load_is f in
         clash (beats (G x) (L x) held.gain held.load)
         (by-load (G x) (L x) held.gain held.load (rw g (not-lt-le (G x) (G x) (lt-self (G x)))) (omega arith))
-        (s.beaten x (h.here f) (h.may-is f))
+        (s.beaten x (h.here f) (h.may_is f))
 
     -- with nothing sampled and nothing held, nothing may move
     none-may : h.found ≡ false → s.holds.found ≡ false → (u : ℕ) → u < length labels → (t : Bool) → M u ≡ t → t ≡ false
     none-may f n u l false e = refl
     none-may f n u l true e =
-        let g = s.holds.gain-was n ∙ h.gain-was f in
-        let k = s.holds.load-was n in
-        let j = h.load-was f in
+        let g = s.holds.gain_was n ∙ h.gain_was f in
+        let k = s.holds.load_was n in
+        let j = h.load_was f in
         let i = small u in
         clash (beats (G u) (L u) held.gain held.load)
         (by-load (G u) (L u) held.gain held.load (rw g (free-low (G u) (and_left (is_free (G u)) (fits_of rooms lifts gains labels weights u) e))) (omega arith))
@@ -171,7 +185,7 @@ module _ (gains : List ℤ) (labels weights loads ceilings : List ℕ) (q : Scan
     is_found : held.load < far → (t : Bool) → s.holds.found ≡ t → (u : Bool) → h.found ≡ u → t ≡ true
     is_found l true f u e = refl
     is_found l false n true e = absurd (sampled e n)
-    is_found l false n false e = let k = s.holds.load-was n in let j = h.load-was e in absurd (omega arith)
+    is_found l false n false e = let k = s.holds.load_was n in let j = h.load_was e in absurd (omega arith)
 
     module _ (l : held.load < far) where
       found-one : s.holds.found ≡ true
@@ -183,14 +197,14 @@ module _ (gains : List ℤ) (labels weights loads ceilings : List ℕ) (q : Scan
       -- and that vertex is the pick
       is-best : best M B (length labels) ≡ some s.holds.vertex
       is-best =
-          let g = s.holds.gain-is found-one in
+          let g = s.holds.gain_is found-one in
           let k = s.holds.load_is found-one in
-          best-is M B (length labels) s.holds.vertex (s.holds.here found-one) (s.holds.may-is found-one) (λ u i m. rw (← g, ← k) (s.beaten u i m)) (λ u i m. rw (← g, ← k) (s.ahead found-one u i m))
+          best-is M B (length labels) s.holds.vertex (s.holds.here found-one) (s.holds.may_is found-one) (λ u i m. rw (← g, ← k) (s.beaten u i m)) (λ u i m. rw (← g, ← k) (s.ahead found-one u i m))
 
       pub scan-found : (v : ℕ) (g : ℤ) → v + 1 ≡ held.past → g ≡ held.gain → Vertex v g ≡ pick
       scan-found v g e z =
           let p = s.holds.past_is found-one in
-          vertex-is v s.holds.vertex g (omega arith) (z ∙ s.holds.gain-is found-one)
+          vertex-is v s.holds.vertex g (omega arith) (z ∙ s.holds.gain_is found-one)
           ∙ ap (picked G) (sym is-best)
           ∙ pick_is
         where

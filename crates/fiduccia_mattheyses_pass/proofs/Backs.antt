@@ -18,12 +18,12 @@ Two p = (x : ℕ) → part p x < 2
 
 flip-flip : (p : List ℕ) (v : ℕ) → Two p → flip (flip p v) v ≡ p
 unfolding flip
-flip-flip p v two-labels = go (ltb v (length p)) refl
+flip-flip p v two_labels = go (ltb v (length p)) refl
   where
     go : (b : Bool) → ltb v (length p) ≡ b → set (set p v (other (part p v))) v (other (part (set p v (other (part p v))) v)) ≡ p
     go true e =
         let h = get_or-set_same p v (other (part p v)) 0 (ltb-true v (length p) e) in
-        let t = two-labels v in
+        let t = two_labels v in
         let q : other (other (part p v)) ≡ part p v = omega arith in
         rw (h, q) (moved_back p v (other (part p v)))
     go false e =
@@ -45,20 +45,20 @@ flip-comm p u v = go (eqb u v) refl
 
 two-flip : (p : List ℕ) (v : ℕ) → Two p → Two (flip p v)
 unfolding flip
-two-flip p v two-labels x = go (eqb x v) refl
+two-flip p v two_labels x = go (eqb x v) refl
   where
     in-or-out : (b : Bool) → ltb v (length p) ≡ b → part (set p v (other (part p v))) v < 2
     in-or-out true e = rw (get_or-set_same p v (other (part p v)) 0 (ltb-true v (length p) e)) (omega arith)
-    in-or-out false e = rw (set_out p v (other (part p v)) (ltb-false v (length p) e)) (two-labels v)
+    in-or-out false e = rw (set_out p v (other (part p v)) (ltb-false v (length p) e)) (two_labels v)
 
     go : (b : Bool) → eqb x v ≡ b → part (set p v (other (part p v))) x < 2
     go true e = rw (eqb-true x v e) (in-or-out (ltb v (length p)) refl)
-    go false e = rw (get_or-set_other p v x (other (part p v)) 0 (eqb-false x v e)) (two-labels x)
+    go false e = rw (get_or-set_other p v x (other (part p v)) 0 (eqb-false x v e)) (two_labels x)
 
 pub two-flips : (p vs : List ℕ) → Two p → Two (flips p vs)
 unfolding flips
-two-flips p [] two-labels = two-labels
-two-flips p (v ∷ vs) two-labels = two-flips (flip p v) vs (two-flip p v two-labels)
+two-flips p [] two_labels = two_labels
+two-flips p (v ∷ vs) two_labels = two-flips (flip p v) vs (two-flip p v two_labels)
 
 flips-flip : (p : List ℕ) (v : ℕ) (vs : List ℕ) → flips (flip p v) vs ≡ flip (flips p vs) v
 unfolding flips
@@ -72,16 +72,16 @@ flips-append p (v ∷ a) b = flips-append (flip p v) a b
 
 pub flips-back : (p vs : List ℕ) → Two p → flips (flips p vs) vs ≡ p
 unfolding flips
-flips-back p [] two-labels = refl
-flips-back p (v ∷ vs) two-labels =
-    ap (λ (q : List ℕ). flips q vs) (ap (λ (q : List ℕ). flip q v) (flips-flip p v vs) ∙ flip-flip (flips p vs) v (two-flips p vs two-labels))
-    ∙ flips-back p vs two-labels
+flips-back p [] two_labels = refl
+flips-back p (v ∷ vs) two_labels =
+    ap (λ (q : List ℕ). flips q vs) (ap (λ (q : List ℕ). flip q v) (flips-flip p v vs) ∙ flip-flip (flips p vs) v (two-flips p vs two_labels))
+    ∙ flips-back p vs two_labels
 
 -- the moves past the first k undone
 pub rewound : (p vs : List ℕ) (k : ℕ) → Two p → flips (flips p vs) (drop k vs) ≡ flips p (take k vs)
-rewound p vs k two-labels =
+rewound p vs k two_labels =
     ap (λ (q : List ℕ). flips q (drop k vs)) (ap (flips p) (sym (take-append-drop k vs)) ∙ flips-append p (take k vs) (drop k vs))
-    ∙ flips-back (flips p (take k vs)) (drop k vs) (two-flips p (take k vs) two-labels)
+    ∙ flips-back (flips p (take k vs)) (drop k vs) (two-flips p (take k vs) two_labels)
 
 -- a vertex that is not among those moved keeps its part
 pub flips-other : (p us : List ℕ) (x : ℕ) → ((i : ℕ) → i < length us → get_or us i 0 ≡ x → ⊥) → part (flips p us) x ≡ part p x

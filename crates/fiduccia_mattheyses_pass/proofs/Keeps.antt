@@ -30,19 +30,19 @@ next-moves s st t e = go (choice s st.labels st.moved) refl
 pub record Keeps (s : Terms) (p : List ℕ) (st : State) : Type 0 where
   pub from : st.labels ≡ flips p st.moved
   pub within : st.kept ≤ length st.moved
-  pub least-is : st.least ≡ cut s.graph (flips p (take st.kept st.moved))
+  pub least_is : st.least ≡ cut s.graph (flips p (take st.kept st.moved))
 
 module _ (s : Terms) (p : List ℕ) where
   pub keeps-start : Keeps s p (start s p)
   unfolding flips
-  keeps-start = record { from = refl; within = omega arith; least-is = refl }
+  keeps-start = record { from = refl; within = omega arith; least_is = refl }
 
   pub keeps-move : (st : State) (v : ℕ) → Keeps s p st → Keeps s p (move_on s st v)
   unfolding move_on
   keeps-move st v k = record {
     from = ap (λ (l : List ℕ). flip l v) k.from ∙ sym (flips-more p st.moved v);
     within = rw (length-append st.moved (v ∷ [])) (within (ltb c st.least));
-    least-is = least (ltb c st.least);
+    least_is = least (ltb c st.least);
   }
     where
       c : ℕ
@@ -58,7 +58,7 @@ module _ (s : Terms) (p : List ℕ) where
           (ap (λ (l : List ℕ). flip l v) k.from
           ∙ sym (flips-more p st.moved v)
           ∙ ap (flips p) (sym (take_all (length st.moved + 1) (st.moved ++ (v ∷ [])) (let a = length-append st.moved (v ∷ []) in omega arith))))
-      least false = k.least-is ∙ ap (λ (l : List ℕ). cut s.graph (flips p l)) (sym (take-append-le st.kept st.moved (v ∷ []) k.within))
+      least false = k.least_is ∙ ap (λ (l : List ℕ). cut s.graph (flips p l)) (sym (take-append-le st.kept st.moved (v ∷ []) k.within))
 
   -- whatever every move keeps, a walk keeps
   pub walk-keeps : (P : State → Type 0) → ((st : State) (v : ℕ) → choice s st.labels st.moved ≡ some v → P st → P (move_on s st v)) → (k : ℕ) (st : State) → P st → P (walk s k st)

@@ -1,4 +1,4 @@
--- The laws of a pass and its moves, and the machine-made walks of the functions over lists of move records.
+-- The laws of a pass and its moves.
 pub mod Moved
 pub mod Nexts
 pub mod Updates
@@ -15,7 +15,4 @@ pub mod Zeros
 pub mod Walking
 pub mod Rewinding
 pub mod Passing
-pub mod Place
-pub mod Again
 pub mod Plain
-pub mod walk

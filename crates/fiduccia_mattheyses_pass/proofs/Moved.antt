@@ -41,8 +41,8 @@ count-few n l e =
     omega (arith, sum_ones n)
 
 module _ (v : ℕ) (l : List ℕ) where
-  last-is : get_or (l ++ (v ∷ [])) (length l) 0 ≡ v
-  last-is = let e : length l + 0 ≡ length l = omega arith in rw e at (get_or-append-add l (v ∷ []) 0 0)
+  last_is : get_or (l ++ (v ∷ [])) (length l) 0 ≡ v
+  last_is = let e : length l + 0 ≡ length l = omega arith in rw e at (get_or-append-add l (v ∷ []) 0 0)
 
   pub at_more : (P : ℕ → Type 0) → ((i : ℕ) → i < length l → P (get_or l i 0)) → P v → (i : ℕ) → i < length (l ++ (v ∷ [])) → P (get_or (l ++ (v ∷ [])) i 0)
   at_more P h pv i k = go (ltb i (length l)) refl
@@ -53,7 +53,7 @@ module _ (v : ℕ) (l : List ℕ) where
           let a = ltb-false i (length l) t in
           let b = length-append l (v ∷ []) in
           let e : i ≡ length l = omega arith in
-          rw (e, last-is) pv
+          rw (e, last_is) pv
 
   pub apart_more : Apart l → member v l ≡ false → Apart (l ++ (v ∷ []))
   apart_more h m i j lt k e = go (ltb j (length l)) refl
@@ -66,7 +66,7 @@ module _ (v : ℕ) (l : List ℕ) where
           let a = ltb-false j (length l) t in
           let b = length-append l (v ∷ []) in
           let q : j ≡ length l = omega arith in
-          member-at v l m i (omega arith) (sym (get_or-append l (v ∷ []) 0 i (omega arith)) ∙ e ∙ ap (λ (x : ℕ). get_or (l ++ (v ∷ [])) x 0) q ∙ last-is)
+          member-at v l m i (omega arith) (sym (get_or-append l (v ∷ []) 0 i (omega arith)) ∙ e ∙ ap (λ (x : ℕ). get_or (l ++ (v ∷ [])) x 0) q ∙ last_is)
 
   -- one vertex more is counted once
   pub count-more : (n : ℕ) → v < n → member v l ≡ false → sum n (λ x. weigh (member x l) 1) ≡ length l → sum n (λ x. weigh (member x (l ++ (v ∷ []))) 1) ≡ length l + 1

@@ -41,7 +41,7 @@ module _ (s : Terms) (p : List ℕ) (gains₀ : List ℤ) (moves₀ : List Move)
 
   -- the cut is far from the end of its type
   pub cut_most : cut₀ ≤ most_cut
-  cut_most = rw a.cut-is (cut_small s.graph p (light a.fixed) a.fixed.rows.few)
+  cut_most = rw a.cut_is (cut_small s.graph p (light a.fixed) a.fixed.rows.few)
 
   -- what the walk asks, after fresh gains
   pub walk-asked : (gains : List ℤ) (first : Standing) → gains ≡ fresh_gains s.graph p gains₀ → first ≡ first_standing loads cut₀ → WalkAsked s p gains moves₀ first
@@ -50,12 +50,12 @@ module _ (s : Terms) (p : List ℕ) (gains₀ : List ℤ) (moves₀ : List Move)
     fixed = a.fixed;
     stands =
         rw (eg, ef)
-        (stands-start s n a.fixed p (fresh_gains s.graph p gains₀) (first_standing loads cut₀) refl a.two-labels
+        (stands-start s n a.fixed p (fresh_gains s.graph p gains₀) (first_standing loads cut₀) refl a.two_labels
         (length-written _ (length p) gains₀ ∙ a.gained)
         (λ x l. written_below _ (pos 0) (length p) gains₀ (let g = a.gained in omega arith) x l)
         a.loaded
-        (ap pos a.cut-is)
-        (ap pos a.cut-is)
+        (ap pos a.cut_is)
+        (ap pos a.cut_is)
         refl
         refl);
     places = a.places;
@@ -74,27 +74,27 @@ module _ (s : Terms) (p : List ℕ) (gains₀ : List ℤ) (moves₀ : List Move)
       p = p;
       vs = e.moved;
       before = moves₀;
-      labelled = w.stands.labelled ∙ w.moved-from;
-      recorded-are = w.recorded-are;
+      labelled = w.stands.labelled ∙ w.moved_from;
+      recorded_are = w.recorded_are;
       places = let f = few in let r = a.places in omega arith;
-      made-is = w.made-is;
-      kept-within = let k = w.stands.kept-is in let m = w.made-is in let h = w.kept-within in omega arith;
+      made_is = w.made_is;
+      kept_within = let k = w.stands.kept_is in let m = w.made_is in let h = w.kept_within in omega arith;
       loaded = w.stands.loaded;
       weighed = a.fixed.weighed;
       few = let x = a.fixed.weighed in let y = a.fixed.rows.few in omega arith;
       light = a.fixed.light;
-      two-labels = a.two-labels;
+      two_labels = a.two_labels;
       apart = w.stands.apart;
       inside = w.stands.inside;
     }
 
     -- the least cut, as the code reads it back
     pub least-read : to_z w64 (of_z w64 last.least) ≡ last.least
-    least-read = rw w.stands.least-is (back (pos e.least) (let l = w.stands.least-low in omega arith))
+    least-read = rw w.stands.least_is (back (pos e.least) (let l = w.stands.least_low in omega arith))
 
     -- the least cut is no negative number
     pub least-plain : le_z (pos 0) last.least ≡ true
-    least-plain = rw w.stands.least-is (le-leb 0 e.least (omega arith))
+    least-plain = rw w.stands.least_is (le-leb 0 e.least (omega arith))
 
     -- the pass's answer
     pub pass-done :
@@ -107,27 +107,27 @@ module _ (s : Terms) (p : List ℕ) (gains₀ : List ℤ) (moves₀ : List Move)
     pass-done labels' back r el eb er =
         let k = keeps-walk s p s.move_limit in
         let left : labels' ≡ flips p (take e.kept e.moved) =
-        el ∙ undone-kept s.weights labels moves last.loads.at last.kept made rewind-asked ∙ ap (λ (i : ℕ). flips p (take i e.moved)) w.stands.kept-is in
-        let least : r.cut ≡ e.least = pos-injective r.cut e.least (er.2 ∙ w.stands.least-is) in
-        let m = w.made-is in
-        let kp = w.stands.kept-is in
-        let kw = w.kept-within in
+        el ∙ undone-kept s.weights labels moves last.loads.at last.kept made rewind-asked ∙ ap (λ (i : ℕ). flips p (take i e.moved)) w.stands.kept_is in
+        let least : r.cut ≡ e.least = pos-injective r.cut e.least (er.2 ∙ w.stands.least_is) in
+        let m = w.made_is in
+        let kp = w.stands.kept_is in
+        let kw = w.kept_within in
         let e0 = er.0 in
         let e1 = er.1 in
         let f = few in
         record {
           labelled = left;
-          made-is = e0 ∙ m;
-          kept-within = omega arith;
-          rewound-is = ap₂ ◌-◌ (e0 ∙ m) (e1 ∙ kp);
+          made_is = e0 ∙ m;
+          kept_within = omega arith;
+          rewound_is = ap₂ ◌-◌ (e0 ∙ m) (e1 ∙ kp);
           few = omega arith;
-          least-is = least;
-          cut-is = least ∙ k.least-is ∙ ap (cut s.graph) (sym left);
+          least_is = least;
+          cut_is = least ∙ k.least_is ∙ ap (cut s.graph) (sym left);
           loaded = ap (λ (l : Loads). l.at) er.3 ∙ eb;
-          two-labels = λ x. rw left (two-flips p (take e.kept e.moved) a.two-labels x);
+          two_labels = λ x. rw left (two-flips p (take e.kept e.moved) a.two_labels x);
           long = ap length left ∙ flips-long p (take e.kept e.moved);
-          moves_long = ap length w.recorded-are ∙ recorded-long p e.moved moves₀ (let q = a.places in omega arith);
-          moves-past = ap (drop n) w.recorded-are ∙ past e.moved f;
+          moves_long = ap length w.recorded_are ∙ recorded-long p e.moved moves₀ (let q = a.places in omega arith);
+          moves_past = ap (drop n) w.recorded_are ∙ past e.moved f;
         }
       where
         -- past n the records change nothing

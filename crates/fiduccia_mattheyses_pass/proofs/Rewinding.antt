@@ -78,16 +78,16 @@ module _ (weights labels : List ℕ) (moves : List Move) (loads : List ℕ) (kep
     q = part (flips a.p (take (kept + k) vs)) v
 
     in-vs : kept + k < length vs
-    in-vs = let m = a.made-is in omega arith
+    in-vs = let m = a.made_is in omega arith
 
     record_is : get_or moves (kept + k) no_move ≡ record { vertex = v; part = q }
     record_is =
-        ap (λ (l : List Move). get_or l (kept + k) no_move) a.recorded-are
+        ap (λ (l : List Move). get_or l (kept + k) no_move) a.recorded_are
         ∙ get_or-append (records a.p vs) (drop (length vs) a.before) no_move (kept + k) (let e = length-records a.p vs in let h = in-vs in omega arith)
         ∙ records-at a.p vs (kept + k) in-vs
 
     q-two : q < 2
-    q-two = two-flips a.p (take (kept + k) vs) a.two-labels v
+    q-two = two-flips a.p (take (kept + k) vs) a.two_labels v
 
     v-inside : v < length a.p
     v-inside = a.inside (kept + k) in-vs
@@ -118,8 +118,8 @@ module _ (weights labels : List ℕ) (moves : List Move) (loads : List ℕ) (kep
   -- a record below `made` is in the list
   pub at-inside : (at : ℕ) → at < made → at < length moves
   at-inside at l =
-      let m = a.made-is in
-      let r = ap length a.recorded-are ∙ recorded-long a.p vs a.before a.places in
+      let m = a.made_is in
+      let r = ap length a.recorded_are ∙ recorded-long a.p vs a.before a.places in
       let h = a.places in
       omega arith
 
@@ -135,9 +135,9 @@ module _ (weights labels : List ℕ) (moves : List Move) (loads : List ℕ) (kep
   pub undone-kept : undone moves kept (made - kept) labels ≡ flips a.p (take kept vs)
   undone-kept =
       undone-back (made - kept) (omega arith)
-      ∙ ap (flips labels) (take_all (made - kept) (drop kept vs) (let d = length-drop kept vs in let m = a.made-is in omega arith))
+      ∙ ap (flips labels) (take_all (made - kept) (drop kept vs) (let d = length-drop kept vs in let m = a.made_is in omega arith))
       ∙ ap (λ (l : List ℕ). flips l (drop kept vs)) a.labelled
-      ∙ rewound a.p vs kept a.two-labels
+      ∙ rewound a.p vs kept a.two_labels
 
   -- one turn at place `at`: the record read, the labels and the loads after it
   module _ (labels' : List ℕ) (back : List ℕ) (at : ℕ) (from : kept ≤ at) (upto : at < made) (so : labels' ≡ undone moves kept (at - kept) labels) (loaded : back ≡ table 16 (load weights labels')) (m : Move) (read : m ≡ get_or moves at no_move) where
@@ -160,7 +160,7 @@ module _ (weights labels : List ℕ) (moves : List Move) (loads : List ℕ) (kep
     long-now = ap length now ∙ flips-long labels (take k' (drop kept vs)) ∙ ap length a.labelled ∙ flips-long a.p vs
 
     two-now : (x : ℕ) → part labels' x < 2
-    two-now x = rw now (two-flips labels (take k' (drop kept vs)) (λ y. rw a.labelled (two-flips a.p vs a.two-labels y)) x)
+    two-now x = rw now (two-flips labels (take k' (drop kept vs)) (λ y. rw a.labelled (two-flips a.p vs a.two_labels y)) x)
 
     abbrev i : ℕ
     i = m.vertex
@@ -194,12 +194,12 @@ module _ (weights labels : List ℕ) (moves : List Move) (loads : List ℕ) (kep
         let lim = a.light in
         let h = load-holds weights labels' i s.0 in
         record {
-          in-labels = s.0;
-          in-weights = s.1;
-          two-labels = t;
+          in_labels = s.0;
+          in_weights = s.1;
+          two_labels = t;
           before = b;
           sixteen = ap length loaded ∙ length-table 16 (load weights labels');
-          weight-within = omega arith;
+          weight_within = omega arith;
           within = omega arith;
         }
 

@@ -78,15 +78,15 @@ cut-after s p v ok l =
 -- the loads after a move are those of the labels after it
 loads-follow : (ws p : List ℕ) (v : ℕ) → v < length p → part p v < 2 → loads_moved (table 16 (load ws p)) (part p v) (other (part p v)) (get_or ws v 0) ≡ table 16 (load ws (flip p v))
 unfolding flip
-loads-follow ws p v lv two-labels = loads-move ws p v (other (part p v)) lv (omega arith) (omega arith) (λ r. omega arith)
+loads-follow ws p v lv two_labels = loads-move ws p v (other (part p v)) lv (omega arith) (omega arith) (λ r. omega arith)
 
 pub two-flip : (p : List ℕ) (v : ℕ) → v < length p → ((x : ℕ) → part p x < 2) → (x : ℕ) → part (flip p v) x < 2
 unfolding flip
-two-flip p v lv two-labels x = go (eqb x v) refl
+two-flip p v lv two_labels x = go (eqb x v) refl
   where
     go : (t : Bool) → eqb x v ≡ t → part (set p v (other (part p v))) x < 2
     go true r = rw (eqb-true x v r, get_or-set_same p v (other (part p v)) 0 lv) (omega arith)
-    go false r = rw (get_or-set_other p v x (other (part p v)) 0 (eqb-false x v r)) (two-labels x)
+    go false r = rw (get_or-set_other p v x (other (part p v)) 0 (eqb-false x v r)) (two_labels x)
 
 -- what the code's answer tells of the state's next
 bad-go : (t u : Bool) (v : ℕ) (g : ℤ) (bad w : ℕ) (h : ℤ) (b : ℕ) → cond t (cond u Stop (Go v g (bad + 1))) (Go v g 0) ≡ Go w h b → (t && u ≡ false) × (cond t (bad + 1) 0 ≡ b) × (v ≡ w) × (g ≡ h)
@@ -117,8 +117,8 @@ module _ (s : Terms) (st : State) where
 pub record Goes (s : Terms) (n : ℕ) (st : State) (labels : List ℕ) (v : ℕ) (g : ℤ) (b : ℕ) : Type 0 where
   pub next-is : next s st ≡ some (move_on s st v)
   pub here : v < length labels
-  pub gain-is : g ≡ worth s labels v
-  pub bad-is : b ≡ cond (is_bad s labels v) (st.bad + 1) 0
+  pub gain_is : g ≡ worth s labels v
+  pub bad_is : b ≡ cond (is_bad s labels v) (st.bad + 1) 0
   pub new : member v st.moved ≡ false
   pub within : fits s labels v ≡ true
 
@@ -130,13 +130,13 @@ module _ (s : Terms) (n : ℕ) (f : Fixed s n) (st : State) (labels : List ℕ) 
   loads-are t l = rw on.loaded (table_at 16 t 0 (load s.weights labels) (omega arith))
 
   pick_is : pick_below gains (load_after c.loads.at s.weights labels) (ceiling_at s.ceilings labels) (length labels) ≡ picked (worth s labels) (choice s labels st.moved)
-  pick_is = pick-choice s labels st.moved gains c.loads.at f.all-movable (light f) on.gained loads-are
+  pick_is = pick-choice s labels st.moved gains c.loads.at f.all_movable (light f) on.gained loads-are
 
   pub scannable : Scannable gains labels s.weights c.loads.at
   scannable = record {
     gained = on.gained.long;
     weighed = f.weighed ∙ sym on.long;
-    two-labels = on.two-labels;
+    two_labels = on.two_labels;
     sixteen = ap length on.loaded ∙ length-table 16 (load s.weights labels);
     light = λ t l. (let a = load-within s.weights labels (f.weighed ∙ sym on.long) t in let b = loads-are t l in let d = f.light in omega arith);
   }
@@ -145,7 +145,7 @@ module _ (s : Terms) (n : ℕ) (f : Fixed s n) (st : State) (labels : List ℕ) 
   next-as none e a = next-none s st (rw on.labelled at e)
   next-as (some v) e a =
       let q : next_of (Vertex v (worth s labels v)) c.bad s.bad_limit ≡ Stop = rw (pick_is, e) at a in
-      let r = bad-stop (is_bad s labels v) (leb s.bad_limit st.bad) v (worth s labels v) st.bad (rw on.bad-is at q) in
+      let r = bad-stop (is_bad s labels v) (leb s.bad_limit st.bad) v (worth s labels v) st.bad (rw on.bad_is at q) in
       next-stop s st v (rw on.labelled at e) (rw on.labelled at r)
 
   -- the code stops where the state has no next
@@ -159,15 +159,15 @@ module _ (s : Terms) (n : ℕ) (f : Fixed s n) (st : State) (labels : List ℕ) 
       absurd (omega arith)
   goes-as (some u) e v g b a =
       let q : next_of (Vertex u (worth s labels u)) c.bad s.bad_limit ≡ Go v g b = rw (pick_is, e) at a in
-      let r = bad-go (is_bad s labels u) (leb s.bad_limit st.bad) u (worth s labels u) st.bad v g b (rw on.bad-is at q) in
+      let r = bad-go (is_bad s labels u) (leb s.bad_limit st.bad) u (worth s labels u) st.bad v g b (rw on.bad_is at q) in
       let i = (chosen s labels st.moved u).0 e in
       let al = allowed-is s labels st.moved u i.may in
       let uv : u ≡ v = r.2 in
       record {
         next-is = rw (← uv) (next-some s st u (rw on.labelled at e) (rw on.labelled at r.0));
         here = rw (← uv) i.here;
-        gain-is = sym r.3 ∙ ap (worth s labels) uv;
-        bad-is = sym r.1 ∙ ap (λ (x : ℕ). cond (is_bad s labels x) (st.bad + 1) 0) uv;
+        gain_is = sym r.3 ∙ ap (worth s labels) uv;
+        bad_is = sym r.1 ∙ ap (λ (x : ℕ). cond (is_bad s labels x) (st.bad + 1) 0) uv;
         new = rw (← uv) al.1;
         within = rw (← uv) al.2;
       }
@@ -196,11 +196,11 @@ module _ (s : Terms) (n : ℕ) (f : Fixed s n) (st : State) (labels : List ℕ) 
       rows = rw on.long f.rows;
       scanned = scannable;
       here = go.here;
-      weight-within = rw (loads-are (part labels v) (on.two-labels v)) (load-holds s.weights labels v go.here);
+      weight_within = rw (loads-are (part labels v) (on.two_labels v)) (load-holds s.weights labels v go.here);
       small_gains = small-gains;
-      small_gain = rw go.gain-is (worth-small s labels v (light f));
-      small_cut = rw on.cut-is (cut_small s.graph labels (light f) few');
-      small_least = rw on.least-is on.least-low;
+      small_gain = rw go.gain_is (worth-small s labels v (light f));
+      small_cut = rw on.cut_is (cut_small s.graph labels (light f) few');
+      small_least = rw on.least_is on.least_low;
     }
       where
         lock-or : (x : ℕ) (t : Bool) → mag (cond t lock (worth s labels x)) ≤ lock_size
@@ -224,10 +224,10 @@ module _ (s : Terms) (n : ℕ) (f : Fixed s n) (st : State) (labels : List ℕ) 
     after' = standing_after c (part labels v) (get_or s.weights v 0) g b (length st.moved + 1)
 
     cut-now : c.cut -ℤ g ≡ pos c'
-    cut-now = ap₂ ◌-ℤ◌ on.cut-is go.gain-is ∙ cut-after s labels v symmetric' go.here
+    cut-now = ap₂ ◌-ℤ◌ on.cut_is go.gain_is ∙ cut-after s labels v symmetric' go.here
 
     lower : lt_z (c.cut -ℤ g) c.least ≡ ltb c' st.least
-    lower = ap₂ lt_z cut-now on.least-is
+    lower = ap₂ lt_z cut-now on.least_is
 
     flip-long : length (flip labels v) ≡ length labels
     unfolding flip
@@ -241,15 +241,15 @@ module _ (s : Terms) (n : ℕ) (f : Fixed s n) (st : State) (labels : List ℕ) 
         (record {
           labelled = ap (λ (p : List ℕ). flip p v) on.labelled;
           long = flip-long ∙ on.long;
-          two-labels = two-flip labels v go.here on.two-labels;
-          gained = gains-move s labels st.moved gains v symmetric' (light f) on.two-labels go.here on.gained;
-          loaded = ap (λ (l : List ℕ). loads_moved l (part labels v) (other (part labels v)) (get_or s.weights v 0)) on.loaded ∙ loads-follow s.weights labels v go.here (on.two-labels v);
-          cut-is = cut-now;
-          least-is = least-now;
-          least-low = low;
-          kept-is = ap (λ (t : Bool). cond t (length st.moved + 1) c.kept) lower ∙ ap (cond (ltb c' st.least) (length st.moved + 1)) on.kept-is ∙ as-state-kept;
-          bad-is = go.bad-is ∙ ap (λ (p : List ℕ). cond (is_bad s p v) (st.bad + 1) 0) on.labelled;
-          bad-within = rw (length-append st.moved (v ∷ [])) (calmer (is_bad s st.labels v));
+          two_labels = two-flip labels v go.here on.two_labels;
+          gained = gains-move s labels st.moved gains v symmetric' (light f) on.two_labels go.here on.gained;
+          loaded = ap (λ (l : List ℕ). loads_moved l (part labels v) (other (part labels v)) (get_or s.weights v 0)) on.loaded ∙ loads-follow s.weights labels v go.here (on.two_labels v);
+          cut_is = cut-now;
+          least_is = least-now;
+          least_low = low;
+          kept_is = ap (λ (t : Bool). cond t (length st.moved + 1) c.kept) lower ∙ ap (cond (ltb c' st.least) (length st.moved + 1)) on.kept_is ∙ as-state-kept;
+          bad_is = go.bad_is ∙ ap (λ (p : List ℕ). cond (is_bad s p v) (st.bad + 1) 0) on.labelled;
+          bad_within = rw (length-append st.moved (v ∷ [])) (calmer (is_bad s st.labels v));
           counted = count-more v st.moved n in-n go.new on.counted ∙ sym (length-append st.moved (v ∷ []));
           apart = apart_more v st.moved on.apart go.new;
           inside = at_more v st.moved (λ (x : ℕ). x < n) on.inside in-n;
@@ -263,11 +263,11 @@ module _ (s : Terms) (n : ℕ) (f : Fixed s n) (st : State) (labels : List ℕ) 
         state-least = ap (λ (p : List ℕ). cond (ltb (cut s.graph (flip p v)) st.least) (cut s.graph (flip p v)) st.least) on.labelled
 
         least-now : cond (lt_z (c.cut -ℤ g) c.least) (c.cut -ℤ g) c.least ≡ pos (cond (ltb (cut s.graph (flip st.labels v)) st.least) (cut s.graph (flip st.labels v)) st.least)
-        least-now = rw (lower, cut-now, on.least-is) (push (ltb c' st.least) c' st.least ∙ ap pos state-least)
+        least-now = rw (lower, cut-now, on.least_is) (push (ltb c' st.least) c' st.least ∙ ap pos state-least)
 
         low_of : (t : Bool) → cond t c' st.least ≤ most_cut
         low_of true = cut_small s.graph (flip labels v) (light f) (let a = flip-long in let b = few' in omega arith)
-        low_of false = on.least-low
+        low_of false = on.least_low
 
         low : cond (ltb (cut s.graph (flip st.labels v)) st.least) (cut s.graph (flip st.labels v)) st.least ≤ most_cut
         low = rw (← state-least) (low_of (ltb c' st.least))
@@ -276,7 +276,7 @@ module _ (s : Terms) (n : ℕ) (f : Fixed s n) (st : State) (labels : List ℕ) 
         as-state-kept = ap (λ (p : List ℕ). cond (ltb (cut s.graph (flip p v)) st.least) (length st.moved + 1) st.kept) on.labelled
 
         calmer : (t : Bool) → cond t (st.bad + 1) 0 ≤ length st.moved + 1
-        calmer true = let h = on.bad-within in omega arith
+        calmer true = let h = on.bad_within in omega arith
         calmer false = omega arith
 
 -- at a pass's start the code stands at the state's start
@@ -293,18 +293,18 @@ pub stands-start :
     → c.bad ≡ 0
     → Stands s n (start s labels) labels gains c
 unfolding member
-stands-start s n f labels gains c long two-labels gl ge ld ct le kp bd = record {
+stands-start s n f labels gains c long two_labels gl ge ld ct le kp bd = record {
   labelled = refl;
   long = long;
-  two-labels = two-labels;
+  two_labels = two_labels;
   gained = record { long = gl; each = ge };
   loaded = ld;
-  cut-is = ct;
-  least-is = le;
-  least-low = cut_small s.graph labels (light f) (let a = f.rows.few in omega arith);
-  kept-is = kp;
-  bad-is = bd;
-  bad-within = omega arith;
+  cut_is = ct;
+  least_is = le;
+  least_low = cut_small s.graph labels (light f) (let a = f.rows.few in omega arith);
+  kept_is = kp;
+  bad_is = bd;
+  bad_within = omega arith;
   counted = sum-zero n;
   apart = λ i j lt k. absurd (omega arith);
   inside = λ i k. absurd (omega arith);

@@ -26,7 +26,7 @@ use Rattle.fiduccia_mattheyses_pass.specs.inner.Bounds.{most_twice, most_updated
 
 -- a signed number that went through memory is itself
 pub back : (z : ℤ) → mag z < 2 ^ hbits w64 → to_z w64 (of_z w64 z) ≡ z
-back z h = to_z-of_z (sfits_of h)
+back z h = to_z-of_z {w = w64} (sfits_of h)
 
 -- what a place in the list of gains answers
 free-go : (t : Bool) (z g : ℤ) → cond t (Free z) Locked ≡ Free g → (t ≡ true) × (g ≡ z)

@@ -63,9 +63,9 @@ pub record Walking (s : Terms) (limit : ℕ) (p : List ℕ) (moves₀ : List Mov
   pub state : State
   pub stands : Stands s (length p) state labels gains st
   pub count : length state.moved ≡ made
-  pub moved-from : state.labels ≡ flips p state.moved
-  pub recorded-are : moves ≡ recorded p state.moved moves₀
-  pub kept-within : state.kept ≤ made
+  pub moved_from : state.labels ≡ flips p state.moved
+  pub recorded_are : moves ≡ recorded p state.moved moves₀
+  pub kept_within : state.kept ≤ made
   pub within : made ≤ limit
   pub rest : walk s (limit - made) state ≡ walk s limit (start s p)
 
@@ -76,9 +76,9 @@ module _ (s : Terms) (limit : ℕ) (p : List ℕ) (moves₀ : List Move) where
     state = start s p;
     stands = a.stands;
     count = refl;
-    moved-from = refl;
-    recorded-are = refl;
-    kept-within = omega arith;
+    moved_from = refl;
+    recorded_are = refl;
+    kept_within = omega arith;
     within = omega arith;
     rest = let r : limit - 0 ≡ limit = omega arith in rw r;
   }
@@ -93,23 +93,23 @@ module _ (s : Terms) (limit : ℕ) (p : List ℕ) (moves₀ : List Move) where
     scanned = (
       scannable s (length p) f w.state labels gains st w.stands,
       f.capped,
-      (let a = w.stands.bad-is in let b = w.stands.bad-within in let d = count-few (length p) w.state.moved w.stands.counted in let e = f.rows.few in omega arith),
+      (let a = w.stands.bad_is in let b = w.stands.bad_within in let d = count-few (length p) w.state.moved w.stands.counted in let e = f.rows.few in omega arith),
     )
 
     -- the list of records keeps its length
     pub moves_long : length moves ≡ length moves₀
     moves_long =
         let d = count-few (length p) w.state.moved w.stands.counted in
-        ap length w.recorded-are ∙ recorded-long p w.state.moved moves₀ (omega arith)
+        ap length w.recorded_are ∙ recorded-long p w.state.moved moves₀ (omega arith)
 
     -- the walk is at its end
     ended : w.state ≡ walk s limit (start s p) → WalkDone s p moves₀ (walk s limit (start s p)) labels gains moves made st
     ended e = rw (← e) (record {
       stands = w.stands;
-      moved-from = w.moved-from;
-      recorded-are = w.recorded-are;
-      made-is = sym w.count;
-      kept-within = let a = w.count in let b = w.kept-within in omega arith;
+      moved_from = w.moved_from;
+      recorded_are = w.recorded_are;
+      made_is = sym w.count;
+      kept_within = let a = w.count in let b = w.kept_within in omega arith;
     })
 
     pub walking-full : limit ≤ made → WalkDone s p moves₀ (walk s limit (start s p)) labels gains moves made st
@@ -137,7 +137,7 @@ module _ (s : Terms) (limit : ℕ) (p : List ℕ) (moves₀ : List Move) where
           let few = f.rows.few in
           let rm = places-left s (length p) f w.state labels gains st w.stands v g b going in
           let c = w.count in
-          let m = ap length w.recorded-are ∙ recorded-long p w.state.moved moves₀ (omega arith) in
+          let m = ap length w.recorded_are ∙ recorded-long p w.state.moved moves₀ (omega arith) in
           (a, omega arith, omega arith)
 
       -- after the move
@@ -160,12 +160,12 @@ module _ (s : Terms) (limit : ℕ) (p : List ℕ) (moves₀ : List Move) where
             state = move_on s w.state v;
             stands = stands-move s (length p) f w.state labels gains st on v g b going labels' gains' st' el eg (es ∙ ap (λ (k : ℕ). standing_after st (part labels v) (get_or s.weights v 0) g b (k + 1)) (sym c));
             count = length-append w.state.moved (v ∷ []) ∙ ap (λ (k : ℕ). k + 1) c;
-            moved-from = ap (λ (l : List ℕ). flip l v) w.moved-from ∙ sym (flips-more p w.state.moved v);
-            recorded-are =
+            moved_from = ap (λ (l : List ℕ). flip l v) w.moved_from ∙ sym (flips-more p w.state.moved v);
+            recorded_are =
                 em
-                ∙ ap (λ (l : List Move). set l made (record { vertex = v; part = x })) w.recorded-are
-                ∙ recorded_more p w.state.moved moves₀ v made x c (omega arith) (ex ∙ ap (λ (l : List ℕ). part l v) (on.labelled ∙ w.moved-from));
-            kept-within = kept-one (ltb (cut s.graph (flip w.state.labels v)) w.state.least);
+                ∙ ap (λ (l : List Move). set l made (record { vertex = v; part = x })) w.recorded_are
+                ∙ recorded_more p w.state.moved moves₀ v made x c (omega arith) (ex ∙ ap (λ (l : List ℕ). part l v) (on.labelled ∙ w.moved_from));
+            kept_within = kept-one (ltb (cut s.graph (flip w.state.labels v)) w.state.least);
             within = omega arith;
             rest =
                 let n : limit - made ≡ suc (limit - (made + 1)) = omega arith in
@@ -174,4 +174,4 @@ module _ (s : Terms) (limit : ℕ) (p : List ℕ) (moves₀ : List Move) where
         where
           kept-one : (t : Bool) → cond t (length w.state.moved + 1) w.state.kept ≤ made + 1
           kept-one true = let c = w.count in omega arith
-          kept-one false = let k = w.kept-within in omega arith
+          kept-one false = let k = w.kept_within in omega arith

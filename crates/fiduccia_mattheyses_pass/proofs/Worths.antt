@@ -53,7 +53,7 @@ module _ (s : Terms) (p : List ℕ) where
   worth-small x l =
       omega (arith, mag-sub (into G p x (other (part p x))) (into G p x (part p x)), arcs-small G x (λ v. eqb (part p v) (other (part p x))) l, arcs-small G x (λ v. eqb (part p v) (part p x)) l)
 
-  module _ (ok : Symmetric (length p) G) (two-labels : (x : ℕ) → part p x < 2) (v x : ℕ) (lv : v < length p) (lx : x < length p) (ne : x ≢ v) where
+  module _ (ok : Symmetric (length p) G) (two_labels : (x : ℕ) → part p x < 2) (v x : ℕ) (lv : v < length p) (lx : x < length p) (ne : x ≢ v) where
     abbrev t : ℕ
     t = other (part p v)
 
@@ -87,20 +87,20 @@ module _ (s : Terms) (p : List ℕ) where
         go : (b : Bool) → eqb (part p x) (part p v) ≡ b → sub_ℕ A' B' ≡ cond b (sub_ℕ A B +ℤ pos (2 * J)) (sub_ℕ A B -ℤ pos (2 * J))
         go true e =
             let q = eqb-true (part p x) (part p v) e in
-            let d = two-labels v in
+            let d = two_labels v in
             let a = rw (ne_eqb (part p v) (other (part p x)) (λ r. omega arith), eq-eqb t (other (part p x)) (omega arith)) at (moved-into (other (part p x))) in
             let b = rw (eq-eqb (part p v) (part p x) (sym q), ne_eqb t (part p x) (λ r. omega arith)) at (moved-into (part p x)) in
             same A' B' (A + 2 * J) B (omega arith) ∙ sym (plus A B (2 * J))
         go false e =
             let q = eqb-false (part p x) (part p v) e in
-            let d = two-labels v in
-            let c = two-labels x in
+            let d = two_labels v in
+            let c = two_labels x in
             let a = rw (eq-eqb (part p v) (other (part p x)) (omega (arith, q)), ne_eqb t (other (part p x)) (λ r. omega (arith, q))) at (moved-into (other (part p x))) in
             let b = rw (ne_eqb (part p v) (part p x) (λ r. q (sym r)), eq-eqb t (part p x) (omega (arith, q))) at (moved-into (part p x)) in
             same A' B' A (B + 2 * J) (omega arith) ∙ sym (take-away A B (2 * J))
 
 -- v moves: it is locked, and its row's arcs are gone through
-module _ (s : Terms) (p locked : List ℕ) (gs : List ℤ) (v : ℕ) (ok : Symmetric (length p) s.graph) (light : Light s.graph) (two-labels : (x : ℕ) → part p x < 2) (lv : v < length p) (h : Gains s p locked gs) where
+module _ (s : Terms) (p locked : List ℕ) (gs : List ℤ) (v : ℕ) (ok : Symmetric (length p) s.graph) (light : Light s.graph) (two_labels : (x : ℕ) → part p x < 2) (lv : v < length p) (h : Gains s p locked gs) where
   abbrev g : Graph
   g = s.graph
 
@@ -136,7 +136,7 @@ module _ (s : Terms) (p locked : List ℕ) (gs : List ℤ) (v : ℕ) (ok : Symme
         let q : w ≡ worth s p x = get_or-set_other gs v x lock (pos 0) ne ∙ h.each x lx ∙ rw e in
         let sm = worth-small s p x light in
         follows true (rw q (free-small (worth s p x) (omega arith))) (λ r. rw q sm)
-        ∙ rw (q, unmoved s p ok two-labels v x lv lx ne, ok.equal v x lv lx) (sym (worth_move s p ok two-labels v x lv lx ne))
+        ∙ rw (q, unmoved s p ok two_labels v x lv lx ne, ok.equal v x lv lx) (sym (worth_move s p ok two_labels v x lv lx ne))
 
     each-move : (b : Bool) → eqb x v ≡ b → get_or gs' x (pos 0) ≡ cond (member x locked || b) lock (worth s (flip p v) x)
     each-move true e = at-lock (rw (eqb-true x v e) (get_or-set_same gs v lock (pos 0) (rw h.long lv))) ∙ always (member x locked)

@@ -1,4 +1,6 @@
 // A pass of FM: coupe's algorithms/fiduccia_mattheyses.rs, what its outer loop repeats. Document 01, "FM".
+#![tactic(auto)]
+
 mod gains;
 mod moves;
 mod steps;
@@ -13,7 +15,7 @@ pub use gains::fresh_gains;
 use imbalance::{Ceilings, Loads};
 
 // What bounds the moves of a pass: the ceiling of each part, the bad limit, and the move limit.
-#[derive(Drop)]
+#[derive(Clone, Copy)]
 pub struct Limits {
     pub ceilings: Ceilings,
     pub bad: u64,
@@ -21,14 +23,14 @@ pub struct Limits {
 }
 
 // What a pass does next: it ends, or a vertex moves, with its gain and the bad counter after it.
-#[derive(Drop)]
+#[derive(Clone, Copy)]
 pub enum Next {
     Stop,
     Go(usize, i64, u64),
 }
 
 // Where a pass stands: loads, cut, least cut so far and after how many moves it was first met, and the bad counter.
-#[derive(Drop)]
+#[derive(Clone, Copy)]
 pub struct Standing {
     pub loads: Loads,
     pub cut: i64,
@@ -39,21 +41,21 @@ pub struct Standing {
 
 // A move of a pass: the vertex, and the part that it was in before.
 #[repr(C)]
-#[derive(Drop)]
+#[derive(Clone, Copy)]
 pub struct Move {
     pub vertex: u32,
     pub part: u32,
 }
 
 // Where the walk of a pass ends: the moves made, and the standing.
-#[derive(Drop)]
+#[derive(Clone, Copy)]
 pub struct Walked {
     pub made: usize,
     pub last: Standing,
 }
 
 // What a pass leaves: the moves made, those kept, the cut and the loads.
-#[derive(Drop)]
+#[derive(Clone, Copy)]
 pub struct Passed {
     pub made: usize,
     pub kept: usize,

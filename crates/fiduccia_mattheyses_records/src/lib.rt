@@ -1,4 +1,6 @@
 // FM for callers written in Rattle: the list of move records is the function's own, so that a caller has no reference to a record. Document 01, "FM".
+#![tactic(auto)]
+
 ghost use Rattle.std.specs.Prelude.{◌≡◌};
 ghost use Rattle.fiduccia_mattheyses_records.specs.Own.{blank, RefinedWith};
 

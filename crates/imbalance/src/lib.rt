@@ -1,4 +1,6 @@
 // Loads of the parts and the ceilings on them: coupe's imbalance.rs. Document 01, "The graph and its numbers"; document 02, A4.
+#![tactic(auto)]
+
 ghost use Rattle.std.specs.Prelude.{◌≡◌, ◌<◌, ◌≤◌, false, T, length, from_bits, slice_index};
 ghost use Rattle.std.specs.Float.{binary64};
 ghost use Rattle.lists.specs.Sum.{total};
@@ -23,14 +25,14 @@ pub const MOST_PASSES: u32 = 1024;
 
 // The load of each of the sixteen parts.
 #[repr(C)]
-#[derive(Drop)]
+#[derive(Clone, Copy)]
 pub struct Loads {
     pub at: [u64; 16],
 }
 
 // What the stand-alone loads answer: document 01's number, and the loads where it is 0.
 #[repr(C)]
-#[derive(Drop)]
+#[derive(Clone, Copy)]
 pub struct LoadsAnswer {
     pub number: u32,
     pub loads: Loads,
@@ -38,7 +40,7 @@ pub struct LoadsAnswer {
 
 // What a caller asks of the ceiling: its choice, the whole number, the imbalance e, and the whole number of each part. What the choice does not use is not looked at.
 #[repr(C)]
-#[derive(Drop)]
+#[derive(Clone, Copy)]
 pub struct Ceiling {
     pub choice: u32,
     pub whole: u32,
@@ -47,7 +49,7 @@ pub struct Ceiling {
 }
 
 // The ceiling of each of the sixteen parts.
-#[derive(Drop)]
+#[derive(Clone, Copy)]
 pub struct Ceilings {
     pub at: [u64; 16],
 }

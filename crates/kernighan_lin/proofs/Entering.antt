@@ -49,11 +49,11 @@ ready p l k e z =
     let s = sound n p.weights (graph_of p) one.0 in
     record {
       fit = record { rows = s.rows; symmetric = s.symmetric; light = s.light_arcs };
-      a-vertex = vertex n refl (eqb-true (different l.labels) 2 (not-false (eqb (different l.labels) 2) labels.1));
-      few-passes = ltb-false most_passes p.settings.passes passes.0;
-      in-gains = ltb-false (length l.gains) n two.0;
-      in-locks = ltb-false (length l.locks) n two.1;
-      in-swaps = ltb-false (length l.swaps) (n / 2) both.1;
+      a_vertex = vertex n refl (eqb-true (different l.labels) 2 (not-false (eqb (different l.labels) 2) labels.1));
+      few_passes = ltb-false most_passes p.settings.passes passes.0;
+      in_gains = ltb-false (length l.gains) n two.0;
+      in_locks = ltb-false (length l.locks) n two.1;
+      in_swaps = ltb-false (length l.swaps) (n / 2) both.1;
     }
   where
     vertex : (n : ℕ) → length l.labels ≡ n → different l.labels ≡ 2 → 0 < n
@@ -102,8 +102,8 @@ at-run p l r m k e z h =
     let v = eq-eqb (number p l) 0 (sym e ∙ z) in
     let d = h.passed in
     record {
-      answered = rw v (same-report d.number_is d.end_is d.passes-are d.first-is d.last-is);
-      labels = rw v d.labels-are;
+      answered = rw v (same-report d.number_is d.end_is d.passes_are d.first_is d.last_is);
+      labels = rw v d.labels_are;
       gains = rw v h.gains;
       locks = rw v h.locks;
       swaps = rw v h.swaps;

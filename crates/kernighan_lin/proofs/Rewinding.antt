@@ -102,8 +102,8 @@ module _ (s : Terms) where
     abbrev u : State
     u = after s st t
 
-    kept-is : (walk s (suc k) st).kept ≡ (walk s k u).kept
-    kept-is = ap (λ (x : State). x.kept) (walk_step s k st t e)
+    kept_is : (walk s (suc k) st).kept ≡ (walk s k u).kept
+    kept_is = ap (λ (x : State). x.kept) (walk_step s k st t e)
 
     -- the labels of u itself
     first-here : (walk s k u).kept ≡ u.labels → First (suc k) st
@@ -113,7 +113,7 @@ module _ (s : Terms) where
           swaps = 1;
           upto = omega arith;
           made = rw (one, made_more st t) (omega arith);
-          is = kept-is ∙ q ∙ sym (ap (λ (x : State). x.labels) one);
+          is = kept_is ∙ q ∙ sym (ap (λ (x : State). x.labels) one);
           earlier = λ i l m. (let z : i ≡ 0 = omega arith in let n = ap (λ (x : State). x.made) (walk_none s i st z) in absurd (omega arith));
         }
 
@@ -124,7 +124,7 @@ module _ (s : Terms) where
           swaps = suc f.swaps;
           upto = let a = f.upto in omega arith;
           made = rw (walk_step s f.swaps st t e) (let a = f.made in let b = made_more st t in omega arith);
-          is = kept-is ∙ f.is ∙ sym (ap (λ (x : State). x.labels) (walk_step s f.swaps st t e));
+          is = kept_is ∙ f.is ∙ sym (ap (λ (x : State). x.labels) (walk_step s f.swaps st t e));
           earlier = λ i l m. before i l m;
         }
       where
@@ -143,15 +143,15 @@ module _ (s : Terms) where
   first_of (suc k) st l = go (pair s st.labels st.gains st.locks) refl (first_of k)
     where
       here : (t : Swap) → pair s st.labels st.gains st.locks ≡ some t → (b : Bool) → ltb (C (swapped st.labels t)) (C st.kept) ≡ b → (after s st t).kept ≡ cond b (after s st t).labels st.kept → (after s st t).labels ≡ swapped st.labels t → (walk s k (after s st t)).kept ≡ (after s st t).kept → ((walk s (suc k) st).kept ≡ st.kept) ⊎ (First (suc k) st × (C (walk s (suc k) st).kept < C st.kept))
-      here t e true b c d q = inr (first-here k st t e (q ∙ c), rw (kept-is k st t e ∙ q ∙ c ∙ d) (ltb-true (C (swapped st.labels t)) (C st.kept) b))
-      here t e false b c d q = inl (kept-is k st t e ∙ q ∙ c)
+      here t e true b c d q = inr (first-here k st t e (q ∙ c), rw (kept_is k st t e ∙ q ∙ c ∙ d) (ltb-true (C (swapped st.labels t)) (C st.kept) b))
+      here t e false b c d q = inl (kept_is k st t e ∙ q ∙ c)
 
       go : (o : Option Swap) → pair s st.labels st.gains st.locks ≡ o → ((v : State) → 0 < v.made → ((walk s k v).kept ≡ v.kept) ⊎ (First k v × (C (walk s k v).kept < C v.kept))) → ((walk s (suc k) st).kept ≡ st.kept) ⊎ (First (suc k) st × (C (walk s (suc k) st).kept < C st.kept))
       go none e ih = inl (ap (λ (x : State). x.kept) (walk-stop s (suc k) st e))
       go (some t) e ih =
           ⊎_elim
           (λ (q : (walk s k (after s st t)).kept ≡ (after s st t).kept). here t e (ltb (C (swapped st.labels t)) (C st.kept)) refl (kept-later st t l) (labels-after st t) q)
-          (λ (q : First k (after s st t) × (C (walk s k (after s st t)).kept < C (after s st t).kept)). (let b = kept-before st t l in let c = q.1 in inr (first-later k st t e q.0 q.1, rw (kept-is k st t e) (omega arith))))
+          (λ (q : First k (after s st t) × (C (walk s k (after s st t)).kept < C (after s st t).kept)). (let b = kept-before st t l in let c = q.1 in inr (first-later k st t e q.0 q.1, rw (kept_is k st t e) (omega arith))))
           (ih (after s st t) (rw (made_more st t) (omega arith)))
 
   -- a pass that makes a swap

@@ -33,10 +33,10 @@ module _ (s : Terms) (w : ℕ) where
 pub record Passing (s : Terms) (most passes : ℕ) (p₀ : List ℕ) (i last : ℕ) (labels : List ℕ) (gains : List ℤ) (locks swaps : List ℕ) : Type 0 where
   pub upto : i ≤ passes
   pub long : length labels ≡ length p₀
-  pub gains-long : length gains ≡ length p₀
-  pub locks-long : length locks ≡ length p₀
-  pub swaps-long : length swaps ≡ length p₀ / 2
-  pub last-is : last ≡ cut s.graph labels
+  pub gains_long : length gains ≡ length p₀
+  pub locks_long : length locks ≡ length p₀
+  pub swaps_long : length swaps ≡ length p₀ / 2
+  pub last_is : last ≡ cut s.graph labels
   pub rest : run s most (passes - i) i labels ≡ run s most passes 0 p₀
 
 module _ (s : Terms) (most passes : ℕ) (p₀ : List ℕ) where
@@ -45,18 +45,18 @@ module _ (s : Terms) (most passes : ℕ) (p₀ : List ℕ) where
       record {
         upto = omega arith;
         long = refl;
-        gains-long = h.gains-long;
-        locks-long = h.locks-long;
-        swaps-long = h.swaps-long;
-        last-is = e;
+        gains_long = h.gains_long;
+        locks_long = h.locks_long;
+        swaps_long = h.swaps_long;
+        last_is = e;
         rest = let r : passes - 0 ≡ passes = omega arith in rw r;
       }
 
   module _ (i last : ℕ) (labels : List ℕ) (gains : List ℤ) (locks swaps : List ℕ) (on : Passing s most passes p₀ i last labels gains locks swaps) where
     pub lent-long : (limit : ℕ) → limit ≡ min most (length p₀ / 2) → length p₀ ≤ most_vertices → LentLong labels gains locks (length swaps) limit
     lent-long limit e few =
-        let q = on.swaps-long in
-        record { gains-long = on.gains-long ∙ sym on.long; locks-long = on.locks-long ∙ sym on.long; places-for = omega arith; few = omega arith }
+        let q = on.swaps_long in
+        record { gains_long = on.gains_long ∙ sym on.long; locks_long = on.locks_long ∙ sym on.long; places_for = omega arith; few = omega arith }
 
     -- the labels that the walk leaves are those of the pass
     pass-is : (limit : ℕ) (after : List ℕ) → limit ≡ min most (length p₀ / 2) → after ≡ (walk s limit (start s labels)).kept → after ≡ pass s most labels
@@ -70,15 +70,15 @@ module _ (s : Terms) (most passes : ℕ) (p₀ : List ℕ) where
       pub pass_on : (gains' : List ℤ) (locks' swaps' : List ℕ) → length after ≡ length labels → length gains' ≡ length gains → length locks' ≡ length locks → length swaps' ≡ length swaps → c < last → Passing s most passes p₀ (i + 1) c after gains' locks' swaps'
       pass_on gains' locks' swaps' a b d g h =
           let q = pass-is limit after e f in
-          let n = on.last-is in
+          let n = on.last_is in
           let lower : cut s.graph (pass s most labels) < cut s.graph labels = rw (← q) (omega arith) in
           record {
             upto = omega arith;
             long = a ∙ on.long;
-            gains-long = b ∙ on.gains-long;
-            locks-long = d ∙ on.locks-long;
-            swaps-long = g ∙ on.swaps-long;
-            last-is = now;
+            gains_long = b ∙ on.gains_long;
+            locks_long = d ∙ on.locks_long;
+            swaps_long = g ∙ on.swaps_long;
+            last_is = now;
             rest =
                 ap (run s most (passes - (i + 1)) (i + 1)) q
                 ∙ sym (run_on s most (passes - (i + 1)) i labels lower)
@@ -89,7 +89,7 @@ module _ (s : Terms) (most passes : ℕ) (p₀ : List ℕ) where
       pub pass-ends : (before : ℕ) → before ≡ cut s.graph p₀ → last ≤ c → PassesDone s most passes p₀ (record { number = 0; end = 1; passes = i + 1; first = before; last = c }) after
       pass-ends before b h =
           let q = pass-is limit after e f in
-          let n = on.last-is in
+          let n = on.last_is in
           let higher : cut s.graph labels ≤ cut s.graph (pass s most labels) = rw (← q) (omega arith) in
           let r : record { end = 1; passes = i + 1; labels = pass s most labels } ≡ run s most passes 0 p₀ =
           sym (run_ends s most (passes - (i + 1)) i labels higher)
@@ -98,10 +98,10 @@ module _ (s : Terms) (most passes : ℕ) (p₀ : List ℕ) where
           record {
             number_is = refl;
             end_is = ap (λ (x : Run). x.end) r;
-            passes-are = ap (λ (x : Run). x.passes) r;
-            first-is = b;
-            last-is = now ∙ ap (cut s.graph) (q ∙ ap (λ (x : Run). x.labels) r);
-            labels-are = q ∙ ap (λ (x : Run). x.labels) r;
+            passes_are = ap (λ (x : Run). x.passes) r;
+            first_is = b;
+            last_is = now ∙ ap (cut s.graph) (q ∙ ap (λ (x : Run). x.labels) r);
+            labels_are = q ∙ ap (λ (x : Run). x.labels) r;
           }
 
     pub limit-ends : (before : ℕ) → before ≡ cut s.graph p₀ → passes ≤ i → PassesDone s most passes p₀ (record { number = 0; end = 0; passes = i; first = before; last = last }) labels
@@ -111,8 +111,8 @@ module _ (s : Terms) (most passes : ℕ) (p₀ : List ℕ) where
         record {
           number_is = refl;
           end_is = ap (λ (x : Run). x.end) r;
-          passes-are = ap (λ (x : Run). x.passes) r;
-          first-is = b;
-          last-is = on.last-is ∙ ap (cut s.graph) (ap (λ (x : Run). x.labels) r);
-          labels-are = ap (λ (x : Run). x.labels) r;
+          passes_are = ap (λ (x : Run). x.passes) r;
+          first_is = b;
+          last_is = on.last_is ∙ ap (cut s.graph) (ap (λ (x : Run). x.labels) r);
+          labels_are = ap (λ (x : Run). x.labels) r;
         }

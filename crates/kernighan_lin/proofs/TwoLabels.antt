@@ -75,9 +75,9 @@ module _ (labels : List ℕ) (named : NoneAbove 15 labels) where
   below : (t : ℕ) → Occurs labels t → t < 16
   below t o = let l = named o.0 o.1 in let e = o.2 in omega arith
 
-  two-labels : (different labels ≡ 2) ↔ TwoLabels labels
+  two_labels : (different labels ≡ 2) ↔ TwoLabels labels
   unfolding different
-  two-labels = (there, back)
+  two_labels = (there, back)
     where
       there : different labels ≡ 2 → TwoLabels labels
       there e =
@@ -125,7 +125,7 @@ labelled-so labels = (there, back)
     there h =
         let b = or-false (label_above 15 labels) (not (eqb (different labels) 2)) h in
         let named = (labelled 15 labels).0 b.0 in
-        record { none_above = named; two_labels = (two-labels labels named).0 (eqb-true (different labels) 2 (not-false (eqb (different labels) 2) b.1)) }
+        record { none_above = named; two_labels = (two_labels labels named).0 (eqb-true (different labels) 2 (not-false (eqb (different labels) 2) b.1)) }
 
     back : Labelled labels → mislabelled labels ≡ false
-    back k = rw ((labelled 15 labels).1 k.none_above, eq-eqb (different labels) 2 ((two-labels labels k.none_above).1 k.two_labels))
+    back k = rw ((labelled 15 labels).1 k.none_above, eq-eqb (different labels) 2 ((two_labels labels k.none_above).1 k.two_labels))

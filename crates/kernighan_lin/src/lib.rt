@@ -1,4 +1,6 @@
 // Kernighan-Lin between two parts: coupe's algorithms/kernighan_lin.rs. Document 01, "KL".
+#![tactic(auto)]
+
 mod answers;
 mod number;
 
@@ -12,7 +14,7 @@ use kernighan_lin_pass::Limits;
 
 // The limits of a run: passes, swaps in a pass, and bad swaps.
 #[repr(C)]
-#[derive(Drop)]
+#[derive(Clone, Copy)]
 pub struct Settings {
     pub passes: u32,
     pub swaps: u32,
@@ -21,7 +23,7 @@ pub struct Settings {
 
 // What a call answers: document 01's number, and where it is 0 the end, the passes, and the cut before and after.
 #[repr(C)]
-#[derive(Drop)]
+#[derive(Clone, Copy)]
 pub struct Report {
     pub number: u32,
     pub end: u32,
@@ -31,7 +33,7 @@ pub struct Report {
 }
 
 // The lengths of the lent lists.
-#[derive(Drop)]
+#[derive(Clone, Copy)]
 pub struct Lengths {
     pub gains: usize,
     pub locks: usize,

@@ -91,7 +91,7 @@ module _ (s : Terms) (p : List ℕ) (before : List ℤ) (locks : List ℕ) where
   chose_none r left e q =
       record {
         pair_is = q ∙ ap (pair_at (length p)) (sym e);
-        gains-are = λ t f. (let o : ◌≡◌ {A = ℕ} 0 1 = clash t (sym e ∙ f) in absurd (omega arith));
+        gains_are = λ t f. (let o : ◌≡◌ {A = ℕ} 0 1 = clash t (sym e ∙ f) in absurd (omega arith));
       }
     where
       clash : (t : Swap) → ◌≡◌ {A = Option Swap} none (some t) → ◌≡◌ {A = ℕ} 0 1
@@ -101,7 +101,7 @@ module _ (s : Terms) (p : List ℕ) (before : List ℤ) (locks : List ℕ) where
   chose-some v w left e q =
       record {
         pair_is = ap (pair_at (length p)) (sym e);
-        gains-are = λ t f. q ∙ ap (λ (x : ℕ). updated s.graph p x gains) (same t (sym e ∙ f));
+        gains_are = λ t f. q ∙ ap (λ (x : ℕ). updated s.graph p x gains) (same t (sym e ∙ f));
       }
     where
       same : (t : Swap) → some (record { one = v; two = w }) ≡ some t → v ≡ t.one

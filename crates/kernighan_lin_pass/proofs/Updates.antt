@@ -58,14 +58,14 @@ told_to g p v gains a e u = shift (eqb (part p u) (part p v)) (get_or gains u (p
 pub record Telling (g : Graph) (p : List ℕ) (v : ℕ) (gains₀ : List ℤ) (a b e : ℕ) (gains : List ℤ) : Type 0 where
   pub walk : Walk (length p) g.neighbours a b e
   pub long : length gains ≡ length p
-  pub gains-are : gains ≡ table (length p) (told_to g p v gains₀ a e)
+  pub gains_are : gains ≡ table (length p) (told_to g p v gains₀ a e)
 
 module _ (g : Graph) (p : List ℕ) (v : ℕ) (gains₀ : List ℤ) (fit : Fit (length p) g) (a b : ℕ) where
   pub begins : length gains₀ ≡ length p → v < length p → a ≡ first g v → b ≡ past g v → Telling g p v gains₀ a b a gains₀
   begins long below q r = record {
     walk = enters (row_of fit.rows v a b below q r);
     long = long;
-    gains-are =
+    gains_are =
         table_of (length p) (pos 0) gains₀ long
         ∙ table-ext (length p) (λ u. get_or gains₀ u (pos 0)) (told_to g p v gains₀ a a)
         (λ u l.
@@ -78,7 +78,7 @@ module _ (g : Graph) (p : List ℕ) (v : ℕ) (gains₀ : List ℤ) (fit : Fit (
     pub gain-small : (m : ℕ) → Within m gains₀ → (x : ℕ) → x < length p → mag (get_or gains x (pos 0)) ≤ m + update_bound
     gain-small m h x l =
         let w = inv.walk in
-        rw (inv.gains-are, table_at (length p) x (pos 0) (told_to g p v gains₀ a e) l)
+        rw (inv.gains_are, table_at (length p) x (pos 0) (told_to g p v gains₀ a e) l)
         (shift_small (eqb (part p x) (part p v)) (get_or gains₀ x (pos 0)) (joins_to g a e x) m (h x) (part_small (length p) g fit a e w.from (omega (arith, w.row.inside)) (λ j. eqb (neighbour g j) x)))
 
     -- arc e tells x
@@ -86,8 +86,8 @@ module _ (g : Graph) (p : List ℕ) (v : ℕ) (gains₀ : List ℤ) (fit : Fit (
     turn l x w y xs lx ws ys = record {
       walk = further inv.walk l;
       long = length-set gains x y ∙ inv.long;
-      gains-are =
-          ap (λ (z : List ℤ). set z x y) inv.gains-are
+      gains_are =
+          ap (λ (z : List ℤ). set z x y) inv.gains_are
           ∙ table-set (length p) x y (told_to g p v gains₀ a e) (told_to g p v gains₀ a (e + 1)) lx here other;
     }
       where
@@ -97,7 +97,7 @@ module _ (g : Graph) (p : List ℕ) (v : ℕ) (gains₀ : List ℤ) (fit : Fit (
         here : y ≡ told_to g p v gains₀ a (e + 1) x
         here =
             ys
-            ∙ ap (λ (z : ℤ). z +ℤ arc_shift (eqb (part p x) (part p v)) w) (ap (λ (z : List ℤ). get_or z x (pos 0)) inv.gains-are ∙ table_at (length p) x (pos 0) (told_to g p v gains₀ a e) lx)
+            ∙ ap (λ (z : ℤ). z +ℤ arc_shift (eqb (part p x) (part p v)) w) (ap (λ (z : List ℤ). get_or z x (pos 0)) inv.gains_are ∙ table_at (length p) x (pos 0) (told_to g p v gains₀ a e) lx)
             ∙ shift-more (eqb (part p x) (part p v)) (get_or gains₀ x (pos 0)) (joins_to g a e x) w (joins_to g a (e + 1) x)
             (more x ∙ rw (eq-eqb (neighbour g e) x (sym xs), ws))
 
@@ -108,4 +108,4 @@ module _ (g : Graph) (p : List ℕ) (v : ℕ) (gains₀ : List ℤ) (fit : Fit (
 
     pub ended : a ≡ first g v → b ≡ past g v → b ≤ e → gains ≡ updated g p v gains₀
     unfolding updated joins arcs
-    ended q r l = rw (at-end inv.walk l, q, r) at inv.gains-are
+    ended q r l = rw (at-end inv.walk l, q, r) at inv.gains_are

@@ -70,13 +70,13 @@ answer-some s p before locks r e q = go (pair s p before locks) e
 pub record On (s : Terms) (limit : ℕ) (p₀ labels : List ℕ) (gains : List ℤ) (locks codes : List ℕ) (cur : ℕ) (w : Walked) : Type 0 where
   pub upto : w.made ≤ limit
   pub long : length labels ≡ length p₀
-  pub gains-long : length gains ≡ length p₀
-  pub locks-long : length locks ≡ length p₀
+  pub gains_long : length gains ≡ length p₀
+  pub locks_long : length locks ≡ length p₀
   pub within : Within (swap_bound * w.made) gains
   pub cur-is : cur ≡ cut s.graph labels
   pub best : List ℕ
-  pub least-is : w.least ≡ cut s.graph best
-  pub kept-upto : w.kept ≤ w.made
+  pub least_is : w.least ≡ cut s.graph best
+  pub kept_upto : w.kept ≤ w.made
   pub coded : Coded (length p₀) w.made codes
   pub back_is : back codes w.made (w.made - w.kept) labels ≡ best
   pub rest : walk s (limit - w.made) (record { labels = labels; gains = gains; locks = locks; made = w.made; kept = best }) ≡ walk s limit (start s p₀)
@@ -89,16 +89,16 @@ module _ (s : Terms) (limit : ℕ) (p₀ : List ℕ) (fit : Fit (length p₀) s.
       record {
         upto = omega arith;
         long = refl;
-        gains-long = ap length h.gains-are ∙ length-table (length p₀) (λ u. pos 0);
-        locks-long = ap length h.locks-are ∙ length-table (length p₀) (λ u. 0);
-        within = rw h.gains-are (table-within (length p₀) (swap_bound * 0) (λ u. pos 0) (λ u l. omega arith));
-        cur-is = h.cut-is;
+        gains_long = ap length h.gains_are ∙ length-table (length p₀) (λ u. pos 0);
+        locks_long = ap length h.locks_are ∙ length-table (length p₀) (λ u. 0);
+        within = rw h.gains_are (table-within (length p₀) (swap_bound * 0) (λ u. pos 0) (λ u l. omega arith));
+        cur-is = h.cut_is;
         best = p₀;
-        least-is = h.cut-is;
-        kept-upto = omega arith;
+        least_is = h.cut_is;
+        kept_upto = omega arith;
         coded = record { one = λ i l. absurd (omega arith); two = λ i l. absurd (omega arith) };
         back_is = back_none codes 0 (0 - 0) p₀ (omega arith);
-        rest = let r : limit - 0 ≡ limit = omega arith in rw (r, h.gains-are, h.locks-are);
+        rest = let r : limit - 0 ≡ limit = omega arith in rw (r, h.gains_are, h.locks_are);
       }
 
   module _ (labels : List ℕ) (gains : List ℤ) (locks codes : List ℕ) (cur : ℕ) (w : Walked) (on : On s limit p₀ labels gains locks codes cur w) where
@@ -119,11 +119,11 @@ module _ (s : Terms) (limit : ℕ) (p₀ : List ℕ) (fit : Fit (length p₀) s.
         let b : on.best ≡ (walk s limit (start s p₀)).kept = ap (λ (x : State). x.kept) e in
         record {
           upto = on.upto;
-          kept-upto = on.kept-upto;
+          kept_upto = on.kept_upto;
           coded = on.coded;
           long = ap length f ∙ on.long;
           back_is = ap (back codes k (k - w.kept)) f ∙ on.back_is ∙ b;
-          least-is = on.least-is ∙ ap (cut s.graph) b;
+          least_is = on.least_is ∙ ap (cut s.graph) b;
         }
 
     -- the swaps are all made
@@ -172,7 +172,7 @@ module _ (s : Terms) (limit : ℕ) (p₀ : List ℕ) (fit : Fit (length p₀) s.
       -- undoing this swap too
       back-old : back codes' (k + 1) (k + 1 - w.kept) labels' ≡ on.best
       back-old =
-          let u = on.kept-upto in
+          let u = on.kept_upto in
           back_more codes' k (k - w.kept) (k + 1 - w.kept) labels' (omega arith)
           ∙ ap (back codes' k (k - w.kept)) (ap (swapped labels') here-is ∙ swap-twice labels t below.0 below.1)
           ∙ back-same codes' codes k (k - w.kept) labels (omega arith) (λ i l. get_or-set_other codes k i (code_of t) 0 (λ q. omega arith))
@@ -184,11 +184,11 @@ module _ (s : Terms) (limit : ℕ) (p₀ : List ℕ) (fit : Fit (length p₀) s.
 
         least' : (b : Bool) → cond b cur' w.least ≡ cut s.graph (cond b labels' on.best)
         least' true = now
-        least' false = on.least-is
+        least' false = on.least_is
 
         upto' : (b : Bool) → cond b (k + 1) w.kept ≤ k + 1
         upto' true = omega arith
-        upto' false = omega (arith, on.kept-upto)
+        upto' false = omega (arith, on.kept_upto)
 
         back' : (b : Bool) → back codes' (k + 1) (k + 1 - cond b (k + 1) w.kept) labels' ≡ cond b labels' on.best
         back' true = back_none codes' (k + 1) (k + 1 - (k + 1)) labels' (omega arith)
@@ -197,7 +197,7 @@ module _ (s : Terms) (limit : ℕ) (p₀ : List ℕ) (fit : Fit (length p₀) s.
         after_is : after s here t ≡ record { labels = labels'; gains = gains'; locks = locks'; made = k + 1; kept = cond lower labels' on.best }
         unfolding after
         after_is =
-            let q : eqb k 0 || ltb (cut s.graph labels') (cut s.graph on.best) ≡ lower = rw (now, on.least-is) in
+            let q : eqb k 0 || ltb (cut s.graph labels') (cut s.graph on.best) ≡ lower = rw (now, on.least_is) in
             ap (λ (x : Bool). record { labels = labels'; gains = gains'; locks = locks'; made = k + 1; kept = cond x labels' on.best }) q
 
         on-swap : On s limit p₀ labels' gains' locks' codes' cur' (counted w cur')
@@ -206,13 +206,13 @@ module _ (s : Terms) (limit : ℕ) (p₀ : List ℕ) (fit : Fit (length p₀) s.
             record {
               upto = omega arith;
               long = length-swapped labels t ∙ on.long;
-              gains-long = length-updated s.graph labels t.one (added s.graph labels gains) ∙ on.long;
-              locks-long = length-set (set locks t.one 1) t.two 1 ∙ length-set locks t.one 1 ∙ on.locks-long;
+              gains_long = length-updated s.graph labels t.one (added s.graph labels gains) ∙ on.long;
+              locks_long = length-set (set locks t.one 1) t.two 1 ∙ length-set locks t.one 1 ∙ on.locks_long;
               within = λ u. omega (arith, updated-within s.graph labels fit-now (swap_bound * k + fresh_bound) (added s.graph labels gains) (added-within s.graph labels fit-now (swap_bound * k) gains on.within) t.one below.0 u);
               cur-is = now;
               best = cond lower labels' on.best;
-              least-is = least' lower;
-              kept-upto = upto' lower;
+              least_is = least' lower;
+              kept_upto = upto' lower;
               coded = coded';
               back_is = back' lower;
               rest =

@@ -12,7 +12,7 @@ use crate::gain;
 const LOWEST: i64 = -0x4000_0000_0000_0000;
 
 // The two vertices of a swap, or the count of vertices twice where there is none.
-#[derive(Drop)]
+#[derive(Clone, Copy)]
 pub struct Pair {
     pub one: usize,
     pub two: usize,

@@ -8,7 +8,7 @@ ghost use Rattle.kernighan_lin_pass.specs.inner.Steps.{Fit, Coded, WalkAsked, Wa
 use crate::{Limits, choose, swap};
 
 // The swaps made, how many of them are kept, and the cut after those.
-#[derive(Drop)]
+#[derive(Clone, Copy)]
 pub struct Walked {
     pub made: usize,
     pub kept: usize,

@@ -1,4 +1,6 @@
 // What every crate shares: numbers widened out of a lent list and narrowed into one, and lent lists cleared. Document 01, "What must change shape": u32 in, wider inside; lent lists.
+#![tactic(auto)]
+
 ghost use Rattle.std.specs.Prelude.{◌≡◌, ◌^◌, ◌≤◌, ◌<◌, pos, length, get_or};
 ghost use Rattle.lists.specs.Fill.{filled};
 

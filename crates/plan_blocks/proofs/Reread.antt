@@ -31,9 +31,9 @@ check-brings : (s must : ℕ) → must < wrap → (s + (must + (wrap - s % wrap)
 check-brings s must l = omega arith
 
 -- a block is laid out where its words say so
-laid_out : (file kind count : ℕ) (w : ℕ → ℕ) → w 0 ≡ opening file kind count → ((j : ℕ) → 2 * count < j → j < 127 → w j ≡ 0) → laid_out file kind count w ≡ true
+laid_out-holds : (file kind count : ℕ) (w : ℕ → ℕ) → w 0 ≡ opening file kind count → ((j : ℕ) → 2 * count < j → j < 127 → w j ≡ 0) → laid_out file kind count w ≡ true
 unfolding laid_out
-laid_out file kind count w e h =
+laid_out-holds file kind count w e h =
     rw (eq-eqb (w 0) (opening file kind count) e)
     (from-every (1 + 2 * count) 127 (λ j. eqb (w j) 0) (λ j l m. eq-eqb (w j) 0 (h j (omega arith) m)))
 
@@ -247,7 +247,7 @@ module _ (p : Plan) (g : Legal p) (file : ℕ) (known : file ≤ 1) where
   laid-is : (b : ℕ) → b < blocks_of p.n p.a → laid_out file (kind_at p.n b) (count_at p.choice p.n p.a b) (in_block (encode file p) b) ≡ true
   unfolding body_word
   laid-is b l =
-      laid_out file (kind_at p.n b) (count_at p.choice p.n p.a b) (in_block (encode file p) b)
+      laid_out-holds file (kind_at p.n b) (count_at p.choice p.n p.a b) (in_block (encode file p) b)
       (body_is b 0 l (omega arith))
       (λ j m k. body_is b j l k ∙ body-rest file p b j m)
 

@@ -8,7 +8,7 @@ use crate::{ceiling, layout, words};
 use imbalance::Ceiling;
 
 // n vertices, a arcs, k parts, the ceiling's choice, its value as a number of 8 bytes, and its number for each part.
-#[derive(Drop)]
+#[derive(Clone, Copy)]
 pub struct Header {
     pub n: usize,
     pub a: usize,

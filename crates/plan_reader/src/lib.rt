@@ -1,4 +1,6 @@
 // The plan file's reader. Document 01, "Plan blocks"; document 02, A2 and A4.
+#![tactic(auto)]
+
 ghost use Rattle.plan_reader.specs.Read.{Read};
 
 use imbalance::Ceiling;
@@ -8,7 +10,7 @@ mod reader; // reader.rt: the numbers that refuse a file, and the records
 
 // What the reader answers: document 01's number, and where that is 0 the header. A value that the ceiling's choice does not use is 0.
 #[repr(C)]
-#[derive(Drop)]
+#[derive(Clone, Copy)]
 pub struct ReadAnswer {
     pub number: u32,
     pub n: u32,

@@ -49,7 +49,7 @@ module _ (p : Plan) where
   module _ (b j : ℕ) (inside : b < blocks_of p.n p.a) (early : j < 127)
       (no-first : (i : ℕ) → i < blocks_of p.n p.a → 128 * b + j ≡ 128 * i → ⊥)
       (no_Header : (r : ℕ) → r < 2 * header_count p.choice → 128 * b + j ≡ 1 + r → ⊥)
-      (no-vertex : (r : ℕ) → r < 2 * p.n → 128 * b + j ≡ record_at 1 r → ⊥)
+      (no_vertex : (r : ℕ) → r < 2 * p.n → 128 * b + j ≡ record_at 1 r → ⊥)
       (no-arc : (r : ℕ) → r < 2 * p.a → 128 * b + j ≡ record_at (1 + blocks_for p.n) r → ⊥) where
     later : 0 < j
     later = go (eqb j 0) refl
@@ -76,7 +76,7 @@ module _ (p : Plan) where
             let d : count_at p.choice p.n p.a b ≡ held_by p.n v.0 = ap (count_at p.choice p.n p.a) v.2 ∙ c in
             let h = held_in p.n v.0 ((j - 1) / 2) (omega arith) in
             let g = v.2 in
-            no-vertex (126 * v.0 + (j - 1)) (omega arith) (omega arith)))
+            no_vertex (126 * v.0 + (j - 1)) (omega arith) (omega arith)))
             (λ v. (let c = arc-block p.choice p.n p.a v.0 in
             let d : count_at p.choice p.n p.a b ≡ held_by p.a v.0 = ap (count_at p.choice p.n p.a) v.2 ∙ c in
             let h = held_in p.a v.0 ((j - 1) / 2) (omega arith) in
@@ -136,9 +136,9 @@ module _ (p : Plan) (s : List ℕ) (places : size_of p.n p.a ≤ length s) where
   joined_is b j l m =
       after_is (record_at (1 + blocks_for p.n)) (arc_word p) labelled (file_word new_kind p) (128 * b + j) (2 * p.a) (arc-word p)
       (λ no-arc. after_is (record_at 1) (vertex_word p) headed (file_word new_kind p) (128 * b + j) (2 * p.n) (vertex-word p)
-      (λ no-vertex. after_is (λ r. 1 + r) (header_word (header_in p)) opened (file_word new_kind p) (128 * b + j) (2 * header_count p.choice) (header-words new_kind p)
+      (λ no_vertex. after_is (λ r. 1 + r) (header_word (header_in p)) opened (file_word new_kind p) (128 * b + j) (2 * header_count p.choice) (header-words new_kind p)
       (λ no_Header. after_is (λ b. 128 * b) (opening_word p.choice p.n p.a) (λ w. 0) (file_word new_kind p) (128 * b + j) (blocks_of p.n p.a) (λ i k. first_word p i)
-      (λ no-first. sym (unused-word p b j l m no-first no_Header no-vertex no-arc)))))
+      (λ no-first. sym (unused-word p b j l m no-first no_Header no_vertex no-arc)))))
 
   -- a block's last word is chosen by the words that stand before it
   check-is : (b : ℕ) → b < blocks_of p.n p.a → file_word new_kind p (128 * b + 127) ≡ check_word (sum_at new_kind b) (in_block unsealed b)

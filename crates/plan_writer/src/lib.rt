@@ -1,4 +1,6 @@
 // The plan file's writer. Document 01, "Plan blocks"; document 02, A2 and A4.
+#![tactic(auto)]
+
 ghost use Rattle.plan_writer.specs.Write.{Written};
 
 use imbalance::Ceiling;
@@ -8,7 +10,7 @@ mod writer; // writer.rt: the numbers that refuse a plan, and the blocks
 
 // What the writer answers: document 01's number, and the length that it wrote, 0 on a refusal.
 #[repr(C)]
-#[derive(Drop)]
+#[derive(Clone, Copy)]
 pub struct WriteAnswer {
     pub number: u32,
     pub length: u64,

@@ -1,4 +1,5 @@
 // The refine program: reads a plan from standard input, refines it, and prints the run or the number that refuses it. Document 01, the end of "The eight-block grid".
+#![tactic(auto)]
 
 // One byte more than the longest input, so that a longer one shows.
 fn room_for_input() -> [u8; refine_text::INPUT_BYTES + 1] {

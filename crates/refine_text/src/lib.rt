@@ -1,4 +1,6 @@
 // All of the refine program but reading and writing: one function from the input's bytes to the output's. Document 01, the end of "The eight-block grid".
+#![tactic(auto)]
+
 mod runs; // runs.rt: a run of FM and a run of arc-swap, as lines
 
 ghost use Rattle.std.specs.Prelude.{◌≡◌, false, ◌+◌, ◌≤◌, length};

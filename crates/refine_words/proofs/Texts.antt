@@ -213,9 +213,9 @@ put_whole xs {word} room p q n =
     put_as (append_assoc word (numbers xs) (newline ∷ [])) (omega arith) (put_then (omega arith) (put_then (omega arith) p q) n)
 
 -- the line of two cuts, as two numbers that are them
-pub cut-is : (a b first last : ℕ) → a ≡ first → b ≡ last → line (ascii "cut") (a ∷ b ∷ []) ≡ cut_line first last
+pub cut_is : (a b first last : ℕ) → a ≡ first → b ≡ last → line (ascii "cut") (a ∷ b ∷ []) ≡ cut_line first last
 unfolding cut_line
-cut-is a b first last e q = rw (e, q)
+cut_is a b first last e q = rw (e, q)
 
 -- the passes, one line more
 pub passes_none : (made rewound : List ℕ) → pass_lines 0 made rewound ≡ []

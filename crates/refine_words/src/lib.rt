@@ -1,4 +1,6 @@
 // Words, numbers and lines put into a lent list of bytes, one after the other. Document 01, the end of "The eight-block grid": what the refine program prints.
+#![tactic(auto)]
+
 pub mod lines; // lines.rt: the lines of a run and of a refusal
 
 ghost use Rattle.std.specs.Prelude.{◌≡◌, [], ◌∷◌, ◌+◌, ◌*◌, ◌≤◌, ◌<◌, length};

@@ -7,6 +7,8 @@
 // CODE 1 is the edge cut and 2 the lambda cut, each with one number EXPECTED; 3 is the loads, with sixteen. 4 is FM, 5 KL and
 // 6 arc-swap: EXPECTED begins with the settings then, as refiners.rt reads them, and ends with the labels left.
 // A line that is not of this form counts as one that differs.
+#![tactic(auto)]
+
 mod answers;
 mod refiners;
 mod tally;
@@ -21,7 +23,7 @@ use text::Place;
 const COMMENT: u32 = 35;
 
 // How a line begins: the algorithm, the vertices and the arcs, and the place past them.
-#[derive(Drop)]
+#[derive(Clone, Copy)]
 struct Head {
     code: usize,
     n: usize,

@@ -5,7 +5,7 @@ use arc_swap::RunRecord;
 use imbalance::{Ceiling, Loads};
 
 // A number of the line that fits 32 bits, and the place past it.
-#[derive(Drop)]
+#[derive(Clone, Copy)]
 struct Word {
     value: u32,
     place: Place,
@@ -29,7 +29,7 @@ fn read_setting(buffer: &mut [u8; text::BUFFER], place: Place) -> Word {
 }
 
 // What is asked of the ceiling: the choice, the whole number, and the imbalance by its bits; and the place past them.
-#[derive(Drop)]
+#[derive(Clone, Copy)]
 struct Asked {
     ceiling: Ceiling,
     place: Place,
@@ -127,7 +127,7 @@ fn expect_rows(
 }
 
 // FM's settings, and the place past them.
-#[derive(Drop)]
+#[derive(Clone, Copy)]
 struct FmAsked {
     settings: fiduccia_mattheyses::Settings,
     place: Place,
@@ -194,7 +194,7 @@ fn fiduccia_mattheyses(
 }
 
 // KL's settings, and the place past them.
-#[derive(Drop)]
+#[derive(Clone, Copy)]
 struct KlAsked {
     settings: kernighan_lin::Settings,
     place: Place,

@@ -26,7 +26,7 @@ const NINE: u32 = 57;
 pub const THE_END: u32 = 256;
 
 // The bytes of the buffer from `at` up to `end` are not read yet; `ok` says whether the line so far is as it should be.
-#[derive(Drop)]
+#[derive(Clone, Copy)]
 pub struct Place {
     pub ok: bool,
     pub at: usize,
@@ -34,21 +34,21 @@ pub struct Place {
 }
 
 // The next byte, still unread, or `THE_END`.
-#[derive(Drop)]
+#[derive(Clone, Copy)]
 pub struct Peek {
     pub byte: u32,
     pub place: Place,
 }
 
 // A number of the line, and the place past it. It is of no use where that place is not ok.
-#[derive(Drop)]
+#[derive(Clone, Copy)]
 pub struct Number {
     pub value: u64,
     pub place: Place,
 }
 
 // A number of the line that counts something, and the place past it.
-#[derive(Drop)]
+#[derive(Clone, Copy)]
 pub struct Count {
     pub value: usize,
     pub place: Place,

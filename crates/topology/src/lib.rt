@@ -1,4 +1,6 @@
 // The graph in rows: coupe's topology/mod.rs. Document 01, "The graph and its numbers".
+#![tactic(auto)]
+
 mod cut; // cut.rt: the edge cut and its stand-alone call
 mod gain; // gain.rt: the gain of a vertex
 mod lambda; // lambda.rt: the lambda cut and its stand-alone call
@@ -14,7 +16,7 @@ pub use rows::starts_ok;
 
 // What the stand-alone cuts answer: document 01's number, and the cut where it is 0.
 #[repr(C)]
-#[derive(Drop)]
+#[derive(Clone, Copy)]
 pub struct CutAnswer {
     pub number: u32,
     pub cut: u64,

@@ -36,7 +36,7 @@ pub record Fixed (s : Terms) (n : ℕ) : Type 0 where
 
 -- every number of the list is below n
 pub data Inside (n : ℕ) : List ℕ → Type 0 where
-  no-vertex : Inside n []
+  no_vertex : Inside n []
   also : {x : ℕ} {xs : List ℕ} → x < n → Inside n xs → Inside n (x ∷ xs)
 
 -- The code is in order: labels below k, `top` places of the stack held, vertices all, the cut and the loads of the labels, the counts in order.

@@ -46,8 +46,8 @@ pub record Tryable (g : Graph) (k : ℕ) (weights ceilings loads p : List ℕ) (
 
 -- What the pushes leave of a stack s₀ of which n places were held: "do not all fit, none is pushed".
 pub record PushDone (new s₀ : List ℕ) (n : ℕ) (s : List ℕ) (fits : Bool) (top : ℕ) : Type 0 where
-  pub fits-is : fits ≡ leb (length new + n) (length s₀)
-  pub stacked-is : stacked s top ≡ cond fits (new ++ stacked s₀ n) (stacked s₀ n)
+  pub fits_is : fits ≡ leb (length new + n) (length s₀)
+  pub stacked_is : stacked s top ≡ cond fits (new ++ stacked s₀ n) (stacked s₀ n)
   pub within : top ≤ length s₀
 
 -- v's neighbours that are pushed once v has moved
@@ -56,14 +56,14 @@ pushed_by g k p v = pushed g k (λ u. true) p v (past g v - first g v)
 
 -- Where the code stands: the cut and the loads of the labels.
 pub record Stood (g : Graph) (weights p : List ℕ) (cut₀ : ℕ) (loads : List ℕ) : Type 0 where
-  pub cut-is : cut₀ ≡ cut g p
+  pub cut_is : cut₀ ≡ cut g p
   pub loaded : loads ≡ table 16 (load weights p)
 
 -- t is another of the k parts, and x the gain of v's move there.
 pub record Aimed (g : Graph) (k : ℕ) (p : List ℕ) (v t x : ℕ) : Type 0 where
   pub target : t < k
   pub apart : part p v ≡ t → ⊥
-  pub gain-is : into g p v t ≡ x + into g p v (part p v)
+  pub gain_is : into g p v t ≡ x + into g p v (part p v)
 
 -- What v's move by its trial asks: all in order, the places held within the stack s₀, and where the trial goes, another part and the gain of that move.
 pub record MoveAsked (g : Graph) (k : ℕ) (weights p s₀ : List ℕ) (c : Standing) (v : ℕ) (tr : Trial) : Type 0 where

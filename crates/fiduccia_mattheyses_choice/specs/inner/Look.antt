@@ -33,7 +33,7 @@ nobody = record { past = 0; gain = lowest; load = far }
 pub record Sighted (gains : List ℤ) (labels weights rooms lifts : List ℕ) : Type 0 where
   pub gained : length gains ≡ length labels
   pub weighed : length weights ≡ length labels
-  pub two-labels : (v : ℕ) → part labels v < 2
+  pub two_labels : (v : ℕ) → part labels v < 2
   pub roomed : length rooms ≡ 2
   pub lifted : length lifts ≡ 2
   pub light : (p : ℕ) → p < 2 → get_or lifts p 0 ≤ most_weight
@@ -70,11 +70,11 @@ module _ (rooms lifts : List ℕ) (gains : List ℤ) (labels weights : List ℕ)
     pub vertex : ℕ
     pub past_is : found ≡ true → held.past ≡ vertex + 1
     pub here : found ≡ true → vertex < length labels
-    pub may-is : found ≡ true → may_of vertex ≡ true
-    pub gain-is : found ≡ true → held.gain ≡ gain_of vertex
+    pub may_is : found ≡ true → may_of vertex ≡ true
+    pub gain_is : found ≡ true → held.gain ≡ gain_of vertex
     pub load_is : found ≡ true → held.load ≡ load_of vertex
-    pub gain-was : found ≡ false → held.gain ≡ start.gain
-    pub load-was : found ≡ false → held.load ≡ start.load
+    pub gain_was : found ≡ false → held.gain ≡ start.gain
+    pub load_was : found ≡ false → held.load ≡ start.load
     pub free : is_free held.gain ≡ true
 
   -- Once the vertices below v have been looked at, none of them goes before what is held, and it goes before each that is lower than it.

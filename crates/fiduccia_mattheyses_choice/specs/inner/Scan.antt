@@ -16,7 +16,7 @@ use Rattle.fiduccia_mattheyses_choice.specs.declared.Pick.TheVariants.{Nobody, V
 pub record Scannable (gains : List ℤ) (labels weights loads : List ℕ) : Type 0 where
   pub gained : length gains ≡ length labels
   pub weighed : length weights ≡ length labels
-  pub two-labels : (v : ℕ) → part labels v < 2
+  pub two_labels : (v : ℕ) → part labels v < 2
   pub sixteen : length loads ≡ 16
   pub light : (t : ℕ) → t < 2 → get_or loads t 0 ≤ most_weight
 

@@ -46,7 +46,7 @@ pub record Moveable (g : Graph) (gains : List ℤ) (labels weights : List ℕ) (
   pub rows : Rows (length labels) g
   pub scanned : Scannable gains labels weights st.loads.at
   pub here : v < length labels
-  pub weight-within : get_or weights v 0 ≤ get_or st.loads.at (part labels v) 0
+  pub weight_within : get_or weights v 0 ≤ get_or st.loads.at (part labels v) 0
   pub small_gains : (x : ℕ) → mag (get_or gains x (pos 0)) ≤ lock_size
   pub small_gain : mag gain ≤ most_gain
   pub small_cut : mag st.cut ≤ most_cut
@@ -68,7 +68,7 @@ pub record Fixed (s : Terms) (n : ℕ) : Type 0 where
   pub light : total s.weights ≤ most_weight
   pub light_arcs : total s.graph.weights ≤ most_weight
   pub capped : length s.ceilings ≡ 16
-  pub all-movable : (v : ℕ) → s.movable v ≡ true
+  pub all_movable : (v : ℕ) → s.movable v ≡ true
 
 -- no vertex stands twice in the list
 abbrev pub Apart : List ℕ → Type 0
@@ -78,15 +78,15 @@ Apart vs = (i j : ℕ) → i < j → j < length vs → get_or vs i 0 ≡ get_or 
 pub record Stands (s : Terms) (n : ℕ) (st : State) (labels : List ℕ) (gains : List ℤ) (c : Standing) : Type 0 where
   pub labelled : labels ≡ st.labels
   pub long : length labels ≡ n
-  pub two-labels : (x : ℕ) → part labels x < 2
+  pub two_labels : (x : ℕ) → part labels x < 2
   pub gained : Gains s labels st.moved gains
   pub loaded : c.loads.at ≡ table 16 (load s.weights labels)
-  pub cut-is : c.cut ≡ pos (cut s.graph labels)
-  pub least-is : c.least ≡ pos st.least
-  pub least-low : st.least ≤ most_cut
-  pub kept-is : c.kept ≡ st.kept
-  pub bad-is : c.bad ≡ st.bad
-  pub bad-within : st.bad ≤ length st.moved
+  pub cut_is : c.cut ≡ pos (cut s.graph labels)
+  pub least_is : c.least ≡ pos st.least
+  pub least_low : st.least ≤ most_cut
+  pub kept_is : c.kept ≡ st.kept
+  pub bad_is : c.bad ≡ st.bad
+  pub bad_within : st.bad ≤ length st.moved
   pub counted : sum n (λ x. weigh (member x st.moved) 1) ≡ length st.moved
   pub apart : Apart st.moved
   pub inside : (i : ℕ) → i < length st.moved → get_or st.moved i 0 < n

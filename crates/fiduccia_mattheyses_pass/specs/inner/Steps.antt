@@ -43,10 +43,10 @@ pub record WalkAsked (s : Terms) (labels : List ℕ) (gains : List ℤ) (moves :
 -- What the walk answers: the code stands at the end e of the defined walk from p, and each move is recorded.
 pub record WalkDone (s : Terms) (p : List ℕ) (moves₀ : List Move) (e : State) (labels : List ℕ) (gains : List ℤ) (moves : List Move) (made : ℕ) (last : Standing) : Type 0 where
   pub stands : Stands s (length p) e labels gains last
-  pub moved-from : e.labels ≡ flips p e.moved
-  pub recorded-are : moves ≡ recorded p e.moved moves₀
-  pub made-is : made ≡ length e.moved
-  pub kept-within : e.kept ≤ length e.moved
+  pub moved_from : e.labels ≡ flips p e.moved
+  pub recorded_are : moves ≡ recorded p e.moved moves₀
+  pub made_is : made ≡ length e.moved
+  pub kept_within : e.kept ≤ length e.moved
 
 -- the labels put back by k records from `from` on: "the rewind walks the records from the kept prefix on"
 unfoldable pub undone : List Move → ℕ → ℕ → List ℕ → List ℕ
@@ -55,12 +55,12 @@ undone moves from (suc k) p = set (undone moves from k p) (get_or moves (from + 
 
 -- What taking a move back asks: a vertex with a weight, in the other part of the two than before the move, and loads of sixteen parts from which the weight can go.
 pub record UndoAsked (weights labels loads : List ℕ) (m : Move) : Type 0 where
-  pub in-labels : m.vertex < length labels
-  pub in-weights : m.vertex < length weights
-  pub two-labels : part labels m.vertex < 2
+  pub in_labels : m.vertex < length labels
+  pub in_weights : m.vertex < length weights
+  pub two_labels : part labels m.vertex < 2
   pub before : m.part ≡ other (part labels m.vertex)
   pub sixteen : length loads ≡ 16
-  pub weight-within : get_or weights m.vertex 0 ≤ get_or loads (part labels m.vertex) 0
+  pub weight_within : get_or weights m.vertex 0 ≤ get_or loads (part labels m.vertex) 0
   pub within : get_or loads m.part 0 ≤ most_weight
 
 -- What it answers: the label before the move, and the loads after the vertex went back to that part.
@@ -74,38 +74,38 @@ pub record RewindAsked (weights labels : List ℕ) (moves : List Move) (loads : 
   pub vs : List ℕ
   pub before : List Move
   pub labelled : labels ≡ flips p vs
-  pub recorded-are : moves ≡ recorded p vs before
+  pub recorded_are : moves ≡ recorded p vs before
   pub places : length vs ≤ length before
-  pub made-is : made ≡ length vs
-  pub kept-within : kept ≤ made
+  pub made_is : made ≡ length vs
+  pub kept_within : kept ≤ made
   pub loaded : loads ≡ table 16 (load weights labels)
   pub weighed : length weights ≡ length p
   pub few : length weights ≤ most_vertices
   pub light : total weights ≤ most_weight
-  pub two-labels : (x : ℕ) → part p x < 2
+  pub two_labels : (x : ℕ) → part p x < 2
   pub apart : Apart vs
   pub inside : (i : ℕ) → i < length vs → get_or vs i 0 < length p
 
 -- What a pass asks: all in order, the cut and the loads of the labels, places for the gains and the records.
 pub record PassAsked (s : Terms) (labels : List ℕ) (gains : List ℤ) (moves : List Move) (loads : List ℕ) (cut₀ : ℕ) : Type 0 where
   pub fixed : Fixed s (length labels)
-  pub two-labels : (x : ℕ) → part labels x < 2
+  pub two_labels : (x : ℕ) → part labels x < 2
   pub gained : length gains ≡ length labels
   pub places : length labels ≤ length moves
   pub loaded : loads ≡ table 16 (load s.weights labels)
-  pub cut-is : cut₀ ≡ cut s.graph labels
+  pub cut_is : cut₀ ≡ cut s.graph labels
 
 -- What a pass answers: the defined pass from p, its cut and its loads; the list of moves is unchanged past n.
 pub record PassDone (s : Terms) (p : List ℕ) (moves₀ : List Move) (labels : List ℕ) (moves : List Move) (r : Passed) : Type 0 where
   pub labelled : labels ≡ (pass s p).labels
-  pub made-is : r.made ≡ (pass s p).made
-  pub kept-within : r.kept ≤ r.made
-  pub rewound-is : r.made - r.kept ≡ (pass s p).rewound
+  pub made_is : r.made ≡ (pass s p).made
+  pub kept_within : r.kept ≤ r.made
+  pub rewound_is : r.made - r.kept ≡ (pass s p).rewound
   pub few : r.made ≤ length p
-  pub least-is : r.cut ≡ (pass s p).least
-  pub cut-is : r.cut ≡ cut s.graph labels
+  pub least_is : r.cut ≡ (pass s p).least
+  pub cut_is : r.cut ≡ cut s.graph labels
   pub loaded : r.loads.at ≡ table 16 (load s.weights labels)
-  pub two-labels : (x : ℕ) → part labels x < 2
+  pub two_labels : (x : ℕ) → part labels x < 2
   pub long : length labels ≡ length p
   pub moves_long : length moves ≡ length moves₀
-  pub moves-past : drop (length p) moves ≡ drop (length p) moves₀
+  pub moves_past : drop (length p) moves ≡ drop (length p) moves₀

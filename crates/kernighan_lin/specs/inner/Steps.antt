@@ -14,29 +14,29 @@ use Rattle.kernighan_lin.specs.declared.Report.{Report}
 -- What the passes ask.
 pub record PassesAsked (g : Graph) (p : List ℕ) (gains : List ℤ) (locks swaps : List ℕ) (passes : ℕ) : Type 0 where
   pub fit : Fit (length p) g
-  pub a-vertex : 0 < length p
-  pub gains-long : length gains ≡ length p
-  pub locks-long : length locks ≡ length p
-  pub swaps-long : length swaps ≡ length p / 2
-  pub few-passes : passes ≤ most_passes
+  pub a_vertex : 0 < length p
+  pub gains_long : length gains ≡ length p
+  pub locks_long : length locks ≡ length p
+  pub swaps_long : length swaps ≡ length p / 2
+  pub few_passes : passes ≤ most_passes
 
 -- What the passes answer, with at most so many swaps and passes, and the labels that they leave.
 pub record PassesDone (s : Terms) (most passes : ℕ) (p : List ℕ) (r : Report) (labels : List ℕ) : Type 0 where
   pub number_is : r.number ≡ 0
   pub end_is : r.end ≡ (run s most passes 0 p).end
-  pub passes-are : r.passes ≡ (run s most passes 0 p).passes
-  pub first-is : r.first ≡ cut s.graph p
-  pub last-is : r.last ≡ cut s.graph (run s most passes 0 p).labels
-  pub labels-are : labels ≡ (run s most passes 0 p).labels
+  pub passes_are : r.passes ≡ (run s most passes 0 p).passes
+  pub first_is : r.first ≡ cut s.graph p
+  pub last_is : r.last ≡ cut s.graph (run s most passes 0 p).labels
+  pub labels_are : labels ≡ (run s most passes 0 p).labels
 
 -- What the run asks: no number that applies. It is not given the vertex weights, which KL does not use.
 pub record Ready (g : Graph) (settings : Settings) (l : Lent) : Type 0 where
   pub fit : Fit (length l.labels) g
-  pub a-vertex : 0 < length l.labels
-  pub few-passes : settings.passes ≤ most_passes
-  pub in-gains : length l.labels ≤ length l.gains
-  pub in-locks : length l.labels ≤ length l.locks
-  pub in-swaps : length l.labels / 2 ≤ length l.swaps
+  pub a_vertex : 0 < length l.labels
+  pub few_passes : settings.passes ≤ most_passes
+  pub in_gains : length l.labels ≤ length l.gains
+  pub in_locks : length l.labels ≤ length l.locks
+  pub in_swaps : length l.labels / 2 ≤ length l.swaps
 
 -- What the run answers and leaves.
 pub record Ran (g : Graph) (settings : Settings) (l : Lent) (r : Report) (k : Lent) : Type 0 where

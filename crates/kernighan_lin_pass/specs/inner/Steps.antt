@@ -60,7 +60,7 @@ terms_by g first bad_limit = record { graph = g; movable = λ v. true; first = f
 -- What choosing the next pair answers, and leaves in the gains where there is one.
 pub record Chose (s : Terms) (p : List ℕ) (before : List ℤ) (locks : List ℕ) (r : Pair) (gains : List ℤ) : Type 0 where
   pub pair_is : r ≡ pair_at (length p) (pair s p before locks)
-  pub gains-are : (t : Swap) → pair s p before locks ≡ some t → gains ≡ updated s.graph p t.one (added s.graph p before)
+  pub gains_are : (t : Swap) → pair s p before locks ≡ some t → gains ≡ updated s.graph p t.one (added s.graph p before)
 
 -- a swap in the lent list is one number: the first vertex times this, and the second, which is below it
 abbrev pub code_base : ℕ
@@ -91,24 +91,24 @@ counted w after =
 -- What the swaps of a pass start from: gains and locks at 0, places for the swaps, and the cut.
 pub record WalkAsked (s : Terms) (p : List ℕ) (gains : List ℤ) (locks : List ℕ) (places limit before : ℕ) : Type 0 where
   pub fit : Fit (length p) s.graph
-  pub gains-are : gains ≡ table (length p) (λ u. pos 0)
-  pub locks-are : locks ≡ table (length p) (λ u. 0)
-  pub places-for : limit ≤ places
+  pub gains_are : gains ≡ table (length p) (λ u. pos 0)
+  pub locks_are : locks ≡ table (length p) (λ u. 0)
+  pub places_for : limit ≤ places
   pub few : limit ≤ most_swaps
-  pub cut-is : before ≡ cut s.graph p
+  pub cut_is : before ≡ cut s.graph p
 
 -- What they leave: undoing the swaps from the last down to those kept gives the labels that the pass leaves.
 pub record WalkDone (s : Terms) (limit : ℕ) (p labels codes : List ℕ) (r : Walked) : Type 0 where
   pub upto : r.made ≤ limit
-  pub kept-upto : r.kept ≤ r.made
+  pub kept_upto : r.kept ≤ r.made
   pub coded : Coded (length p) r.made codes
   pub long : length labels ≡ length p
   pub back_is : back codes r.made (r.made - r.kept) labels ≡ (walk s limit (start s p)).kept
-  pub least-is : r.least ≡ cut s.graph (walk s limit (start s p)).kept
+  pub least_is : r.least ≡ cut s.graph (walk s limit (start s p)).kept
 
 -- What a pass asks of the lists: those lent are as long as is needed.
 pub record LentLong (p : List ℕ) (gains : List ℤ) (locks : List ℕ) (places limit : ℕ) : Type 0 where
-  pub gains-long : length gains ≡ length p
-  pub locks-long : length locks ≡ length p
-  pub places-for : limit ≤ places
+  pub gains_long : length gains ≡ length p
+  pub locks_long : length locks ≡ length p
+  pub places_for : limit ≤ places
   pub few : limit ≤ most_swaps

@@ -1,3 +1,0 @@
--- Made by tools/walkgen.py: do not edit.
-pub mod Kinds
-pub mod Reads

@@ -1,2 +1,0 @@
--- Made by tools/walkgen.py: do not edit.
-pub mod Lts

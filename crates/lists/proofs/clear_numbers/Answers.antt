@@ -1,0 +1,11 @@
+-- `lists::clear_numbers` meets its contract, by what its loop keeps. Assumes nothing.
+use mathlib.Core.Path.{refl}
+use native.Mathlib.Omega.{arith}
+use Rattle.lists.proofs.Fills.{written_none, written-more}
+use Rattle.lists.proofs.clear_numbers.Goals as goal
+
+pub loop-i-init : goal.loop-i-init
+loop-i-init c = (omega arith, written_none (λ i. 0) _)
+
+pub loop-i-preserved : goal.loop-i-preserved
+loop-i-preserved c = (omega arith, written-more (λ i. 0) _ _ _ _ refl c.loop-i.invariant.1)

@@ -1,0 +1,7 @@
+-- `plan_blocks::words::word_at` meets its contract. Assumes nothing.
+use Rattle.plan_blocks.specs.Word.{word}
+use Rattle.plan_blocks.proofs.words.word_at.Goals as goal
+
+pub returns : goal.returns
+unfolding word
+returns c = c.joined.ensures

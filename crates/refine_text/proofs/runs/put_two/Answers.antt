@@ -1,0 +1,8 @@
+-- `refine_text::runs::put_two` meets its contract: the lines of a run of FM. Assumes nothing.
+use Rattle.refine_text.proofs.Shown.{put-two-lines}
+use Rattle.refine_text.proofs.runs.put_two.Goals as goal
+
+pub returns : goal.returns
+returns c =
+    put-two-lines _ _ _ _ _ c.requires.5 c.requires.0 c.requires.1 c.requires.4 c.index-passes.ensures
+    c.put_opening-opened.ensures c.put_pass_lines-listed.ensures c.put_labels.ensures
