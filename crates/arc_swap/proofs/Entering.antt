@@ -1,14 +1,19 @@
 -- The call: what number 0 tells, what the run asks and leaves, and the three ways out. Assumes nothing.
 use mathlib.Core.Path.{◌≡◌, refl, sym, ap, ap₂, ◌∙◌}
 use mathlib.Core.Bool.{true, false, not, cond}
-use mathlib.Core.List.{List, [], ◌∷◌}
+use mathlib.Core.List.{List}
 use Prim.Native.Nat.{ℕ, ◌+◌, ◌≤◌, ◌<◌}
 use native.Mathlib.Omega.{arith}
-use lib.ListN.{length, get_or, set}
+use lib.ListN.{length}
+use lib.Dec.{eqb}
 use borrow.Author.Tests.{eq-eqb, ne_eqb}
 use Rattle.lists.specs.Sum.{total}
 use Rattle.lists.specs.Fill.{filled, table}
 use Rattle.lists.proofs.Fills.{filled-whole}
+use Rattle.lists.specs.End.{end_number}
+use Rattle.lists.specs.declared.refusal.Refusal.{Refusal}
+use Rattle.lists.specs.Refusal.{number_of}
+use Rattle.lists.proofs.Refusals.{not-done}
 use Rattle.lists.proofs.Numbers.{or-else-zero, not-given}
 use Rattle.imbalance.specs.Limit.{label_above, most_weight}
 use Rattle.imbalance.specs.Load.{load, loads_of}
@@ -24,7 +29,6 @@ use Rattle.arc_swap_attempt.specs.declared.Standing.{Standing}
 use Rattle.arc_swap_attempt.proofs.Stacks.{stacked-none}
 use Rattle.arc_swap.specs.declared.RunRecord.{RunRecord}
 use Rattle.arc_swap.specs.declared.Report.{Report}
-use Rattle.arc_swap.specs.declared.Answered.{Answered}
 use Rattle.arc_swap.specs.declared.Begun.{Begun}
 use Rattle.arc_swap.specs.declared.Ended.{Ended}
 use Rattle.arc_swap.specs.Run.{Terms, Run, run}
@@ -35,17 +39,17 @@ use Rattle.arc_swap.proofs.Parts.{parts-named, parts-few}
 use Rattle.arc_swap.proofs.Lights.{cut-light}
 
 -- what number 0 gives to the run; that it is given exactly where every rule is kept is in Refusals.antt
-pub ready : (p : Given) (labels : List ℕ) (r : ℕ) → r ≡ number p labels → r ≡ 0 → Ready p labels
+pub ready : (p : Given) (labels : List ℕ) → number p labels ≡ 0 → Ready p labels
 unfolding number
-ready p labels r e z =
-    let a = or-else-zero (graph_number (length labels) p.weights (graph_of p)) (cond (label_above 15 labels) 6 (cond (unfit_choice p.settings.ceiling) 7 0)) (sym e ∙ z) in
+ready p labels z =
+    let a = or-else-zero (graph_number (length labels) p.weights (graph_of p)) (cond (label_above 15 labels) 6 (cond (unfit_choice p.settings.ceiling) 7 0)) z in
     let six = not-given (label_above 15 labels) 5 (cond (unfit_choice p.settings.ceiling) 7 0) a.1 in
     let seven = not-given (unfit_choice p.settings.ceiling) 6 0 six.1 in
     record { sound = sound (length labels) p.weights (graph_of p) a.0; named = six.0; fit = seven.0 }
 
 -- the terms of a run that begins with b
 abbrev set-by : Given → List ℕ → Begun → Terms
-set-by p stack b = terms_by p.starts p.neighbours p.arcs p.weights b.limits (length stack)
+set-by p stack b = terms_by (graph_of p) p.weights b.limits (length stack)
 
 module _ (p : Given) (labels : List ℕ) (ok : Ready p labels) where
   -- what the ceilings ask
@@ -112,22 +116,22 @@ module _ (p : Given) (labels : List ℕ) (ok : Ready p labels) where
 
 module _ (p : Given) (l : Lent) (b : Begun) (is : Begins p l.labels b) where
   same-terms : set-by p l.stack b ≡ terms_of p l
-  same-terms = ap₂ (λ (x : List ℕ) (y : ℕ). terms_by p.starts p.neighbours p.arcs p.weights (record { ceilings = record { at = x }; parts = y }) (length l.stack)) is.capped is.parts
+  same-terms = ap₂ (λ (x : List ℕ) (y : ℕ). terms_by (graph_of p) p.weights (record { ceilings = record { at = x }; parts = y }) (length l.stack)) is.capped is.parts
 
   -- what the passes leave is what the call leaves
   pub ran :
       (labels' stack' stack'' : List ℕ) (counts' : RunRecord) (r : Ended) → PassesDone (set-by p l.stack b) l.labels labels' stack' counts' r
       → length stack' ≡ length l.stack → stack'' ≡ filled 0 (length stack') stack'
-      → (q : Report) → q ≡ record { number = 0; end = r.end; passes = r.passes; first = b.st.cut; last = r.st.cut; loads = r.st.loads }
+      → (q : Report) → q ≡ record { number = 0; end = end_number r.end; passes = r.passes; first = b.st.cut; last = r.st.cut; loads = r.st.loads }
       → Ran p l q (record { labels = labels'; stack = stack''; run = counts' })
   unfolding report_of left_by
   ran labels' stack' stack'' counts' r d long z q q-is =
       let hs = d.leads.0 in
-      let e : run_of p l ≡ record { end = r.end; passes = r.passes; state = at labels' (stacked stack' r.st.top) counts' hs (not r.st.fits) } =
+      let e : run_of p l ≡ record { end = end_number r.end; passes = r.passes; state = at labels' (stacked stack' r.st.top) counts' hs (not r.st.fits) } =
       ap (λ (s : Terms). run s (cut (graph_of p) l.labels + 1) 0 (begin l.labels)) (sym same-terms) ∙ d.leads.1 in
       let ll : labels' ≡ (run_of p l).state.labels = sym (ap (λ (x : Run). x.state.labels) e) in
       record {
-        answered = q-is ∙ report-by b.st.cut r.st.cut r.end r.passes r.st.loads (ap (λ (x : Standing). x.cut) is.stands) (d.stood.cut_is ∙ ap (cut (graph_of p)) ll) (sym (ap (λ (x : Run). x.end) e)) (sym (ap (λ (x : Run). x.passes) e)) (loads-by r.st.loads labels' ll d.stood.loaded);
+        answered = q-is ∙ report-by b.st.cut r.st.cut (end_number r.end) r.passes r.st.loads (ap (λ (x : Standing). x.cut) is.stands) (d.stood.cut_is ∙ ap (cut (graph_of p)) ll) (sym (ap (λ (x : Run). x.end) e)) (sym (ap (λ (x : Run). x.passes) e)) (loads-by r.st.loads labels' ll d.stood.loaded);
         labels = ll;
         stack = z ∙ filled-whole 0 stack' l.stack long;
         run = sym (ap (λ (x : Run). x.state.counts) e);
@@ -159,30 +163,21 @@ module _ (p : Given) (l : Lent) where
       swapped-by r (record { labels = l.labels; stack = l.stack; run = c }) (e ∙ rw b) (rw b (ap (λ (x : RunRecord). record { labels = l.labels; stack = l.stack; run = x }) n))
 
   module _ (some : length l.labels ≡ 0 → ⊥) where
-    pub at-refusal : (r : Report) (n : ℕ) → n ≡ number p l.labels → (n ≡ 0 → ⊥) → r ≡ refused n → Refined p l r l
+    pub at-refusal : (r : Report) (refusal : Refusal) → number_of refusal ≡ number p l.labels → r ≡ refused (number_of refusal) → Refined p l r l
     unfolding answer left
-    at-refusal r n e ne q =
+    at-refusal r refusal e q =
         let b = ne_eqb (length l.labels) 0 some in
-        let d = ne_eqb (number p l.labels) 0 (λ z. ne (e ∙ z)) in
+        let d : eqb (number p l.labels) 0 ≡ false = rw (← e) (not-done refusal) in
         swapped-by r l (q ∙ rw (b, d, e)) (rw (b, d))
 
-    pub at-run : (r : Report) (k : Lent) (n : ℕ) → n ≡ number p l.labels → n ≡ 0 → Ran p l r k → Refined p l r k
+    pub at-run : (r : Report) (k : Lent) → number p l.labels ≡ 0 → Ran p l r k → Refined p l r k
     unfolding answer left report_of left_by
-    at-run r k n e z h =
+    at-run r k z h =
         let b = ne_eqb (length l.labels) 0 some in
-        let d = eq-eqb (number p l.labels) 0 (sym e ∙ z) in
+        let d = eq-eqb (number p l.labels) 0 z in
         record {
           answered = h.answered ∙ rw (b, d);
           labels = h.labels ∙ rw (b, d);
           stack = h.stack ∙ rw (b, d);
           run = h.run ∙ rw (b, d);
         }
-
--- ---- the record at zero that a caller who takes the counts by value lends
-pub counted :
-    (p : Given) (labels stack labels' stack' : List ℕ) (runs : List RunRecord) (past x : RunRecord) (q : Report) (r : Answered)
-    → runs ≡ no_counts ∷ []
-    → Refined p (record { labels = labels; stack = stack; run = get_or runs 0 past }) q (record { labels = labels'; stack = stack'; run = x })
-    → r ≡ record { report = q; run = get_or (set runs 0 x) 0 no_counts }
-    → Refined p (record { labels = labels; stack = stack; run = no_counts }) r.report (record { labels = labels'; stack = stack'; run = r.run })
-counted p labels stack labels' stack' runs past x q r e h f = rw (f, e) (rw e at h)

@@ -2,11 +2,11 @@
 use mathlib.Core.Path.{◌≡◌, refl}
 use mathlib.Core.Bool.{Bool, true, false, cond}
 use mathlib.Core.List.{List}
-use Prim.Native.Nat.{ℕ, zero, suc, ◌+◌, ◌≤◌, ◌<◌}
+use Prim.Native.Nat.{ℕ, zero, suc, max, ◌+◌, ◌≤◌, ◌<◌}
 use native.Mathlib.Omega.{arith}
 use lib.ListN.{length}
 use lib.Dec.{ltb, eqb}
-use borrow.Author.Tests.{le-ltb, ltb-true, ltb-false, eqb-true, eqb-false}
+use borrow.Author.Tests.{ltb-true, ltb-false, eqb-true, eqb-false}
 use Rattle.imbalance.specs.Limit.{label_above}
 use Rattle.imbalance.specs.Load.{part}
 use Rattle.imbalance.specs.Ceiling.{largest}
@@ -39,13 +39,13 @@ module _ (labels : List ℕ) where
   abbrev most : ℕ
   most = largest (length labels) (λ v. part labels v)
 
-  pub parts_none : most ≡ 0 → 2 ≡ parts_of labels
+  pub parts_are : (m : ℕ) → m ≡ most → max (m + 1) 2 ≡ parts_of labels
   unfolding parts_of
-  parts_none e = rw e refl
-
-  pub parts_more : (m : ℕ) → m ≡ most → (m ≡ 0 → ⊥) → m + 1 ≡ parts_of labels
-  unfolding parts_of
-  parts_more m e ne = rw (← e, le-ltb (m + 1) 2 (omega (arith, ne)))
+  parts_are m e = rw (← e) (go (ltb (m + 1) 2) refl)
+    where
+      go : (b : Bool) → ltb (m + 1) 2 ≡ b → max (m + 1) 2 ≡ cond b 2 (m + 1)
+      go true t = let l = ltb-true (m + 1) 2 t in omega arith
+      go false t = let l = ltb-false (m + 1) 2 t in omega arith
 
   parts-by : (b : Bool) → ltb (most + 1) 2 ≡ b → (most < cond b 2 (most + 1)) × (0 < cond b 2 (most + 1)) × (most ≤ 15 → cond b 2 (most + 1) ≤ 16)
   parts-by true e = let l = ltb-true (most + 1) 2 e in (omega arith, omega arith, λ h. omega arith)

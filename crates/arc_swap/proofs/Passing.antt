@@ -54,9 +54,9 @@ module _ (s : Terms) (p₀ stack₀ : List ℕ) (c₀ : Standing) (counts₀ : R
 
   module _ (v : ℕ) (p stack : List ℕ) (c : Standing) (counts : RunRecord) (inv : Sweeping s p₀ stack₀ c₀.cut counts₀ v p stack c counts) where
     -- v's turn
-    module _ (l : v < length p) where
-      inside : v < length p₀
-      inside = let a = inv.ordered.long in omega arith
+    module _ (inside : v < length p₀) where
+      here : v < length p
+      here = let a = inv.ordered.long in omega arith
 
       pub turn-asked : TurnAsked s p stack c counts 1 × (v < length p)
       turn-asked = (
@@ -69,7 +69,7 @@ module _ (s : Terms) (p₀ stack₀ : List ℕ) (c₀ : Standing) (counts₀ : R
           empty = inv.empty;
           fit = inv.fit;
         },
-        l,
+        here,
       )
 
       module _ (p' stack' : List ℕ) (counts' : RunRecord) (d : Standing) (done : Done (λ x. turn s x v) s p stack 0 c.cut counts 1 p' stack' counts' d) where
@@ -114,10 +114,10 @@ module _ (s : Terms) (p₀ stack₀ : List ℕ) (c₀ : Standing) (counts₀ : R
         }
 
     -- every vertex had its turn
-    pub swept : length p ≤ v → Done (sweep s (length p₀)) s p₀ stack₀ 0 c₀.cut counts₀ (length p₀) p stack counts c
+    pub swept : length p₀ ≤ v → Done (sweep s (length p₀)) s p₀ stack₀ 0 c₀.cut counts₀ (length p₀) p stack counts c
     swept l =
         let a = inv.upto in
-        let q : v ≡ length p₀ = omega (arith, inv.ordered.long) in
+        let q : v ≡ length p₀ = omega arith in
         record {
           leads = λ gs. (let b = inv.so_far gs in (b.0, ap (λ (n : ℕ). sweep s n (at p₀ (stacked stack₀ 0) counts₀ gs false)) (sym q) ∙ ap (λ (k : List ℕ). sweep s v (at p₀ k counts₀ gs false)) (stacked-none stack₀) ∙ b.1 ∙ rw (inv.empty, inv.fit, stacked-none)));
           emptied = λ e. inv.empty;

@@ -21,7 +21,7 @@ use Rattle.arc_swap.proofs.Quiet.{no-single-block}
 
 module _ (p : Given) (l : Lent) (r : Report) (k : Lent) (some : length l.labels ≡ 0 → ⊥) (zero : number p l.labels ≡ 0) (done : Refined p l r k) where
   ok : Ready p l.labels
-  ok = ready p l.labels 0 (sym zero) refl
+  ok = ready p l.labels zero
 
   named : Named (graph_of p) (terms_of p l).parts l.labels
   named = record { rows = ok.sound.rows; few = (parts-few l.labels ok.named).1; named = parts-named l.labels }

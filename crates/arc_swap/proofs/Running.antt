@@ -8,6 +8,9 @@ use lib.ListN.{length}
 use lib.Dec.{ltb}
 use lib.IntN.{ℤ}
 use borrow.Author.Tests.{lt-ltb, le-ltb, ltb-true, ltb-false}
+use Rattle.std.specs.Prelude.{Option, Some, None}
+use Rattle.lists.specs.declared.end.End.{End}
+use Rattle.lists.specs.declared.end.End.TheVariants.{NoGain, StackFull}
 use Rattle.imbalance.specs.Limit.{most_vertices, most_arcs, most_weight}
 use Rattle.topology.specs.Cut.{cut}
 use Rattle.arc_swap_attempt.specs.inner.Steps.{stacked}
@@ -57,21 +60,6 @@ module _ (s : Terms) (p₀ stack₀ : List ℕ) (c₀ : Standing) (counts₀ : R
     few : length p ≤ most_vertices
     few = let a = ask.asked.fixed.rows.few in let b = inv.ordered.long in omega arith
 
-    -- a pass more can be counted
-    pub passes-few : i ≤ most_weight
-    passes-few = let a = inv.falling in omega arith
-
-    pub pass-asked : TurnAsked s p stack c counts (length p)
-    pass-asked = record {
-      asked = record {
-        fixed = rw inv.ordered.long ask.asked.fixed;
-        ordered = rw inv.ordered.long inv.ordered;
-        modest = (let a = inv.bounded in let b = inv.falling in let d = few in let z = inv.empty in omega arith);
-      };
-      empty = inv.empty;
-      fit = inv.fit;
-    }
-
     module _ (p' stack' : List ℕ) (counts' : RunRecord) (d : Standing) (done : Done (sweep s (length p)) s p stack 0 c.cut counts (length p) p' stack' counts' d) where
       -- the definition, after this pass
       passed : (hs : List ℤ) × (f : ℕ) × (run s (cut s.graph p₀ + 1) 0 (at p₀ [] no_counts [] false) ≡ by-pass s f i (at p [] counts inv.rest.0 false) (at p' (stacked stack' d.top) counts' hs (not d.fits))) × (c.cut ≤ f)
@@ -95,7 +83,7 @@ module _ (s : Terms) (p₀ stack₀ : List ℕ) (c₀ : Standing) (counts₀ : R
       cut-after = done.ordered.stood.cut_is
 
       -- the pushes of a move did not fit
-      pub ends-full : d.fits ≡ false → PassesDone s p₀ p' stack' counts' (record { end = 2; passes = i + 1; st = d })
+      pub ends-full : d.fits ≡ false → PassesDone s p₀ p' stack' counts' (record { end = StackFull; passes = i + 1; st = d })
       ends-full e = record {
         leads = (passed.0, passed.2 ∙ go d.fits e);
         stood = done.ordered.stood;
@@ -129,7 +117,7 @@ module _ (s : Terms) (p₀ stack₀ : List ℕ) (c₀ : Standing) (counts₀ : R
                 rw (lt-ltb (cut s.graph p') (cut s.graph p) (omega arith), r)
 
         -- it has none
-        pub ends-gainless : c.cut ≤ d.cut → PassesDone s p₀ p' stack' counts' (record { end = 1; passes = i + 1; st = d })
+        pub ends-gainless : c.cut ≤ d.cut → PassesDone s p₀ p' stack' counts' (record { end = NoGain; passes = i + 1; st = d })
         ends-gainless l = record {
           leads = (passed.0, passed.2 ∙ go d.fits e);
           stood = done.ordered.stood;
@@ -142,27 +130,22 @@ module _ (s : Terms) (p₀ stack₀ : List ℕ) (c₀ : Standing) (counts₀ : R
                 let y = cut-after in
                 rw (le-ltb (cut s.graph p') (cut s.graph p) (omega arith))
 
-      -- the end by number
-      module _ (n : ℕ) (n-is : n ≡ end_by c.cut d.fits d.cut) where
-        pub goes_on : n ≡ 0 → d.cut < c.cut
-        goes_on z = by d.fits (ltb d.cut c.cut) refl (sym n-is ∙ z)
-          where
-            by : (a b : Bool) → ltb d.cut c.cut ≡ b → ◌≡◌ {A = ℕ} (cond a (cond b 0 1) 2) 0 → d.cut < c.cut
-            by true true e q = ltb-true d.cut c.cut e
-            by true false e q = absurd (omega arith)
-            by false b e q = absurd (omega arith)
+      -- how the pass ends the run, as the code answers it
+      pub again : None ≡ end_by c.cut d.fits d.cut → Running s p₀ c₀.cut (i + 1) p' stack' d counts'
+      again = by d.fits refl (ltb d.cut c.cut) refl
+        where
+          by : (a : Bool) → d.fits ≡ a → (b : Bool) → ltb d.cut c.cut ≡ b → ◌≡◌ {A = Option End} None (cond a (cond b None (Some NoGain)) (Some StackFull)) → Running s p₀ c₀.cut (i + 1) p' stack' d counts'
+          by true f true e q = next-pass f (ltb-true d.cut c.cut e)
+          by true f false e q = let o : ◌≡◌ {A = ℕ} 0 1 = cc in absurd (omega arith)
+          by false f b e q = let o : ◌≡◌ {A = ℕ} 0 1 = cc in absurd (omega arith)
 
-        pub again : n ≡ 0 → Running s p₀ c₀.cut (i + 1) p' stack' d counts'
-        again z = next-pass (by d.fits (ltb d.cut c.cut) (sym n-is ∙ z)) (goes_on z)
-          where
-            by : (a b : Bool) → ◌≡◌ {A = ℕ} (cond a (cond b 0 1) 2) 0 → a ≡ true
-            by true b q = refl
-            by false b q = absurd (omega arith)
+      pub ends : (end : End) → Some end ≡ end_by c.cut d.fits d.cut → PassesDone s p₀ p' stack' counts' (record { end = end; passes = i + 1; st = d })
+      ends end = by d.fits refl (ltb d.cut c.cut) refl
+        where
+          same : (x : End) → Some end ≡ Some x → end ≡ x
+          same x q = cc
 
-        pub ends : (n ≡ 0 → ⊥) → PassesDone s p₀ p' stack' counts' (record { end = n; passes = i + 1; st = d })
-        ends z = by d.fits refl (ltb d.cut c.cut) refl n-is
-          where
-            by : (a : Bool) → d.fits ≡ a → (b : Bool) → ltb d.cut c.cut ≡ b → n ≡ cond a (cond b 0 1) 2 → PassesDone s p₀ p' stack' counts' (record { end = n; passes = i + 1; st = d })
-            by true f true e q = absurd (z q)
-            by true f false e q = rw q (ends-gainless f (ltb-false d.cut c.cut e))
-            by false f b e q = rw q (ends-full f)
+          by : (a : Bool) → d.fits ≡ a → (b : Bool) → ltb d.cut c.cut ≡ b → ◌≡◌ {A = Option End} (Some end) (cond a (cond b None (Some NoGain)) (Some StackFull)) → PassesDone s p₀ p' stack' counts' (record { end = end; passes = i + 1; st = d })
+          by true f true e q = let o : ◌≡◌ {A = ℕ} 0 1 = cc in absurd (omega arith)
+          by true f false e q = rw (same NoGain q) (ends-gainless f (ltb-false d.cut c.cut e))
+          by false f b e q = rw (same StackFull q) (ends-full f)

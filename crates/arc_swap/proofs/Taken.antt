@@ -11,7 +11,7 @@ use borrow.Author.Tests.{eq-eqb, ne_eqb, eqb-true, eqb-false}
 use Rattle.lists.specs.All.{any_from}
 use Rattle.lists.proofs.Alls.{any-from-empty, any-from-more, any-from-holds}
 use Rattle.imbalance.specs.Load.{part}
-use Rattle.topology.specs.Graph.{Graph, in_rows, first, past, neighbour}
+use Rattle.topology.specs.Graph.{Graph, first, past, neighbour}
 use Rattle.topology.specs.inner.Row.{RowsAlone}
 use Rattle.topology.specs.Cut.{cut}
 use Rattle.topology.proofs.RowWalks.{Walk, enters, further, at-end}
@@ -54,13 +54,6 @@ module _ (g : Graph) (p : List ℕ) (v : ℕ) where
       pub nowhere : a ≡ first g v → b ≡ past g v → b ≤ e → false ≡ on_cut g p v
       unfolding on_cut
       nowhere q r l = sym (rw (at-end inv.walk l, q, r) at inv.none_yet)
-
--- a first push does not look at the arcs' weights
-pub first-weighed :
-    (starts neighbours weights labels stack : List ℕ) (v : ℕ) (c : Standing) (stack' : List ℕ) (r : Standing)
-    → FirstDone (in_rows starts neighbours []) labels stack v c stack' r → FirstDone (in_rows starts neighbours weights) labels stack v c stack' r
-unfolding on_cut
-first-weighed starts neighbours weights labels stack v c stack' r d = record { off = d.off; full = d.full; alone = d.alone }
 
 -- ---- the turn
 module _ (s : Terms) (all_movable : s.movable ≡ (λ v. true)) where
@@ -172,13 +165,6 @@ module _ (g : Graph) (p stack : List ℕ) (v : ℕ) (c : Standing) (b : Bool) (b
   }
 
   module _ (e : b ≡ true) where
-    pub first-full : length stack ≡ 0 → FirstDone g p stack v c stack (record { fits = false; top = c.top; cut = c.cut; loads = c.loads })
-    first-full z = record {
-      off = λ f. (let q = b-is in let o : ◌≡◌ {A = ℕ} 0 1 = cc in absurd (omega arith));
-      full = λ f y. (refl, refl);
-      alone = λ f y. absurd (y z);
-    }
-
     pub first_alone : (length stack ≡ 0 → ⊥) → FirstDone g p stack v c (set stack 0 v) (record { fits = c.fits; top = 1; cut = c.cut; loads = c.loads })
     first_alone y = record {
       off = λ f. (let q = b-is in let o : ◌≡◌ {A = ℕ} 0 1 = cc in absurd (omega arith));

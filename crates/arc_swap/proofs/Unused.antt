@@ -1,5 +1,5 @@
 -- Arc-swap does not look at what the ceiling's choice does not use, nor at how one number for every part is asked for. Assumes nothing.
-use mathlib.Core.Path.{◌≡◌, refl, ap}
+use mathlib.Core.Path.{◌≡◌, ap}
 use mathlib.Core.Bool.{true, cond}
 use Prim.Native.Nat.{◌+◌}
 use lib.ListN.{length}
@@ -31,7 +31,7 @@ module _ (p : Given) (s : Settings) (l : Lent) where
     -- a call that is done has a fit choice, so that the ceilings are the same
     same-run : number p l.labels ≡ 0 → run_of p l ≡ run_of (with_settings p s) l
     same-run z =
-        let fits = (ready p l.labels _ refl z).fit in
+        let fits = (ready p l.labels z).fit in
         let c = alike.capped fits (table 16 (load p.weights l.labels)) (total p.weights) (parts_of l.labels) in
         let t : terms_of p l ≡ terms_of (with_settings p s) l = λ i. record { graph = graph_of p; weights = p.weights; ceilings = c i; movable = λ v. true; parts = parts_of l.labels; places = length l.stack } in
         ap (λ (x : Terms). run x (cut (graph_of p) l.labels + 1) 0 (begin l.labels)) t

@@ -1,46 +1,46 @@
-// What a call answers: a report of zeros, that of a run, and a report with its counts. Document 01, "Arc-swap" and "Numbers a call gives back".
-ghost use Rattle.std.specs.Prelude.{◌≡◌, get_or};
-ghost use Rattle.imbalance.specs.Number.{no_loads};
-ghost use Rattle.arc_swap.specs.Entry.{no_counts};
+// What a call answers: a refusal, a call without a vertex, and the report of a run. Document 01, "Arc-swap" and "Numbers a call gives back".
+ghost use Rattle.std.specs.Prelude.{◌≡◌};
+ghost use Rattle.lists.specs.End.{end_number};
+ghost use Rattle.arc_swap.specs.Entry.{refused, empty};
 
-use crate::{Answered, Ended, Report, RunRecord};
+use crate::{Ended, Report};
 use imbalance::Loads;
+use lists::End;
 
-// A report of zeros but for the number and the end.
-pub fn bare_report(number: u32, end: u32) -> Report
-    ensures { result ≡ record { number = number; end = end; passes = 0; first = 0; last = 0; loads = no_loads } }
+// A report of zeros but for the number.
+pub fn bare_report(number: u32) -> Report
+    ensures { result ≡ refused number }
 {
-    let loads = Loads { at: [0; 16] };
     Report {
         number,
-        end,
+        end: 0,
         passes: 0,
         first: 0,
         last: 0,
-        loads,
+        loads: Loads { at: [0; 16] },
+    }
+}
+
+// The report of a call without a vertex: zeros but for the end.
+pub fn empty_report() -> Report
+    ensures { result ≡ empty }
+{
+    Report {
+        end: u32::from(End::NoVertex),
+        ..bare_report(0)
     }
 }
 
 // The report of a run from the first cut.
-pub fn run_report(first: u64, e: Ended) -> Report
-    ensures { result ≡ record { number = 0; end = e.end; passes = e.passes; first = first; last = e.st.cut; loads = e.st.loads } }
+pub fn run_report(first: u64, ended: Ended) -> Report
+    ensures { result ≡ record { number = 0; end = end_number ended.end; passes = ended.passes; first = first; last = ended.st.cut; loads = ended.st.loads } }
 {
-    let last = e.st;
-    let loads = last.loads;
     Report {
         number: 0,
-        end: e.end,
-        passes: e.passes,
+        end: u32::from(ended.end),
+        passes: ended.passes,
         first,
-        last: last.cut,
-        loads,
+        last: ended.st.cut,
+        loads: ended.st.loads,
     }
-}
-
-// The report, and the one run record.
-pub fn with_counts(report: Report, runs: [RunRecord; 1]) -> Answered
-    ensures { result ≡ record { report = report; run = get_or runs 0 no_counts } }
-{
-    let run = runs[0];
-    Answered { report, run }
 }

@@ -1,22 +1,24 @@
 // Arc-swap between up to sixteen parts: coupe's algorithms/arc_swap.rs, on one thread. Document 01, "Arc-swap".
 #![tactic(auto)]
 
-ghost use Rattle.std.specs.Prelude.{◌≡◌, false, [], ◌∷◌, ℕ, ◌+◌, ◌*◌, ◌≤◌, length};
+ghost use Rattle.topology.specs.Given.{given};
+ghost use Rattle.std.specs.Prelude.{◌≡◌, false, ℕ, ◌+◌, ◌*◌, ◌≤◌, length};
 ghost use Rattle.imbalance.specs.Limit.{most_weight};
 ghost use Rattle.topology.specs.Cut.{cut};
-ghost use Rattle.topology.specs.Graph.{in_rows};
 ghost use Rattle.arc_swap.specs.Run.{noted, drain, sweep, Summed};
 ghost use Rattle.arc_swap.specs.Entry.{no_counts, Refined};
-ghost use Rattle.arc_swap.specs.inner.Steps.{terms_by, standing, most, Asked, TurnAsked, Done, PassesDone, Ready, Ran};
+ghost use Rattle.arc_swap.specs.inner.Steps.{terms_in, standing, most, Asked, TurnAsked, Done, PassesDone, Ready, Ran};
 
-mod answers;
-mod number;
-mod steps;
-mod turns;
+mod answers; // answers.rt: what a call answers
+mod number; // number.rt: why a call is refused
+mod steps; // steps.rt: where a run begins, and how a pass ends it
+mod turns; // turns.rt: a first push, and an attempt
 
-use arc_swap_attempt::{Limits, Standing, Trial};
+use arc_swap_attempt::{Frame, Limits, Standing, Trial};
 use imbalance::{Ceiling, Loads};
+use lists::End;
 pub use number::parts_of;
+use topology::Graph;
 
 // The counts of a run: attempts, and what came of them.
 #[repr(C)]
@@ -35,7 +37,7 @@ pub struct Settings {
     pub ceiling: Ceiling,
 }
 
-// What a call answers: document 01's number, the run's end, its passes, the first and the last cut, and the loads left.
+// What a call answers: document 01's number, the run's end, its passes, the first and the last cut, and the loads left. C reads it, so that refusal and end are numbers, and has a structure for each refiner.
 #[repr(C)]
 #[derive(Clone, Copy)]
 pub struct Report {
@@ -57,7 +59,7 @@ pub struct Attempted {
 // What the passes leave: the run's end, how many there were, and where it stands.
 #[derive(Clone, Copy)]
 pub struct Ended {
-    pub end: u32,
+    pub end: End,
     pub passes: u32,
     pub st: Standing,
 }
@@ -76,59 +78,48 @@ pub struct Answered {
     pub run: RunRecord,
 }
 
-// One more attempt, in place.
-fn note(run: &mut RunRecord, trial: Trial)
-    requires { Summed run.old × (run.old.attempts ≤ most) }
-    ensures { run.new ≡ noted trial run.old }
-{
-    *run = steps::next_run(*run, trial);
-}
-
 // No counts: what the run record holds at a run's start.
-fn zero_run(run: &mut RunRecord)
-    ensures { run.new ≡ no_counts }
-{
-    *run = RunRecord {
-        attempts: 0,
-        moves: 0,
-        no_gain: 0,
-        bad_balance: 0,
-    };
+const NO_COUNTS: RunRecord = RunRecord {
+    attempts: 0,
+    moves: 0,
+    no_gain: 0,
+    bad_balance: 0,
+};
+
+impl RunRecord {
+    // One more attempt, and what came of it.
+    fn note(&mut self, trial: Trial)
+        requires { Summed self.old × (self.old.attempts ≤ most) }
+        ensures { self.new ≡ noted trial self.old }
+    {
+        self.attempts += 1;
+        match trial {
+            Trial::NoGain => self.no_gain += 1,
+            Trial::BadBalance => self.bad_balance += 1,
+            Trial::Goes(_, _) => self.moves += 1,
+        }
+    }
 }
 
-// The stack is emptied, attempt after attempt, unless the pushes of a move do not fit.
+// The stack is emptied, attempt after attempt, unless the pushes of a move do not fit. Labels, stack and run record, which are lent, stay parameters: a struct of them would ask each function for a clause on every field, that it is still what was lent.
 fn drain_stack(
-    starts: &[u32],
-    neighbours: &[u32],
-    arc_weights: &[u32],
-    weights: &[u32],
+    frame: &Frame,
     labels: &mut [u32],
     stack: &mut [u32],
-    limits: Limits,
     first: Standing,
     run: &mut RunRecord,
 ) -> Standing
-    requires { Asked (terms_by starts.now neighbours.now arc_weights.now weights.now limits (length stack.old)) labels.old stack.old first.top first.cut first.loads.at run.old 0 × (first.fits ≡ false → ◌≡◌ {A = ℕ} first.top 0) }
-    ensures { let s = terms_by starts.now neighbours.now arc_weights.now weights.now limits (length stack.old) in Done
-        (λ x. drain s ((cut (in_rows starts.now neighbours.now arc_weights.now) labels.old + 1) * (length stack.old + 1)) (standing first.fits x)) s
+    requires { Asked (terms_in frame.now (length stack.old)) labels.old stack.old first.top first.cut first.loads.at run.old 0 × (first.fits ≡ false → ◌≡◌ {A = ℕ} first.top 0) }
+    ensures { let s = terms_in frame.now (length stack.old) in Done
+        (λ x. drain s ((cut frame.now.graph.now labels.old + 1) * (length stack.old + 1)) (standing first.fits x)) s
         labels.old stack.old first.top first.cut run.old 0
         labels.new stack.new run.new result }
 {
     let mut st = first;
     while 0 < st.top {
-        let a = turns::attempt(
-            starts,
-            neighbours,
-            arc_weights,
-            weights,
-            labels,
-            stack,
-            limits,
-            st,
-        );
-        let trial = a.trial;
-        note(run, trial);
-        st = a.st;
+        let tried = turns::attempt(frame, labels, stack, st);
+        run.note(tried.trial);
+        st = tried.st;
         if !st.fits {
             return st;
         }
@@ -138,80 +129,50 @@ fn drain_stack(
 
 // A pass: every vertex in order has its turn, unless pushes do not fit. In its turn it is pushed where it has a neighbour in another part, and the stack is emptied.
 fn make_pass(
-    starts: &[u32],
-    neighbours: &[u32],
-    arc_weights: &[u32],
-    weights: &[u32],
+    frame: &Frame,
     labels: &mut [u32],
     stack: &mut [u32],
-    limits: Limits,
     first: Standing,
     run: &mut RunRecord,
 ) -> Standing
-    requires { TurnAsked (terms_by starts.now neighbours.now arc_weights.now weights.now limits (length stack.old)) labels.old stack.old first run.old (length labels.old) }
-    ensures { let s = terms_by starts.now neighbours.now arc_weights.now weights.now limits (length stack.old) in Done
+    requires { TurnAsked (terms_in frame.now (length stack.old)) labels.old stack.old first run.old (length labels.old) }
+    ensures { let s = terms_in frame.now (length stack.old) in Done
         (sweep s (length labels.old)) s
         labels.old stack.old 0 first.cut run.old (length labels.old)
         labels.new stack.new run.new result }
 {
     let mut st = first;
-    let mut v: usize = 0;
-    while v < labels.len() {
-        let pushed = turns::push_first(starts, neighbours, labels, stack, v, st);
-        st = drain_stack(
-            starts,
-            neighbours,
-            arc_weights,
-            weights,
-            labels,
-            stack,
-            limits,
-            pushed,
-            run,
-        );
+    for v in 0..labels.len() {
+        let pushed = turns::push_first(frame.graph, labels, stack, v, st);
+        st = drain_stack(frame, labels, stack, pushed, run);
         if !st.fits {
             return st;
         }
-        v += 1;
     }
     st
 }
 
 // Pass after pass, until one has no gain or pushes do not fit.
 fn make_passes(
-    starts: &[u32],
-    neighbours: &[u32],
-    arc_weights: &[u32],
-    weights: &[u32],
+    frame: &Frame,
     labels: &mut [u32],
     stack: &mut [u32],
-    limits: Limits,
     first: Standing,
     run: &mut RunRecord,
 ) -> Ended
-    requires { TurnAsked (terms_by starts.now neighbours.now arc_weights.now weights.now limits (length stack.old)) labels.old stack.old first run.old 0 × (run.old ≡ no_counts) × (first.cut ≤ most_weight) }
+    requires { TurnAsked (terms_in frame.now (length stack.old)) labels.old stack.old first run.old 0 × (run.old ≡ no_counts) × (first.cut ≤ most_weight) }
     ensures { PassesDone
-        (terms_by starts.now neighbours.now arc_weights.now weights.now limits (length stack.old))
+        (terms_in frame.now (length stack.old))
         labels.old labels.new stack.new run.new result }
 {
     let mut st = first;
-    let mut passes: u32 = 0;
+    let mut passes = 0;
+    // No number bounds the passes: the cut falls with each but the last.
     loop {
         let before = st.cut;
-        st = make_pass(
-            starts,
-            neighbours,
-            arc_weights,
-            weights,
-            labels,
-            stack,
-            limits,
-            st,
-            run,
-        );
+        st = make_pass(frame, labels, stack, st, run);
         passes += 1;
-        let end = steps::end_of(before, st.fits, st.cut);
-        if end != 0 {
+        if let Some(end) = steps::end_of(before, st.fits, st.cut) {
             return Ended { end, passes, st };
         }
     }
@@ -219,45 +180,35 @@ fn make_passes(
 
 // The run of a call to which no number applies: the counts are first zeroed, and afterwards the stack is zeroed whole.
 fn refine(
-    starts: &[u32],
-    neighbours: &[u32],
-    arc_weights: &[u32],
+    graph: &Graph,
     weights: &[u32],
     labels: &mut [u32],
     stack: &mut [u32],
     settings: Settings,
     run: &mut RunRecord,
 ) -> Report
-    requires { Ready (record { starts = starts.now; neighbours = neighbours.now; arcs = arc_weights.now; weights = weights.now; settings = settings }) labels.old }
+    requires { Ready (given graph.now weights.now settings) labels.old }
     ensures { Ran
-        (record { starts = starts.entry.now; neighbours = neighbours.now; arcs = arc_weights.now; weights = weights.now; settings = settings })
-        (record { labels = labels.entry.now; stack = stack.old; run = run.old })
+        (given graph.now weights.now settings)
+        (record { labels = labels.old; stack = stack.old; run = run.old })
         result
-        (record { labels = labels.exit.now; stack = stack.new; run = run.new }) }
+        (record { labels = labels.new; stack = stack.new; run = run.new }) }
 {
-    let begun = steps::begin_run(starts, neighbours, arc_weights, weights, labels, settings);
-    zero_run(run);
-    let st = begun.st;
-    let e = make_passes(
-        starts,
-        neighbours,
-        arc_weights,
+    let begun = steps::begin_run(graph, weights, labels, settings);
+    *run = NO_COUNTS;
+    let frame = Frame {
+        graph,
         weights,
-        labels,
-        stack,
-        begun.limits,
-        st,
-        run,
-    );
-    lists::clear_numbers(stack, stack.len());
-    answers::run_report(st.cut, e)
+        limits: begun.limits,
+    };
+    let ended = make_passes(&frame, labels, stack, begun.st, run);
+    lists::fill(stack, stack.len(), 0);
+    answers::run_report(begun.st.cut, ended)
 }
 
 // Arc-swap, for every input: the checked call.
 pub fn arc_swap(
-    starts: &[u32],
-    neighbours: &[u32],
-    arc_weights: &[u32],
+    graph: &Graph,
     weights: &[u32],
     labels: &mut [u32],
     stack: &mut [u32],
@@ -265,69 +216,36 @@ pub fn arc_swap(
     run: &mut RunRecord,
 ) -> Report
     ensures { Refined
-        (record { starts = starts.entry.now; neighbours = neighbours.now; arcs = arc_weights.now; weights = weights.now; settings = settings })
-        (record { labels = labels.entry.now; stack = stack.old; run = run.old })
+        (given graph.now weights.now settings)
+        (record { labels = labels.old; stack = stack.old; run = run.old })
         result
-        (record { labels = labels.exit.now; stack = stack.new; run = run.new }) }
+        (record { labels = labels.new; stack = stack.new; run = run.new }) }
 {
-    if labels.len() == 0 {
-        zero_run(run);
-        return answers::bare_report(0, 3);
+    if labels.is_empty() {
+        *run = NO_COUNTS;
+        return answers::empty_report();
     }
-    let number = number::number_of(starts, neighbours, arc_weights, weights, labels, settings);
-    if number != 0 {
-        return answers::bare_report(number, 0);
+    if let Err(refusal) = number::check(graph, weights, labels, settings) {
+        return answers::bare_report(u32::from(refusal));
     }
-    refine(
-        starts,
-        neighbours,
-        arc_weights,
-        weights,
-        labels,
-        stack,
-        settings,
-        run,
-    )
-}
-
-// One run record, at zero.
-fn blank_runs() -> [RunRecord; 1]
-    ensures { result ≡ no_counts ∷ [] }
-{
-    [RunRecord {
-        attempts: 0,
-        moves: 0,
-        no_gain: 0,
-        bad_balance: 0,
-    }]
+    refine(graph, weights, labels, stack, settings, run)
 }
 
 // The checked call for callers written in Rattle, which take the counts by value.
 pub fn arc_swap_counted(
-    starts: &[u32],
-    neighbours: &[u32],
-    arc_weights: &[u32],
+    graph: &Graph,
     weights: &[u32],
     labels: &mut [u32],
     stack: &mut [u32],
     settings: Settings,
 ) -> Answered
     ensures { Refined
-        (record { starts = starts.entry.now; neighbours = neighbours.now; arcs = arc_weights.now; weights = weights.now; settings = settings })
-        (record { labels = labels.entry.now; stack = stack.old; run = no_counts })
+        (given graph.now weights.now settings)
+        (record { labels = labels.old; stack = stack.old; run = no_counts })
         result.report
-        (record { labels = labels.exit.now; stack = stack.new; run = result.run }) }
+        (record { labels = labels.new; stack = stack.new; run = result.run }) }
 {
-    let mut runs = blank_runs();
-    let report = arc_swap(
-        starts,
-        neighbours,
-        arc_weights,
-        weights,
-        labels,
-        stack,
-        settings,
-        &mut runs[0],
-    );
-    answers::with_counts(report, runs)
+    let mut run = NO_COUNTS;
+    let report = arc_swap(graph, weights, labels, stack, settings, &mut run);
+    Answered { report, run }
 }

@@ -8,6 +8,7 @@ use lib.ListN.{length, get_or, set, length-set}
 use lib.Seq.{get_or-set_same, get_or-set_other}
 use lib.Dec.{eqb}
 use borrow.Author.Tests.{eqb-true, eqb-false}
+use Rattle.std.specs.Prelude.{Option as Found, Some, None, MatchOption, is_some, unwrap_or}
 use Rattle.lists.proofs.Tables.{length-table, table_at}
 use Rattle.imbalance.specs.Limit.{most_weight}
 use Rattle.imbalance.specs.Load.{part, load}
@@ -38,6 +39,14 @@ pub still :
     (g : Graph) (k : ℕ) (ws p s₀ : List ℕ) (c : Standing) (v : ℕ) (tr : Trial)
     → ((t x : ℕ) → tr ≡ Goes t x → ⊥) → MoveDone g k ws p s₀ c v tr p s₀ c
 still g k ws p s₀ c v tr stays = record { stays = λ h. (refl, refl, refl); goes = λ t x e. absurd (stays t x e) }
+
+-- the pushes as the code answers them: the places held where all fit, and none where one does not
+pub pushed-so :
+    {new s₀ s : List ℕ} {n : ℕ} (o : Found ℕ)
+    → MatchOption o (PushDone new s₀ n s false n) (λ top. PushDone new s₀ n s true top)
+    → PushDone new s₀ n s (is_some o) (unwrap_or o n)
+pushed-so None h = h
+pushed-so (Some top) h = h
 
 -- where it goes to t with the gain x
 module _ (g : Graph) (k : ℕ) (ws p s₀ : List ℕ) (c : Standing) (v : ℕ) (tr : Trial) (ask : MoveAsked g k ws p s₀ c v tr) (t x : ℕ) (goes : tr ≡ Goes t x) where

@@ -16,6 +16,7 @@ use Rattle.imbalance.specs.Limit.{most_weight}
 use Rattle.imbalance.specs.Load.{part, load}
 use Rattle.imbalance.proofs.PartLoads.{load-within}
 use Rattle.topology.specs.Graph.{Graph, into, gain}
+use Rattle.topology.proofs.Moves.{load-holds}
 use Rattle.arc_swap_attempt.specs.Trial.{aim, has_gain, trial}
 use Rattle.arc_swap_attempt.specs.inner.Steps.{picked, best_by, Named, Tryable}
 use Rattle.arc_swap_attempt.specs.declared.Target.{Target}
@@ -133,6 +134,9 @@ module _ (g : Graph) (k : ℕ) (p : List ℕ) (v : ℕ) (ok : Named g k p) (here
 
     pub load-small : get_or at own 0 < c.sum → get_or loads c.part 0 ≤ most_weight
     load-small l = omega (arith, load_is l, load-within ws p ask.weighed c.part, ask.light)
+
+    pub weight-small : get_or ws v 0 ≤ most_weight
+    weight-small = omega (arith, load-holds ws p v here, load-within ws p ask.weighed (part p v), ask.light)
 
     pub no-gain : c.sum ≤ get_or at own 0 → NoGain ≡ trial g k ws ceilings p v
     no-gain l = go (aim g k p v) refl

@@ -2,71 +2,48 @@
 ghost use Rattle.std.specs.Prelude.{◌≡◌, ℕ, ◌<◌, ◌≤◌, length, get_or};
 ghost use Rattle.lists.specs.Fill.{table};
 ghost use Rattle.imbalance.specs.Load.{part};
-ghost use Rattle.topology.specs.Graph.{in_rows, into};
+ghost use Rattle.topology.specs.Graph.{into};
 ghost use Rattle.topology.specs.Rule.{Rows};
 ghost use Rattle.arc_swap_attempt.specs.Trial.{has_gain};
 ghost use Rattle.arc_swap_attempt.specs.inner.Steps.{picked, best_by, Named};
 
-use crate::{Sums, Target};
+use crate::{Frame, Sums, Target};
+use topology::Graph;
 
 // The arc weight of v into each part, in one walk over its row.
-pub fn sums_of(
-    starts: &[u32],
-    neighbours: &[u32],
-    arc_weights: &[u32],
-    labels: &[u32],
-    v: usize,
-) -> Sums
-    requires { Rows (length labels.now) (in_rows starts.now neighbours.now arc_weights.now) × ((u : ℕ) → u < length labels.now → part labels.now u < 16) × (v < length labels.now) }
-    ensures { result.at ≡ table 16 (into (in_rows starts.now neighbours.now arc_weights.now) labels.now v) }
+pub fn sums_of(graph: &Graph, labels: &[u32], v: usize) -> Sums
+    requires { Rows (length labels.now) graph.now × ((u : ℕ) → u < length labels.now → part labels.now u < 16) × (v < length labels.now) }
+    ensures { result.at ≡ table 16 (into graph.now labels.now v) }
 {
-    let end = lists::index_at(starts, v + 1);
-    let mut e = lists::index_at(starts, v);
-    let mut at = [0u64; 16];
-    while e < end {
-        let u = lists::index_at(neighbours, e);
-        let t = lists::index_at(labels, u);
-        at[t] = at[t] + lists::wide(arc_weights[e]);
-        e += 1;
+    let mut at = [0; 16];
+    for e in graph.first(v)..graph.past(v) {
+        let t = labels[graph.neighbour(e)] as usize;
+        at[t] += u64::from(graph.weight(e));
     }
     Sums { at }
 }
 
-// The part of the largest sum among those other than the own: the gains differ from the sums by one and the same number.
+// The part of the largest sum among those other than the own: the gains differ from the sums by one and the same number. The walk begins from the own part with nothing, which is what is answered where there is no other: no gain is positive then, so that no caller asks which it was.
 pub fn best_part(sums: Sums, own: usize, parts: usize) -> Target
     requires { (length sums.at ≡ 16) × (parts ≤ 16) }
     ensures { result ≡ picked own (λ t. get_or sums.at t 0) (best_by (λ t. get_or sums.at t 0) own parts) }
 {
-    let at = sums.at;
-    let mut part = own;
-    let mut sum: u64 = 0;
-    let mut t: usize = 0;
-    while t < parts {
-        if t != own {
-            if sum <= at[t] {
-                part = t;
-                sum = at[t];
-            }
+    let mut best = Target { part: own, sum: 0 };
+    for t in 0..parts {
+        let sum = sums.at[t];
+        if t != own && best.sum <= sum {
+            best = Target { part: t, sum };
         }
-        t += 1;
     }
-    Target { part, sum }
+    best
 }
 
 // Whether u's largest gain is positive.
-pub fn has_gain(
-    starts: &[u32],
-    neighbours: &[u32],
-    arc_weights: &[u32],
-    labels: &[u32],
-    parts: usize,
-    u: usize,
-) -> bool
-    requires { Named (in_rows starts.now neighbours.now arc_weights.now) parts labels.now × (u < length labels.now) }
-    ensures { result ≡ has_gain (in_rows starts.now neighbours.now arc_weights.now) parts labels.now u }
+pub fn has_gain(frame: &Frame, labels: &[u32], u: usize) -> bool
+    requires { Named frame.now.graph.now frame.now.limits.parts labels.now × (u < length labels.now) }
+    ensures { result ≡ has_gain frame.now.graph.now frame.now.limits.parts labels.now u }
 {
-    let own = lists::index_at(labels, u);
-    let sums = sums_of(starts, neighbours, arc_weights, labels, u);
-    let best = best_part(sums, own, parts);
-    sums.at[own] < best.sum
+    let own = labels[u] as usize;
+    let sums = sums_of(frame.graph, labels, u);
+    sums.at[own] < best_part(sums, own, frame.limits.parts).sum
 }

@@ -3,6 +3,7 @@
 
 ghost use Rattle.std.specs.Prelude.{◌≡◌};
 ghost use Rattle.imbalance.specs.Number.{loads_answer};
+ghost use Rattle.topology.specs.Given.{given};
 ghost use Rattle.topology.specs.Graph.{in_rows};
 ghost use Rattle.topology.specs.Number.{edge_cut_answer, lambda_cut_answer};
 ghost use Rattle.fiduccia_mattheyses.specs.Entry as FM;
@@ -18,7 +19,7 @@ use fiduccia_mattheyses_pass::Move;
 use imbalance::{Ceiling, LoadsAnswer};
 use plan_reader::ReadAnswer;
 use plan_writer::WriteAnswer;
-use topology::CutAnswer;
+use topology::{CutAnswer, Graph};
 
 // The load of each part.
 #[unsafe(no_mangle)]
@@ -38,7 +39,12 @@ pub extern "C" fn daunsrevit_edge_cut(
 ) -> CutAnswer
     ensures { result ≡ edge_cut_answer (in_rows starts.now neighbours.now arc_weights.now) labels.now }
 {
-    topology::edge_cut(starts, neighbours, arc_weights, labels)
+    let graph = Graph {
+        starts,
+        neighbours,
+        arc_weights,
+    };
+    graph.edge_cut(labels)
 }
 
 // The lambda cut.
@@ -52,7 +58,12 @@ pub extern "C" fn daunsrevit_lambda_cut(
 ) -> CutAnswer
     ensures { result ≡ lambda_cut_answer (in_rows starts.now neighbours.now arc_weights.now) weights.now labels.now }
 {
-    topology::lambda_cut(starts, neighbours, arc_weights, weights, labels)
+    let graph = Graph {
+        starts,
+        neighbours,
+        arc_weights,
+    };
+    graph.lambda_cut(weights, labels)
 }
 
 // FM: refines the labels of two parts.
@@ -67,25 +78,28 @@ pub extern "C" fn daunsrevit_fiduccia_mattheyses(
     moves: &mut [Move],
     rows_made: &mut [u32],
     rows_rewound: &mut [u32],
-    s: Settings,
+    settings: Settings,
 ) -> Report
     ensures { FM.Refined
-        (record { starts = starts.entry.now; neighbours = neighbours.now; arcs = arc_weights.now; weights = weights.now; settings = s })
-        (record { labels = labels.entry.now; gains = gains.old; moves = moves.old; made = rows_made.old; rewound = rows_rewound.old })
+        (given (in_rows starts.now neighbours.now arc_weights.now) weights.now settings)
+        (record { labels = labels.old; gains = gains.old; moves = moves.old; made = rows_made.old; rewound = rows_rewound.old })
         result
-        (record { labels = labels.exit.now; gains = gains.new; moves = moves.new; made = rows_made.new; rewound = rows_rewound.new }) }
+        (record { labels = labels.new; gains = gains.new; moves = moves.new; made = rows_made.new; rewound = rows_rewound.new }) }
 {
-    fiduccia_mattheyses::fiduccia_mattheyses(
+    let graph = Graph {
         starts,
         neighbours,
         arc_weights,
+    };
+    fiduccia_mattheyses::fiduccia_mattheyses(
+        &graph,
         weights,
         labels,
         gains,
         moves,
         rows_made,
         rows_rewound,
-        s,
+        settings,
     )
 }
 
@@ -103,22 +117,17 @@ pub extern "C" fn daunsrevit_kernighan_lin(
     settings: kernighan_lin::Settings,
 ) -> kernighan_lin::Report
     ensures { KL.Refined
-        (record { starts = starts.entry.now; neighbours = neighbours.now; arcs = arc_weights.now; weights = weights.now; settings = settings })
-        (record { labels = labels.entry.now; gains = gains.old; locks = locks.old; swaps = swaps.old })
+        (given (in_rows starts.now neighbours.now arc_weights.now) weights.now settings)
+        (record { labels = labels.old; gains = gains.old; locks = locks.old; swaps = swaps.old })
         result
-        (record { labels = labels.exit.now; gains = gains.new; locks = locks.new; swaps = swaps.new }) }
+        (record { labels = labels.new; gains = gains.new; locks = locks.new; swaps = swaps.new }) }
 {
-    kernighan_lin::kernighan_lin(
+    let graph = Graph {
         starts,
         neighbours,
         arc_weights,
-        weights,
-        labels,
-        gains,
-        locks,
-        swaps,
-        settings,
-    )
+    };
+    kernighan_lin::kernighan_lin(&graph, weights, labels, gains, locks, swaps, settings)
 }
 
 // Arc-swap: refines the labels of up to sixteen parts.
@@ -134,21 +143,17 @@ pub extern "C" fn daunsrevit_arc_swap(
     run: &mut RunRecord,
 ) -> arc_swap::Report
     ensures { Swap.Refined
-        (record { starts = starts.entry.now; neighbours = neighbours.now; arcs = arc_weights.now; weights = weights.now; settings = settings })
-        (record { labels = labels.entry.now; stack = stack.old; run = run.old })
+        (given (in_rows starts.now neighbours.now arc_weights.now) weights.now settings)
+        (record { labels = labels.old; stack = stack.old; run = run.old })
         result
-        (record { labels = labels.exit.now; stack = stack.new; run = run.new }) }
+        (record { labels = labels.new; stack = stack.new; run = run.new }) }
 {
-    arc_swap::arc_swap(
+    let graph = Graph {
         starts,
         neighbours,
         arc_weights,
-        weights,
-        labels,
-        stack,
-        settings,
-        run,
-    )
+    };
+    arc_swap::arc_swap(&graph, weights, labels, stack, settings, run)
 }
 
 // Reads a plan file.
@@ -163,9 +168,9 @@ pub extern "C" fn daunsrevit_read_plan(
 ) -> ReadAnswer
     ensures { Read
         bytes.now
-        (record { labels = labels.entry.now; weights = weights.old; starts = starts.old; neighbours = neighbours.old; arc_weights = arc_weights.old })
+        (record { labels = labels.old; weights = weights.old; starts = starts.old; neighbours = neighbours.old; arc_weights = arc_weights.old })
         result
-        (record { labels = labels.exit.now; weights = weights.new; starts = starts.new; neighbours = neighbours.new; arc_weights = arc_weights.new }) }
+        (record { labels = labels.new; weights = weights.new; starts = starts.new; neighbours = neighbours.new; arc_weights = arc_weights.new }) }
 {
     plan_reader::read_plan(bytes, labels, weights, starts, neighbours, arc_weights)
 }
@@ -188,16 +193,12 @@ pub extern "C" fn daunsrevit_write_plan(
         result
         target.new }
 {
-    plan_writer::write_plan(
-        labels,
-        weights,
+    let graph = Graph {
         starts,
         neighbours,
         arc_weights,
-        k,
-        ceiling,
-        target,
-    )
+    };
+    plan_writer::write_plan(labels, weights, &graph, k, ceiling, target)
 }
 
 // The self-test: the number of the first row of the eight-block grid that differs, else 0.

@@ -10,13 +10,16 @@ use borrow.Author.Tests.{eqb-true, eqb-false, ne_eqb}
 use Rattle.lists.specs.Sum.{sum, between, total}
 use Rattle.lists.specs.All.{all, all_from, any, any_from}
 use Rattle.lists.specs.Fill.{table}
+use Rattle.lists.specs.declared.refusal.Refusal.{Refusal}
+use Rattle.lists.specs.Refusal.{number_of}
+use Rattle.lists.proofs.Refusals.{not-done}
 use Rattle.imbalance.specs.Limit.{heavy, label_above}
 use Rattle.imbalance.specs.Load.{load}
 use Rattle.imbalance.specs.Number.{loads_number, loads_answer}
 use Rattle.topology.specs.Graph.{arcs, into, gain}
 use Rattle.topology.specs.Rule.{misfit, oversize, starts_ok, arc_ok, rows_ok, has_arc, answered, rows_number, graph_number}
 use Rattle.topology.specs.Cut.{cut, touches, parts_around, lambda}
-use Rattle.topology.specs.Number.{edge_cut_number, edge_cut_answer, lambda_cut_number, lambda_cut_answer}
+use Rattle.topology.specs.Number.{edge_cut_number, edge_cut_answer, lambda_cut_number, lambda_cut_answer, answer_of}
 use Rattle.topology.specs.EightBlockGrid.{grid, ones, A, B}
 use Rattle.eight_block_grid.specs.TenRows.{four_four, gains_in_a, eight_gains}
 
@@ -63,3 +66,10 @@ row_2 = (refl, refl)
 pub row_3 : gains_in_a ≡ eight_gains
 unfolding table gain into arcs between sum
 row_3 = refl
+
+-- what the stand-alone cuts answer: the number of a refusal, or the cut
+pub answer-refused : (refusal : Refusal) (number cut k : ℕ) → k ≡ number_of refusal → number_of refusal ≡ number → record { number = k; cut = 0 } ≡ answer_of number cut
+answer-refused refusal number cut k e f = rw (← f, not-done refusal, e)
+
+pub answer-done : (number cut c : ℕ) → 0 ≡ number → c ≡ cut → record { number = 0; cut = c } ≡ answer_of number cut
+answer-done number cut c e f = rw (← e, f)

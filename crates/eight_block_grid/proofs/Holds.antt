@@ -1,10 +1,13 @@
 -- Nothing differs: each comparison holds, by the ten rows and by working the three ceilings out. Assumes nothing.
-use mathlib.Core.Path.{◌≡◌, refl, sym, ap, ap₂, ◌∙◌}
-use mathlib.Core.Bool.{Bool, true, true≢false, not, ◌&&◌}
+use mathlib.Core.Path.{◌≡◌, refl, ap, ap₂, ◌∙◌}
+use mathlib.Core.Bool.{Bool, true, not, cond, ◌&&◌}
 use mathlib.Core.List.{List}
 use Prim.Native.Nat.{ℕ}
 use lib.IntN.{ℤ}
-use borrow.Author.Tests.{not-true}
+use lib.Dec.{ltb}
+use lib.ListN.{length, replicate}
+use Rattle.std.specs.Prelude.{Option, Some, None}
+use Rattle.std.specs.List.{position_or_len}
 use lib.Ieee.{add, div, of_int, mul, of_bits}
 use Rattle.lists.specs.All.{all}
 use Rattle.imbalance.specs.Ceiling.{ceiling_of, limit_of}
@@ -95,6 +98,6 @@ module _ (t : TenRows) where
   unfolding first_differing
   none_differs = rw (holds-1, holds-2, holds-3, holds-4, holds-5, holds-6, holds-7, holds-8, holds-9, holds-10, rounds-hold) refl
 
--- a row that holds was not found to differ
-pub not_so : {P : Type 0} {q row : Bool} → row ≡ true → q ≡ row → not q ≡ true → P
-not_so {P} {q} {row} h e n = absurd (true≢false (sym (e ∙ h) ∙ not-true q n))
+-- where all of them hold, no place of one that does not is found
+pub none-found : (rows : List Bool) (r : Option ℕ) → r ≡ cond (ltb (position_or_len not rows) (length rows)) (Some (position_or_len not rows)) None → rows ≡ replicate 11 true → r ≡ None
+none-found rows r e h = e ∙ (rw h refl)

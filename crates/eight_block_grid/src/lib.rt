@@ -1,16 +1,16 @@
 // The eight-block grid as constant tables, and the self-test over its ten rows and three ceilings. Document 01, "The eight-block grid" and "Ceiling".
 #![tactic(auto)]
 
-mod same; // same.rt: whether labels, numbers and gains are the same
-
 ghost use Rattle.std.specs.Prelude.{◌≡◌};
+ghost use Rattle.lists.specs.Refusal.{number_in};
 ghost use Rattle.topology.specs.EightBlockGrid.{grid, ones};
 ghost use Rattle.topology.specs.Number.{edge_cut_number, lambda_cut_number};
-ghost use Rattle.eight_block_grid.specs.Inputs.{fm_plan};
+ghost use Rattle.eight_block_grid.specs.Inputs.{asked, fm_plan};
 ghost use Rattle.eight_block_grid.specs.SelfTest.{cuts_give, loads_give, fm_gives, kl_gives, swap_gives, row1, row2, row3, row4, row5, row6, row7, row8, row9, row10, rounds, Tested};
 
 use imbalance::Ceiling;
-use same::{both, same_gains, same_labels, same_numbers};
+use lists::Refusal;
+use topology::Graph;
 
 // 0-1-2-3, 4-5-6-7, 0-4, 1-5, 2-6, 3-7, weights 1.
 const STARTS: [u32; 9] = [0, 2, 5, 8, 10, 12, 15, 18, 20];
@@ -62,102 +62,103 @@ const TWO_PARTS: [u32; 8] = [0, 1, 0, 0, 0, 0, 0, 0];
 
 const CEILINGS: [u64; 3] = [4, 122, 5];
 
-// The number that both cuts give to the labels.
-fn cuts_number(labels: &[u32]) -> u32
-    ensures { (result ≡ edge_cut_number grid labels.now) × (result ≡ lambda_cut_number grid ones labels.now) }
+// The grid as a graph.
+fn the_grid() -> Graph<'static>
+    ensures { result ≡ grid }
 {
-    let number = topology::rows_number(&STARTS, &NEIGHBOURS, &ARC_WEIGHTS, labels.len());
-    if number != 0 {
-        return number;
+    Graph {
+        starts: &STARTS,
+        neighbours: &NEIGHBOURS,
+        arc_weights: &ARC_WEIGHTS,
     }
+}
+
+// Why both cuts refuse the labels.
+fn check_cuts(graph: &Graph, labels: &[u32]) -> Result<(), Refusal>
+    requires { graph.now ≡ grid }
+    ensures { (number_in result ≡ edge_cut_number grid labels.now) × (number_in result ≡ lambda_cut_number grid ones labels.now) }
+{
+    graph.check_rows(labels.len())?;
     if imbalance::label_above(labels, 15) {
-        return 6;
+        return Err(Refusal::Labels);
     }
-    0
+    Ok(())
 }
 
 // Whether the cuts of the labels are these. They are worked out from their parts, so that the C entry is the one caller of each cut and the compiler gives its whole call a single frame of stack.
-fn cuts_give(labels: &[u32], numbers: &[u64]) -> bool
+fn cuts_give(labels: &[u32], numbers: &[u64; 4]) -> bool
     ensures { result ≡ cuts_give labels.now numbers.now }
 {
-    let number = cuts_number(labels);
-    if number != 0 {
-        let refused = [number as u64, 0, number as u64, 0];
-        return same_numbers(&refused, numbers);
+    let graph = the_grid();
+    if let Err(refusal) = check_cuts(&graph, labels) {
+        let number = u64::from(u32::from(refusal));
+        return [number, 0, number, 0] == *numbers;
     }
-    let edge = topology::cut_of(&STARTS, &NEIGHBOURS, &ARC_WEIGHTS, labels);
-    let lambda = topology::lambda_of(&STARTS, &NEIGHBOURS, &WEIGHTS, labels);
-    let seen = [0, edge, 0, lambda];
-    same_numbers(&seen, numbers)
+    let edge = graph.cut_of(labels);
+    let lambda = graph.lambda_of(&WEIGHTS, labels);
+    [0, edge, 0, lambda] == *numbers
 }
 
 // Whether the loads of A are these.
-fn loads_give(numbers: &[u64]) -> bool
+fn loads_give(numbers: &[u64; 3]) -> bool
     ensures { result ≡ loads_give numbers.now }
 {
     let r = imbalance::compute_parts_load(&WEIGHTS, &A);
-    let at = r.loads;
-    let seen = [r.number as u64, at.at[0], at.at[1]];
-    same_numbers(&seen, numbers)
+    [u64::from(r.number), r.loads.at[0], r.loads.at[1]] == *numbers
 }
 
-// FM's settings, by the ceiling's choice and the bad limit.
-fn fm_settings(choice: u32, bad: u32) -> fiduccia_mattheyses::Settings
-    ensures { result ≡ (fm_plan choice bad).settings }
+// What is asked of the ceiling by one of the choices that have no number for each part.
+fn asked(choice: u32, imbalance: f64) -> Ceiling
+    ensures { result ≡ asked choice imbalance }
 {
-    let ceiling = Ceiling {
+    Ceiling {
         choice,
         whole: 0,
-        imbalance: 0.25,
+        imbalance,
         each: [0; 16],
-    };
-    fiduccia_mattheyses::Settings {
-        passes: 64,
-        moves: 8,
-        bad,
-        ceiling,
     }
 }
 
 // Whether FM on A, by the ceiling's choice and the bad limit, leaves these labels with these numbers.
-fn fm_gives(choice: u32, bad: u32, labels: &[u32], numbers: &[u64]) -> bool
+fn fm_gives(choice: u32, bad: u32, labels: &[u32; 8], numbers: &[u64; 11]) -> bool
     ensures { result ≡ fm_gives choice bad labels.now numbers.now }
 {
     let mut refined = A;
     let mut gains: [i64; 8] = [0; 8];
     let mut made: [u32; 64] = [0; 64];
     let mut rewound: [u32; 64] = [0; 64];
-    let s = fm_settings(choice, bad);
-    let r = fiduccia_mattheyses_records::with_8_moves(
-        &STARTS,
-        &NEIGHBOURS,
-        &ARC_WEIGHTS,
+    let r = fiduccia_mattheyses_records::with_moves::<8>(
+        &the_grid(),
         &WEIGHTS,
         &mut refined,
         &mut gains,
         &mut made,
         &mut rewound,
-        s,
+        fiduccia_mattheyses::Settings {
+            passes: 64,
+            moves: 8,
+            bad,
+            ceiling: asked(choice, 0.25),
+        },
     );
-    let loads = r.loads;
     let seen = [
-        r.number as u64,
-        r.end as u64,
-        r.passes as u64,
+        u64::from(r.number),
+        u64::from(r.end),
+        u64::from(r.passes),
         r.first,
         r.last,
-        loads.at[0],
-        loads.at[1],
-        lists::wide(made[0]),
-        lists::wide(rewound[0]),
-        lists::wide(made[1]),
-        lists::wide(rewound[1]),
+        r.loads.at[0],
+        r.loads.at[1],
+        u64::from(made[0]),
+        u64::from(rewound[0]),
+        u64::from(made[1]),
+        u64::from(rewound[1]),
     ];
-    both(same_labels(&refined, labels), same_numbers(&seen, numbers))
+    refined == *labels && seen == *numbers
 }
 
 // Whether KL from these labels, by the swap limit and the bad limit, leaves those labels with these numbers.
-fn kl_gives(start: [u32; 8], swaps: u32, bad: u32, labels: &[u32], numbers: &[u64]) -> bool
+fn kl_gives(start: [u32; 8], swaps: u32, bad: u32, labels: &[u32; 8], numbers: &[u64; 5]) -> bool
     ensures { result ≡ kl_gives start swaps bad labels.now numbers.now }
 {
     let mut refined = start;
@@ -165,9 +166,7 @@ fn kl_gives(start: [u32; 8], swaps: u32, bad: u32, labels: &[u32], numbers: &[u6
     let mut locks: [u8; 8] = [0; 8];
     let mut swapped: [u32; 4] = [0; 4];
     let r = kernighan_lin::kernighan_lin(
-        &STARTS,
-        &NEIGHBOURS,
-        &ARC_WEIGHTS,
+        &the_grid(),
         &WEIGHTS,
         &mut refined,
         &mut gains,
@@ -180,61 +179,54 @@ fn kl_gives(start: [u32; 8], swaps: u32, bad: u32, labels: &[u32], numbers: &[u6
         },
     );
     let seen = [
-        r.number as u64,
-        r.end as u64,
-        r.passes as u64,
+        u64::from(r.number),
+        u64::from(r.end),
+        u64::from(r.passes),
         r.first,
         r.last,
     ];
-    both(same_labels(&refined, labels), same_numbers(&seen, numbers))
+    refined == *labels && seen == *numbers
 }
 
-// Whether arc-swap on A leaves these labels with these numbers.
-fn swap_gives(labels: &[u32], numbers: &[u64]) -> bool
+// Whether arc-swap on A leaves these labels with these numbers. Its lists are to stand in a frame of its own, and not in the self-test's, below which every row's call stands.
+#[inline(never)]
+fn swap_gives(labels: &[u32; 8], numbers: &[u64; 11]) -> bool
     ensures { result ≡ swap_gives labels.now numbers.now }
 {
     let mut refined = A;
     let mut stack: [u32; 8] = [0; 8];
-    let ceiling = Ceiling {
-        choice: 2,
-        whole: 0,
-        imbalance: 0.25,
-        each: [0; 16],
-    };
-    let s = arc_swap::Settings { ceiling };
     let answered = arc_swap::arc_swap_counted(
-        &STARTS,
-        &NEIGHBOURS,
-        &ARC_WEIGHTS,
+        &the_grid(),
         &WEIGHTS,
         &mut refined,
         &mut stack,
-        s,
+        arc_swap::Settings {
+            ceiling: asked(2, 0.25),
+        },
     );
     let r = answered.report;
     let run = answered.run;
-    let loads = r.loads;
     let seen = [
-        r.number as u64,
-        r.end as u64,
-        r.passes as u64,
+        u64::from(r.number),
+        u64::from(r.end),
+        u64::from(r.passes),
         r.first,
         r.last,
-        loads.at[0],
-        loads.at[1],
+        r.loads.at[0],
+        r.loads.at[1],
         run.attempts,
         run.moves,
         run.no_gain,
         run.bad_balance,
     ];
-    both(same_labels(&refined, labels), same_numbers(&seen, numbers))
+    refined == *labels && seen == *numbers
 }
 
 // "1. A: cut 6, lambda 6, loads 4 and 4."
 fn row_1() -> bool
     ensures { result ≡ row1 }
 {
-    both(cuts_give(&A, &CUTS_OF_A), loads_give(&LOADS_OF_A))
+    cuts_give(&A, &CUTS_OF_A) && loads_give(&LOADS_OF_A)
 }
 
 // "2. B: cut 2, lambda 4."
@@ -249,8 +241,8 @@ fn row_3() -> bool
     ensures { result ≡ row3 }
 {
     let mut gains: [i64; 8] = [0; 8];
-    fiduccia_mattheyses_pass::fresh_gains(&STARTS, &NEIGHBOURS, &ARC_WEIGHTS, &A, &mut gains);
-    same_gains(&gains, &GAINS)
+    fiduccia_mattheyses_pass::fresh_gains(&the_grid(), &A, &mut gains);
+    gains == GAINS
 }
 
 // "4. FM on A, e = 0.25 (ceiling 5), bad limit 0, P = 64, moves 8: B, rows 2/0 and 0/0, end 1."
@@ -302,7 +294,8 @@ fn row_10() -> bool
     swap_gives(&B, &NUMBERS_10)
 }
 
-// Whether the processor rounds as the ceilings ask. The totals are loads that FM answers without a pass, so that no compiler knows them and the ceilings are worked out when this runs.
+// Whether the processor rounds as the ceilings ask. The totals are loads that FM answers without a pass, so that no compiler knows them and the ceilings are worked out when this runs. Its lists are to stand in a frame of its own, as arc-swap's are. It is no case of `fm_gives`: weights, labels, row lists and settings are all others, and what it looks at are the loads.
+#[inline(never)]
 fn rounds_well() -> bool
     ensures { result ≡ rounds }
 {
@@ -310,74 +303,47 @@ fn rounds_well() -> bool
     let mut gains: [i64; 8] = [0; 8];
     let mut made: [u32; 1] = [0; 1];
     let mut rewound: [u32; 1] = [0; 1];
-    let ceiling = Ceiling {
-        choice: 0,
-        whole: 0,
-        imbalance: 0.0,
-        each: [0; 16],
-    };
-    let s = fiduccia_mattheyses::Settings {
-        passes: 0,
-        moves: 0,
-        bad: 0,
-        ceiling,
-    };
-    let r = fiduccia_mattheyses_records::with_8_moves(
-        &STARTS,
-        &NEIGHBOURS,
-        &ARC_WEIGHTS,
+    let r = fiduccia_mattheyses_records::with_moves::<8>(
+        &the_grid(),
         &TOTALS,
         &mut labels,
         &mut gains,
         &mut made,
         &mut rewound,
-        s,
+        fiduccia_mattheyses::Settings {
+            passes: 0,
+            moves: 0,
+            bad: 0,
+            ceiling: asked(0, 0.0),
+        },
     );
-    let loads = r.loads;
     let seen = [
-        imbalance::ceiling_by(loads.at[0], 2, 0.6),
-        imbalance::ceiling_by(loads.at[1], 2, 2.28),
-        imbalance::ceiling_by(loads.at[0], 3, 2.0),
+        imbalance::ceiling_by(r.loads.at[0], 2, 0.6),
+        imbalance::ceiling_by(r.loads.at[1], 2, 2.28),
+        imbalance::ceiling_by(r.loads.at[0], 3, 2.0),
     ];
-    same_numbers(&seen, &CEILINGS)
+    seen == CEILINGS
 }
 
-// The number of the first row that differs, 11 where the processor rounds otherwise, else 0.
+// The number of the first row that differs, 11 where the processor rounds otherwise, else 0. C reads the number. Each row has a function, as row1 to row10 in specs/SelfTest.antt.
 pub fn self_test() -> u32
     ensures { Tested result }
 {
-    if !row_1() {
-        return 1;
+    let tests = [
+        row_1(),
+        row_2(),
+        row_3(),
+        row_4(),
+        row_5(),
+        row_6(),
+        row_7(),
+        row_8(),
+        row_9(),
+        row_10(),
+        rounds_well(),
+    ];
+    match tests.iter().position(|passed| !*passed) {
+        Some(i) => i as u32 + 1,
+        None => 0,
     }
-    if !row_2() {
-        return 2;
-    }
-    if !row_3() {
-        return 3;
-    }
-    if !row_4() {
-        return 4;
-    }
-    if !row_5() {
-        return 5;
-    }
-    if !row_6() {
-        return 6;
-    }
-    if !row_7() {
-        return 7;
-    }
-    if !row_8() {
-        return 8;
-    }
-    if !row_9() {
-        return 9;
-    }
-    if !row_10() {
-        return 10;
-    }
-    if !rounds_well() {
-        return 11;
-    }
-    0
 }

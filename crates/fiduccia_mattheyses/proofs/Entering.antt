@@ -1,14 +1,14 @@
 -- The call, from what it comes to to its promise: what number 0 tells, where the run begins, what it asks and leaves, and the ways out. Assumes nothing.
-use mathlib.Core.Path.{◌≡◌, refl, sym, ap, ap₂, ◌∙◌}
+use mathlib.Core.Path.{◌≡◌, refl, sym, ap, ◌∙◌}
 use mathlib.Core.Bool.{Bool, true, false, cond, ◌||◌}
 use mathlib.Core.List.{List, [], ◌∷◌, ◌++◌, map}
 use Prim.Native.Nat.{ℕ, zero, suc, ◌+◌, ◌-◌, ◌≤◌, ◌<◌}
 use native.Mathlib.Omega.{arith}
-use lib.Dec.{ltb, eqb}
+use lib.Dec.{ltb}
 use lib.ListN.{length, get_or, take, drop, length-append, length-drop, get_or-eq_default}
 use lib.Seq.{ext_get_or, get_or-drop, drop_at}
 use lib.IntN.{ℤ, pos}
-use borrow.Author.Tests.{eq-eqb, ne_eqb, eqb-true, eqb-false, ltb-true, ltb-false, le-ltb}
+use borrow.Author.Tests.{eq-eqb, ne_eqb, ltb-true, ltb-false, le-ltb}
 use Rattle.lists.specs.Sum.{total}
 use Rattle.lists.specs.Fill.{filled, table, over}
 use Rattle.lists.proofs.Bools.{or-false}
@@ -30,25 +30,14 @@ use Rattle.fiduccia_mattheyses_pass.specs.inner.Standing.{Fixed}
 use Rattle.fiduccia_mattheyses_pass.specs.declared.Move.{Move}
 use Rattle.fiduccia_mattheyses.specs.declared.Report.{Report}
 use Rattle.fiduccia_mattheyses.specs.declared.Begun.{Begun}
-use Rattle.fiduccia_mattheyses.specs.declared.Call.TheVariants.{Answered, Runs}
+use Rattle.lists.specs.End.{end_number}
 use Rattle.fiduccia_mattheyses.specs.declared.Ended.{Ended}
 use Rattle.fiduccia_mattheyses.specs.Run.{Run, run}
 use Rattle.topology.specs.Given.{graph_of}
 use Rattle.fiduccia_mattheyses_pass.specs.Pass.{no_move}
-use Rattle.fiduccia_mattheyses.specs.Entry.{Given, Lent, unfit, short, lengths_of, number_of, number, terms_of, run_of, bare, refused, empty, report_of, left_by, answer, left, Refined}
+use Rattle.fiduccia_mattheyses.specs.Entry.{Given, Lent, unfit, short, lengths_of, number_of, number, terms_of, run_of, refused, empty, report_of, left_by, answer, left, Refined}
 use Rattle.fiduccia_mattheyses_pass.specs.inner.Steps.{terms_by}
-use Rattle.fiduccia_mattheyses.specs.inner.Steps.{call_of, Beginnable, Begins, PassesAsked, PassesDone, Ready, Ran}
-
--- ---- what the call comes to: it runs with a vertex and no number, and else is answered
-module _ (n k : ℕ) where
-  pub runs : call_of n k ≡ Runs → (n ≡ 0 → ⊥) × (k ≡ 0)
-  unfolding call_of
-  runs e = go (eqb n 0) refl (eqb k 0) refl e
-    where
-      go : (s : Bool) → eqb n 0 ≡ s → (t : Bool) → eqb k 0 ≡ t → cond s (Answered 0 3) (cond t Runs (Answered k 0)) ≡ Runs → (n ≡ 0 → ⊥) × (k ≡ 0)
-      go true u t v q = let o : ◌≡◌ {A = ℕ} 0 1 = cc in absurd (omega arith)
-      go false u true v q = (eqb-false n 0 u, eqb-true k 0 v)
-      go false u false v q = let o : ◌≡◌ {A = ℕ} 0 1 = cc in absurd (omega arith)
+use Rattle.fiduccia_mattheyses.specs.inner.Steps.{Beginnable, Begins, PassesAsked, PassesDone, Ready, Ran}
 
 -- ---- what number 0 tells
 pub ready : (p : Given) (l : Lent) (k : ℕ) → (length l.labels ≡ 0 → ⊥) → k ≡ number p l → k ≡ 0 → Ready p l
@@ -74,6 +63,10 @@ ready p l k s e z =
       in_made = ltb-false r.made q s2.0;
       in_rewound = ltb-false r.rewound q s2.1;
     }
+
+-- what the run asks holds of a call that runs: it has a vertex, and no number applies
+pub ready-to-run : (p : Given) (l : Lent) → (length l.labels ≡ 0 → ⊥) → number p l ≡ 0 → Ready p l
+ready-to-run p l some none = ready p l (number p l) some refl none
 
 -- ---- the first places of a list, lent on and joined again with the rest
 pub take_long : {A : Type 0} (n : ℕ) (xs : List A) → n ≤ length xs → length (take n xs) ≡ n
@@ -117,7 +110,7 @@ module _ (p : Given) (l : Lent) (a : Ready p l) where
 
   module _ (b : Begun) (g : Begins p l.labels b) where
     abbrev s : Terms
-    s = terms_by p.starts p.neighbours p.arcs p.weights b.limits
+    s = terms_by (graph_of p) p.weights b.limits
 
     -- the terms that the code works with are the definition's
     same-terms : s ≡ terms_of p l
@@ -182,7 +175,7 @@ module _ (p : Given) (l : Lent) (a : Ready p l) where
         → (moves'' : List Move)
         → moves'' ≡ filled no_move n moves'
         → (q : Report)
-        → q ≡ record { number = 0; end = r.end; passes = r.passes; first = b.cut; last = r.cut; loads = r.loads }
+        → q ≡ record { number = 0; end = end_number r.end; passes = r.passes; first = b.cut; last = r.cut; loads = r.loads }
         → Ran p l q (record { labels = labels'; gains = gains''; moves = moves''; made = made'; rewound = rewound' })
     unfolding left_by report_of
     ran labels' moves' made' rewound' r d gains' gains'' gl gd eg moves'' em' q eq =
@@ -215,36 +208,16 @@ pub at-empty : (p : Given) (l : Lent) (r : Report) → length l.labels ≡ 0 →
 unfolding answer left
 at-empty p l r z e = let t = eq-eqb (length l.labels) 0 z in refined p l r l (rw t e) (rw t refl) (rw t refl) (rw t refl) (rw t refl) (rw t refl)
 
-at-refusal : (p : Given) (l : Lent) (r : Report) → (length l.labels ≡ 0 → ⊥) → (number p l ≡ 0 → ⊥) → r ≡ refused (number p l) → Refined p l r l
+pub at-refusal : (p : Given) (l : Lent) (r : Report) → (length l.labels ≡ 0 → ⊥) → (number p l ≡ 0 → ⊥) → r ≡ refused (number p l) → Refined p l r l
 unfolding answer left
 at-refusal p l r z u e =
     let t = ne_eqb (length l.labels) 0 z in
     let v = ne_eqb (number p l) 0 u in
     refined p l r l (rw (t, v) e) (rw (t, v) refl) (rw (t, v) refl) (rw (t, v) refl) (rw (t, v) refl) (rw (t, v) refl)
 
-pub at-answer : (p : Given) (l : Lent) (r : Report) (k e : ℕ) → call_of (length l.labels) (number p l) ≡ Answered k e → r ≡ bare k e → Refined p l r l
-unfolding call_of
-at-answer p l r k e c q = go (eqb n 0) refl (eqb m 0) refl c
-  where
-    n : ℕ
-    n = length l.labels
-
-    m : ℕ
-    m = number p l
-
-    go : (s : Bool) → eqb n 0 ≡ s → (t : Bool) → eqb m 0 ≡ t → cond s (Answered 0 3) (cond t Runs (Answered m 0)) ≡ Answered k e → Refined p l r l
-    go true u t v d = let a : 0 ≡ k = cc in let b : 3 ≡ e = cc in at-empty p l r (eqb-true n 0 u) (q ∙ ap₂ bare (sym a) (sym b))
-    go false u true v d = let o : ◌≡◌ {A = ℕ} 0 1 = cc in absurd (omega arith)
-    go false u false v d = let a : m ≡ k = cc in let b : 0 ≡ e = cc in at-refusal p l r (eqb-false n 0 u) (eqb-false m 0 v) (q ∙ ap₂ bare (sym a) (sym b))
-
-pub at-run : (p : Given) (l : Lent) (r : Report) (k : Lent) → call_of (length l.labels) (number p l) ≡ Runs → Ran p l r k → Refined p l r k
+pub at-run : (p : Given) (l : Lent) (r : Report) (k : Lent) → (length l.labels ≡ 0 → ⊥) → number p l ≡ 0 → Ran p l r k → Refined p l r k
 unfolding answer left
-at-run p l r k c g =
-    let w = runs (length l.labels) (number p l) c in
-    let t = ne_eqb (length l.labels) 0 w.0 in
-    let v = eq-eqb (number p l) 0 w.1 in
+at-run p l r k u z g =
+    let t = ne_eqb (length l.labels) 0 u in
+    let v = eq-eqb (number p l) 0 z in
     refined p l r k (rw (t, v) g.answered) (rw (t, v) g.labels) (rw (t, v) g.gains) (rw (t, v) g.moves) (rw (t, v) g.made) (rw (t, v) g.rewound)
-
--- what the run asks holds of a call that runs
-pub ready-to-run : (p : Given) (l : Lent) → call_of (length l.labels) (number p l) ≡ Runs → Ready p l
-ready-to-run p l c = let w = runs (length l.labels) (number p l) c in ready p l (number p l) w.0 refl w.1

@@ -13,7 +13,7 @@ use Rattle.fiduccia_mattheyses.specs.declared.Report.{Report}
 use Rattle.fiduccia_mattheyses.specs.Entry.{Given, Lent, number, run_of, refused, empty, report_of, left_by, answer, left, Refined}
 use Rattle.fiduccia_mattheyses.specs.inner.Steps.{Ready, Ran}
 use Rattle.fiduccia_mattheyses.proofs.Running.{mades, rewounds}
-use Rattle.fiduccia_mattheyses.proofs.Entering.{ready}
+use Rattle.fiduccia_mattheyses.proofs.Entering.{ready-to-run}
 use Rattle.fiduccia_mattheyses.proofs.Unique.{same-lent}
 
 pub data Done (p : Given) (l : Lent) (r : Report) (k : Lent) : Type 0 where
@@ -29,7 +29,7 @@ two_ways p l r k f z = go (eqb (length l.labels) 0) refl (eqb (number p l) 0) re
         no-vertices (eqb-true (length l.labels) 0 e) (f.answered ∙ rw e refl)
         (same-lent {k = k} {k' = l} (f.labels ∙ rw e refl) (f.gains ∙ rw e refl) (f.moves ∙ rw e refl) (f.made ∙ rw e refl) (f.rewound ∙ rw e refl))
     go false e true q =
-        ran (eqb-false (length l.labels) 0 e) (ready p l (number p l) (eqb-false (length l.labels) 0 e) refl (eqb-true (number p l) 0 q))
+        ran (eqb-false (length l.labels) 0 e) (ready-to-run p l (eqb-false (length l.labels) 0 e) (eqb-true (number p l) 0 q))
         (record {
           answered = f.answered ∙ rw (e, q) refl;
           labels = f.labels ∙ rw (e, q) refl;

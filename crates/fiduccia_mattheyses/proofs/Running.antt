@@ -1,14 +1,14 @@
 -- The passes of a run, turn by turn. Assumes nothing.
 use mathlib.Core.Path.{◌≡◌, refl, sym, ap, ◌∙◌}
-use mathlib.Core.Bool.{Bool, true, false, cond}
+use mathlib.Core.Bool.{true, false}
 use mathlib.Core.List.{List, [], ◌∷◌, ◌++◌, map, append_assoc}
 use Prim.Native.Nat.{ℕ, suc, ◌+◌, ◌-◌, ◌≤◌, ◌<◌}
 use native.Mathlib.Omega.{arith}
-use lib.Dec.{leb, ltb}
+use lib.Dec.{ltb}
 use lib.ListN.{length, get_or, set, drop, length-append, length-drop}
 use lib.Seq.{drop-cons, set_at}
 use lib.IntN.{ℤ}
-use borrow.Author.Tests.{lt-ltb, le-ltb, leb-true, leb-false}
+use borrow.Author.Tests.{lt-ltb, le-ltb}
 use Rattle.lists.specs.Fill.{over}
 use Rattle.imbalance.specs.declared.Loads.{Loads}
 use Rattle.topology.specs.Cut.{cut}
@@ -16,10 +16,11 @@ use Rattle.fiduccia_mattheyses_choice.specs.Choice.{Terms}
 use Rattle.fiduccia_mattheyses_pass.specs.Pass.{Pass, pass}
 use Rattle.fiduccia_mattheyses_pass.specs.declared.Move.{Move}
 use Rattle.fiduccia_mattheyses_pass.specs.declared.Passed.{Passed}
+use Rattle.lists.specs.declared.end.End.TheVariants.{PassLimit, NoGain}
 use Rattle.fiduccia_mattheyses.specs.declared.Ended.{Ended}
 use Rattle.fiduccia_mattheyses.specs.Run.{Run, run}
 use Rattle.fiduccia_mattheyses_pass.specs.inner.Steps.{PassAsked, PassDone}
-use Rattle.fiduccia_mattheyses.specs.inner.Steps.{RowAsked, RowDone, end_by, PassesAsked, PassesDone}
+use Rattle.fiduccia_mattheyses.specs.inner.Steps.{RowAsked, RowDone, PassesAsked, PassesDone}
 
 -- the rows so far, before those of the rest of the run
 abbrev after-rows : List Pass → Run → Run
@@ -83,20 +84,6 @@ pub record Running (s : Terms) (limit : ℕ) (p : List ℕ) (moves₀ : List Mov
   pub rest : run s limit p ≡ after-rows rows (run s (limit - passes) labels)
 
 module _ (s : Terms) (limit : ℕ) (p : List ℕ) (gains₀ : List ℤ) (moves₀ : List Move) (made₀ rewound₀ : List ℕ) (first : Loads) (cut₀ : ℕ) (a : PassesAsked s limit p gains₀ moves₀ made₀ rewound₀ first.at cut₀) where
-  pub running-start : Running s limit p moves₀ made₀ rewound₀ p gains₀ moves₀ made₀ rewound₀ first cut₀ 0
-  running-start = record {
-    rows = [];
-    asked = a.begun;
-    long = refl;
-    count = refl;
-    within = omega arith;
-    made_are = refl;
-    rewound_are = refl;
-    moves_long = refl;
-    moves_past = refl;
-    rest = let r : limit - 0 ≡ limit = omega arith in rw r;
-  }
-
   module _ (labels : List ℕ) (gains : List ℤ) (moves : List Move) (made rewound : List ℕ) (loads : Loads) (cut₁ passes : ℕ) (g : Running s limit p moves₀ made₀ rewound₀ labels gains moves made rewound loads cut₁ passes) where
     pub rows_long : (length made ≡ length made₀) × (length rewound ≡ length rewound₀)
     rows_long =
@@ -122,7 +109,7 @@ module _ (s : Terms) (limit : ℕ) (p : List ℕ) (gains₀ : List ℤ) (moves�
         record { in_made = omega arith; in_rewound = omega arith; few_passes = omega arith; few = omega arith; kept_within = d.kept_within }
 
     -- at the pass limit
-    pub running-full : limit ≤ passes → (r : Ended) → r ≡ record { end = 0; passes = passes; cut = cut₁; loads = loads } → PassesDone s limit p moves₀ made₀ rewound₀ labels moves made rewound r
+    pub running-full : limit ≤ passes → (r : Ended) → r ≡ record { end = PassLimit; passes = passes; cut = cut₁; loads = loads } → PassesDone s limit p moves₀ made₀ rewound₀ labels moves made rewound r
     unfolding run
     running-full h r e =
         let z : limit - passes ≡ 0 = omega arith in
@@ -175,8 +162,8 @@ module _ (s : Terms) (limit : ℕ) (p : List ℕ) (gains₀ : List ℤ) (moves�
       unrolled = let z : limit - passes ≡ suc (limit - (passes + 1)) = omega arith in rw z at g.rest
 
       -- a pass that lowered nothing ends the run
-      running-gainless : cut₁ ≤ r.cut → (q : Ended) → q ≡ record { end = 1; passes = passes + 1; cut = r.cut; loads = r.loads } → PassesDone s limit p moves₀ made₀ rewound₀ labels' moves' made' rewound' q
-      running-gainless h q e =
+      pub pass-ends : cut₁ ≤ r.cut → (q : Ended) → q ≡ record { end = NoGain; passes = next; cut = r.cut; loads = r.loads } → PassesDone s limit p moves₀ made₀ rewound₀ labels' moves' made' rewound' q
+      pass-ends h q e =
           let k = g.asked.cut_is in
           let l = d.least_is in
           let b : ltb this.least (cut s.graph labels) ≡ false = le-ltb this.least (cut s.graph labels) (omega arith) in
@@ -186,7 +173,7 @@ module _ (s : Terms) (limit : ℕ) (p : List ℕ) (gains₀ : List ℤ) (moves�
           (record {
             labelled = d.labelled ∙ sym (ap (λ (x : Run). x.labels) t);
             end_is = sym (ap (λ (x : Run). x.end) t);
-            passes_are = sym (ap length rs ∙ length-append g.rows (this ∷ []) ∙ ap (λ (j : ℕ). j + 1) g.count);
+            passes_are = w.passes_are ∙ sym (ap length rs ∙ length-append g.rows (this ∷ []) ∙ ap (λ (j : ℕ). j + 1) g.count);
             cut_is = d.cut_is;
             loaded = d.loaded;
             made_are = made-now ∙ ap (λ (x : List Pass). over (mades x) made₀) (sym rs);
@@ -196,8 +183,8 @@ module _ (s : Terms) (limit : ℕ) (p : List ℕ) (gains₀ : List ℤ) (moves�
           })
 
       -- else it goes on
-      running-on : r.cut < cut₁ → Running s limit p moves₀ made₀ rewound₀ labels' gains' moves' made' rewound' r.loads r.cut (passes + 1)
-      running-on h =
+      pub pass-goes-on : r.cut < cut₁ → Running s limit p moves₀ made₀ rewound₀ labels' gains' moves' made' rewound' r.loads r.cut (passes + 1)
+      pass-goes-on h =
           let k = g.asked.cut_is in
           let l = d.least_is in
           let b : ltb this.least (cut s.graph labels) ≡ true = lt-ltb this.least (cut s.graph labels) (omega arith) in
@@ -225,23 +212,3 @@ module _ (s : Terms) (limit : ℕ) (p : List ℕ) (gains₀ : List ℤ) (moves�
                 ∙ ap (λ (z : List Pass). record { end = (run s (limit - (passes + 1)) this.labels).end; rows = z; labels = (run s (limit - (passes + 1)) this.labels).labels }) (sym (append_assoc g.rows (this ∷ []) (run s (limit - (passes + 1)) this.labels).rows))
                 ∙ ap (λ (z : List ℕ). after-rows rows' (run s (limit - (passes + 1)) z)) (sym d.labelled);
           }
-
-  -- where the run stands after one pass more
-  module _ (labels : List ℕ) (gains : List ℤ) (moves : List Move) (made rewound : List ℕ) (loads : Loads) (cut₁ passes : ℕ) (g : Running s limit p moves₀ made₀ rewound₀ labels gains moves made rewound loads cut₁ passes) (lt : passes < limit) (labels' : List ℕ) (gains' : List ℤ) (moves' : List Move) (r : Passed) (d : PassDone s labels moves labels' moves' r) (gl : length gains' ≡ length gains) (made' rewound' : List ℕ) (next : ℕ) (w : RowDone made rewound passes r.made r.kept made' rewound' next) (q : Ended) (e : q ≡ record { end = end_by cut₁ r.cut; passes = next; cut = r.cut; loads = r.loads }) where
-    -- it ends
-    pub pass-ends : (q.end ≡ 0 → ⊥) → PassesDone s limit p moves₀ made₀ rewound₀ labels' moves' made' rewound' q
-    unfolding end_by
-    pass-ends u = go (leb cut₁ r.cut) refl (rw e at u)
-      where
-        go : (t : Bool) → leb cut₁ r.cut ≡ t → (◌≡◌ {A = ℕ} (cond t 1 0) 0 → ⊥) → PassesDone s limit p moves₀ made₀ rewound₀ labels' moves' made' rewound' q
-        go true v h = running-gainless labels gains moves made rewound loads cut₁ passes g lt labels' gains' moves' r d gl made' rewound' next w (leb-true cut₁ r.cut v) q (e ∙ (λ i. record { end = cond (v i) 1 0; passes = w.passes_are i; cut = r.cut; loads = r.loads }))
-        go false v h = absurd (h refl)
-
-    -- it goes on
-    pub pass-goes-on : q.end ≡ 0 → Running s limit p moves₀ made₀ rewound₀ labels' gains' moves' made' rewound' q.loads q.cut q.passes
-    unfolding end_by
-    pass-goes-on u = rw e (go (leb cut₁ r.cut) refl (rw e at u))
-      where
-        go : (t : Bool) → leb cut₁ r.cut ≡ t → ◌≡◌ {A = ℕ} (cond t 1 0) 0 → Running s limit p moves₀ made₀ rewound₀ labels' gains' moves' made' rewound' r.loads r.cut next
-        go true v h = absurd (omega arith)
-        go false v h = rw w.passes_are (running-on labels gains moves made rewound loads cut₁ passes g lt labels' gains' moves' r d gl made' rewound' next w (leb-false cut₁ r.cut v))

@@ -5,12 +5,15 @@ mod answers;
 mod number;
 mod steps;
 
-ghost use Rattle.fiduccia_mattheyses_pass.specs.inner.Steps.{terms_by};
+ghost use Rattle.topology.specs.Given.{given};
+ghost use Rattle.fiduccia_mattheyses_pass.specs.inner.Steps.{terms_in};
 ghost use Rattle.fiduccia_mattheyses.specs.Entry.{Refined};
 ghost use Rattle.fiduccia_mattheyses.specs.inner.Steps.{PassesAsked, PassesDone, Ready, Ran};
 
-use fiduccia_mattheyses_pass::{Limits, Move};
+use fiduccia_mattheyses_pass::{Frame, Limits, Move, make_pass};
 use imbalance::{Ceiling, Loads};
+use lists::End;
+use topology::Graph;
 
 // The pass, move and bad limits, and what is asked of the ceiling.
 #[repr(C)]
@@ -22,7 +25,7 @@ pub struct Settings {
     pub ceiling: Ceiling,
 }
 
-// What a call answers: document 01's number, the run's end, its passes, the first and the last cut, and the loads left.
+// What a call answers: document 01's number, the run's end, its passes, the first and the last cut, and the loads left. C reads it, so that refusal and end are numbers, and has a structure for each refiner.
 #[repr(C)]
 #[derive(Clone, Copy)]
 pub struct Report {
@@ -34,13 +37,6 @@ pub struct Report {
     pub loads: Loads,
 }
 
-// What a call comes to before a run: it is answered, with a number and an end, or it runs.
-#[derive(Clone, Copy)]
-pub enum Call {
-    Answered(u32, u32),
-    Runs,
-}
-
 // What a run begins with: the limits of its passes, and the loads and the cut of the labels.
 #[derive(Clone, Copy)]
 pub struct Begun {
@@ -49,21 +45,18 @@ pub struct Begun {
     pub cut: u64,
 }
 
-// What the passes leave: the run's end, which is 0 until a pass is gainless, how many there were, the cut and the loads.
+// What the passes leave: the run's end, how many there were, the cut and the loads.
 #[derive(Clone, Copy)]
 pub struct Ended {
-    pub end: u32,
+    pub end: End,
     pub passes: u32,
     pub cut: u64,
     pub loads: Loads,
 }
 
-// The passes of a run, at most as many as the pass limit. Each writes its row.
+// The passes of a run, at most as many as the pass limit. Each writes its row, and a gainless one is the last.
 fn make_passes(
-    starts: &[u32],
-    neighbours: &[u32],
-    arc_weights: &[u32],
-    weights: &[u32],
+    frame: &Frame,
     labels: &mut [u32],
     gains: &mut [i64],
     moves: &mut [Move],
@@ -72,72 +65,72 @@ fn make_passes(
     begun: Begun,
     pass_limit: u32,
 ) -> Ended
-    requires { PassesAsked (terms_by starts.now neighbours.now arc_weights.now weights.now begun.limits) pass_limit labels.old gains.old moves.old rows_made.old rows_rewound.old begun.loads.at begun.cut }
-    ensures { PassesDone (terms_by starts.now neighbours.now arc_weights.now weights.now begun.limits) pass_limit
+    requires { PassesAsked (terms_in frame.now) pass_limit labels.old gains.old moves.old rows_made.old rows_rewound.old begun.loads.at begun.cut }
+    ensures { PassesDone (terms_in frame.now) pass_limit
         labels.old moves.old rows_made.old rows_rewound.old
         labels.new moves.new rows_made.new rows_rewound.new result }
 {
-    let mut run = steps::no_pass(begun);
-    while run.passes < pass_limit {
-        let r = fiduccia_mattheyses_pass::make_pass(
-            starts,
-            neighbours,
-            arc_weights,
-            weights,
-            labels,
-            gains,
-            moves,
-            run.loads,
-            run.cut,
-            begun.limits,
-        );
-        let passes = steps::put_row(rows_made, rows_rewound, run.passes, r.made, r.kept);
-        run = steps::after_pass(run.cut, r, passes);
-        if run.end != 0 {
-            return run;
+    let mut loads = begun.loads;
+    let mut cut = begun.cut;
+    for pass in 0..pass_limit {
+        let before = cut;
+        let passed = make_pass(frame, labels, gains, moves, loads, before);
+        loads = passed.loads;
+        cut = passed.cut;
+        let passes = steps::put_row(rows_made, rows_rewound, pass, passed.made, passed.kept);
+        if before <= cut {
+            return Ended {
+                end: End::NoGain,
+                passes,
+                cut,
+                loads,
+            };
         }
     }
-    run
+    Ended {
+        end: End::PassLimit,
+        passes: pass_limit,
+        cut,
+        loads,
+    }
 }
 
 // The run, where no number applies; afterwards the gains and the moves hold zeros.
 fn refine(
-    starts: &[u32],
-    neighbours: &[u32],
-    arc_weights: &[u32],
+    graph: &Graph,
     weights: &[u32],
     labels: &mut [u32],
     gains: &mut [i64],
     moves: &mut [Move],
     rows_made: &mut [u32],
     rows_rewound: &mut [u32],
-    s: Settings,
+    settings: Settings,
 ) -> Report
-    requires { Ready
-        (record { starts = starts.now; neighbours = neighbours.now; arcs = arc_weights.now; weights = weights.now; settings = s })
-        (record { labels = labels.now; gains = gains.old; moves = moves.old; made = rows_made.old; rewound = rows_rewound.old }) }
-    ensures { Ran
-        (record { starts = starts.entry.now; neighbours = neighbours.now; arcs = arc_weights.now; weights = weights.now; settings = s })
-        (record { labels = labels.entry.now; gains = gains.old; moves = moves.old; made = rows_made.old; rewound = rows_rewound.old })
+    requires { Ready (given graph.now weights.now settings)
+        (record { labels = labels.old; gains = gains.old; moves = moves.old; made = rows_made.old; rewound = rows_rewound.old }) }
+    ensures { Ran (given graph.now weights.now settings)
+        (record { labels = labels.old; gains = gains.old; moves = moves.old; made = rows_made.old; rewound = rows_rewound.old })
         result
-        (record { labels = labels.exit.now; gains = gains.new; moves = moves.new; made = rows_made.new; rewound = rows_rewound.new }) }
+        (record { labels = labels.new; gains = gains.new; moves = moves.new; made = rows_made.new; rewound = rows_rewound.new }) }
 {
     let n = labels.len();
-    let begun = steps::begin_run(starts, neighbours, arc_weights, weights, labels, s);
-    let ended = make_passes(
-        starts,
-        neighbours,
-        arc_weights,
+    let begun = steps::begin_run(graph, weights, labels, settings);
+    let frame = Frame {
+        graph,
         weights,
+        limits: begun.limits,
+    };
+    let ended = make_passes(
+        &frame,
         labels,
         &mut gains[..n],
         moves,
         rows_made,
         rows_rewound,
         begun,
-        s.passes,
+        settings.passes,
     );
-    fiduccia_mattheyses_pass::clear(moves, n);
+    lists::fill(moves, n, Move { vertex: 0, part: 0 });
     answers::finish(gains, n, ended, begun.cut)
 }
 
@@ -150,44 +143,42 @@ pub struct Lengths {
     pub rewound: usize,
 }
 
-// FM on a graph, from the labels given: the call, for every input.
+// FM on a graph, from the labels given: the call, for every input. C lends each list by itself, so they are parameters and not one struct. Without vertices the call is done, whatever else is wrong; else it is refused, or it runs.
 pub fn fiduccia_mattheyses(
-    starts: &[u32],
-    neighbours: &[u32],
-    arc_weights: &[u32],
+    graph: &Graph,
     weights: &[u32],
     labels: &mut [u32],
     gains: &mut [i64],
     moves: &mut [Move],
     rows_made: &mut [u32],
     rows_rewound: &mut [u32],
-    s: Settings,
+    settings: Settings,
 ) -> Report
-    ensures { Refined
-        (record { starts = starts.entry.now; neighbours = neighbours.now; arcs = arc_weights.now; weights = weights.now; settings = s })
-        (record { labels = labels.entry.now; gains = gains.old; moves = moves.old; made = rows_made.old; rewound = rows_rewound.old })
-        result (record { labels = labels.exit.now; gains = gains.new; moves = moves.new; made = rows_made.new; rewound = rows_rewound.new }) }
+    ensures { Refined (given graph.now weights.now settings)
+        (record { labels = labels.old; gains = gains.old; moves = moves.old; made = rows_made.old; rewound = rows_rewound.old })
+        result
+        (record { labels = labels.new; gains = gains.new; moves = moves.new; made = rows_made.new; rewound = rows_rewound.new }) }
 {
+    if labels.len() == 0 {
+        return answers::bare_report(0, u32::from(End::NoVertex));
+    }
     let lengths = Lengths {
         gains: gains.len(),
         moves: moves.len(),
         made: rows_made.len(),
         rewound: rows_rewound.len(),
     };
-    let call = number::call_of(starts, neighbours, arc_weights, weights, labels, lengths, s);
-    let Call::Answered(number, end) = call else {
-        return refine(
-            starts,
-            neighbours,
-            arc_weights,
-            weights,
-            labels,
-            gains,
-            moves,
-            rows_made,
-            rows_rewound,
-            s,
-        );
-    };
-    answers::bare_report(number, end)
+    if let Err(refusal) = number::check(graph, weights, labels, lengths, settings) {
+        return answers::bare_report(u32::from(refusal), 0);
+    }
+    refine(
+        graph,
+        weights,
+        labels,
+        gains,
+        moves,
+        rows_made,
+        rows_rewound,
+        settings,
+    )
 }

@@ -1,90 +1,49 @@
-// The number of a call. Document 01, "Numbers a call gives back".
-ghost use Rattle.std.specs.Prelude.{◌≡◌, length};
-ghost use Rattle.topology.specs.Graph.{in_rows};
+// Why a call is refused. Document 01, "Numbers a call gives back".
+ghost use Rattle.std.specs.Prelude.{◌≡◌};
+ghost use Rattle.lists.specs.Refusal.{number_in};
 ghost use Rattle.fiduccia_mattheyses.specs.Entry.{unfit, short, number_of};
-ghost use Rattle.fiduccia_mattheyses.specs.inner.Steps.{call_of};
 
-use crate::{Call, Lengths, Settings};
+use crate::{Lengths, Settings};
+use lists::Refusal;
+use topology::Graph;
 
 // Number 7's test.
-fn unfit_settings(s: Settings) -> bool
-    ensures { result ≡ unfit s }
+fn unfit_settings(settings: Settings) -> bool
+    ensures { result ≡ unfit settings }
 {
-    let passes = s.passes;
-    if imbalance::MOST_PASSES < passes {
-        return true;
-    }
-    imbalance::unfit_choice(s.ceiling)
+    imbalance::MOST_PASSES < settings.passes || imbalance::unfit_choice(settings.ceiling)
 }
 
 // Number 8's test.
+#[tactic(auto, unfolding(crate::specs::Entry::short))]
 fn too_short(n: usize, passes: u32, lengths: Lengths) -> bool
     ensures { result ≡ short n passes lengths }
 {
-    if lengths.gains < n {
-        return true;
-    }
-    if lengths.moves < n {
-        return true;
-    }
-    let rows = lists::index(passes);
-    if lengths.made < rows {
-        return true;
-    }
-    lengths.rewound < rows
+    let rows = passes as usize;
+    lengths.gains < n || lengths.moves < n || lengths.made < rows || lengths.rewound < rows
 }
 
-// The number of a call.
-fn number_of(
-    starts: &[u32],
-    neighbours: &[u32],
-    arc_weights: &[u32],
+// The first number that applies.
+pub fn check(
+    graph: &Graph,
     weights: &[u32],
     labels: &[u32],
     lengths: Lengths,
-    s: Settings,
-) -> u32
-    ensures { result ≡ number_of (in_rows starts.now neighbours.now arc_weights.now) weights.now labels.now lengths s }
+    settings: Settings,
+) -> Result<(), Refusal>
+    ensures { number_in result ≡ number_of graph.now weights.now labels.now lengths settings }
 {
-    let n = labels.len();
-    let number = topology::graph_number(starts, neighbours, arc_weights, weights, n);
-    if number != 0 {
-        return number;
-    }
+    graph.check(weights, labels.len())?;
     if imbalance::label_above(labels, 1) {
-        return 6;
+        return Err(Refusal::Labels);
     }
-    let unfit = unfit_settings(s);
-    let passes = s.passes;
-    let short = too_short(n, passes, lengths);
+    let unfit = unfit_settings(settings);
+    let short = too_short(labels.len(), settings.passes, lengths);
     if unfit {
-        return 7;
+        return Err(Refusal::Settings);
     }
     if short {
-        return 8;
+        return Err(Refusal::Lent);
     }
-    0
-}
-
-// What a call comes to: without vertices it is done, whatever else is wrong; else it is refused, or it runs.
-pub fn call_of(
-    starts: &[u32],
-    neighbours: &[u32],
-    arc_weights: &[u32],
-    weights: &[u32],
-    labels: &[u32],
-    lengths: Lengths,
-    s: Settings,
-) -> Call
-    ensures { result ≡ call_of (length labels.now) (number_of (in_rows starts.now neighbours.now arc_weights.now) weights.now labels.now lengths s) }
-{
-    let n = labels.len();
-    if n == 0 {
-        return Call::Answered(0, 3);
-    }
-    let number = number_of(starts, neighbours, arc_weights, weights, labels, lengths, s);
-    if number != 0 {
-        return Call::Answered(number, 0);
-    }
-    Call::Runs
+    Ok(())
 }

@@ -1,7 +1,6 @@
 -- The scan, look by look: what is held is a vertex that may move and that none of those so far goes before. Assumes nothing.
 use mathlib.Core.Path.{◌≡◌, refl, sym, ap, ◌∙◌}
 use mathlib.Core.Bool.{Bool, true, false, cond, ◌&&◌}
-use mathlib.Core.List.{List}
 use Prim.Native.Nat.{ℕ, zero, suc, ◌+◌, ◌*◌, ◌≤◌, ◌<◌}
 use native.Mathlib.Omega.{arith}
 use lib.ListN.{length, get_or}
@@ -13,25 +12,25 @@ use Rattle.lists.proofs.Bools.{and-false, and_left, and_right}
 use Rattle.lists.proofs.Orders.{clash, le_not}
 use Rattle.imbalance.specs.Load.{part}
 use Rattle.fiduccia_mattheyses_choice.specs.inner.Scan.{is_free, beats}
-use Rattle.fiduccia_mattheyses_choice.specs.inner.Look.{gain_of, load_of, fits_of, may_of, looked, looks, Holds, Swept}
+use Rattle.fiduccia_mattheyses_choice.specs.inner.Look.{Sight, gain_of, load_of, fits_of, may_of, looked, looks, Holds, Swept}
 use Rattle.fiduccia_mattheyses_choice.specs.declared.Held.{Held}
 use Rattle.fiduccia_mattheyses_choice.proofs.Beats.{free-beats, lower-not, level-not, beats-on, beats-not, beats-self}
 
-module _ (rooms lifts : List ℕ) (gains : List ℤ) (labels weights : List ℕ) where
+module _ (sight : Sight) where
   abbrev G : ℕ → ℤ
-  G = gain_of rooms lifts gains labels weights
+  G = gain_of sight
 
   abbrev L : ℕ → ℕ
-  L = load_of rooms lifts gains labels weights
+  L = load_of sight
 
   abbrev F : ℕ → Bool
-  F = fits_of rooms lifts gains labels weights
+  F = fits_of sight
 
   abbrev M : ℕ → Bool
-  M = may_of rooms lifts gains labels weights
+  M = may_of sight
 
   abbrev look : Held → ℕ → Held
-  look = looked rooms lifts gains labels weights
+  look = looked sight
 
   -- what a vertex is held as
   abbrev taken : ℕ → Held
@@ -48,11 +47,11 @@ module _ (rooms lifts : List ℕ) (gains : List ℤ) (labels weights : List ℕ)
     pub look-lower : (z h : ℤ) (r : Bool) → z ≡ G v → h ≡ held.gain → r ≡ lt_z z h → r ≡ true → held ≡ look held v
     look-lower z h r a b e t = not-before (lower-not (G v) (L v) held.gain held.load (rw (← a, ← b) (sym e ∙ t)))
 
-    pub look-level : (z h : ℤ) (w : ℕ) → z ≡ G v → h ≡ held.gain → w ≡ get_or weights v 0 → le_z z h ≡ true → held.load ≤ w → held ≡ look held v
+    pub look-level : (z h : ℤ) (w : ℕ) → z ≡ G v → h ≡ held.gain → w ≡ get_or sight.weights v 0 → le_z z h ≡ true → held.load ≤ w → held ≡ look held v
     look-level z h w a k b e m = not-before (level-not (G v) (L v) held.gain held.load (le_not (G v) held.gain (rw (← a, ← k) e)) (le-ltb (L v) held.load (omega arith)))
 
-    pub look-heavy : (w p : ℕ) → w ≡ get_or weights v 0 → p ≡ part labels v → get_or rooms p 0 ≤ w → held ≡ look held v
-    look-heavy w p b c h = stays (rw (le-ltb (get_or weights v 0) (get_or rooms (part labels v) 0) (rw (← b, ← c) h)))
+    pub look-heavy : (w p : ℕ) → w ≡ get_or sight.weights v 0 → p ≡ part sight.labels v → get_or sight.rooms p 0 ≤ w → held ≡ look held v
+    look-heavy w p b c h = stays (rw (le-ltb (get_or sight.weights v 0) (get_or sight.rooms (part sight.labels v) 0) (rw (← b, ← c) h)))
 
     pub look-not : (z h : ℤ) (l : ℕ) (r : Bool) → z ≡ G v → h ≡ held.gain → l ≡ L v → r ≡ beats z l h held.load → r ≡ false → held ≡ look held v
     look-not z h l r a k b e t = not-before (rw (← a, ← k, ← b) (sym e ∙ t))
@@ -61,29 +60,29 @@ module _ (rooms lifts : List ℕ) (gains : List ℤ) (labels weights : List ℕ)
         (z h : ℤ) (w p l : ℕ) (r : Bool)
         → z ≡ G v
         → h ≡ held.gain
-        → w ≡ get_or weights v 0
-        → p ≡ part labels v
+        → w ≡ get_or sight.weights v 0
+        → p ≡ part sight.labels v
         → l ≡ L v
-        → w < get_or rooms p 0
+        → w < get_or sight.rooms p 0
         → r ≡ beats z l h held.load
         → r ≡ true
         → ◌≡◌ {A = Held} (record { past = v + 1; gain = z; load = l }) (look held v)
     look-takes z h w p l r a k b c d m e t =
         rw (a, d)
-        (rw (lt-ltb (get_or weights v 0) (get_or rooms (part labels v) 0) (rw (← b, ← c) m), rw (a, k, d) at (sym e ∙ t)))
+        (rw (lt-ltb (get_or sight.weights v 0) (get_or sight.rooms (part sight.labels v) 0) (rw (← b, ← c) m), rw (a, k, d) at (sym e ∙ t)))
 
-  module _ (start held : Held) (v : ℕ) (here : v < length labels) where
+  module _ (start held : Held) (v : ℕ) (here : v < length sight.labels) where
     abbrev wins : Bool
     wins = F v && beats (G v) (L v) held.gain held.load
 
     beats-v : wins ≡ true → beats (G v) (L v) held.gain held.load ≡ true
     beats-v e = and_right (F v) (beats (G v) (L v) held.gain held.load) e
 
-    module _ (h : Holds rooms lifts gains labels weights start held) where
+    module _ (h : Holds sight start held) where
       free-v : wins ≡ true → is_free (G v) ≡ true
       free-v e = free-beats (G v) (L v) held.gain held.load h.free (beats-v e)
 
-      held_by : (t : Bool) → wins ≡ t → Holds rooms lifts gains labels weights start (cond t (taken v) held)
+      held_by : (t : Bool) → wins ≡ t → Holds sight start (cond t (taken v) held)
       held_by true e =
           record {
             found = true;
@@ -100,10 +99,10 @@ module _ (rooms lifts : List ℕ) (gains : List ℤ) (labels weights : List ℕ)
       held_by false e = h
 
       -- a look keeps what is held a vertex that may move, or the start
-      pub hold-look : (r : Held) → r ≡ look held v → Holds rooms lifts gains labels weights start r
+      pub hold-look : (r : Held) → r ≡ look held v → Holds sight start r
       hold-look r e = rw e (held_by wins refl)
 
-    module _ (s : Swept rooms lifts gains labels weights start v held) where
+    module _ (s : Swept sight start v held) where
       -- where v is held, it goes before all that were looked at
       goes_before : wins ≡ true → (u : ℕ) → u < v → M u ≡ true → beats (G v) (L v) (G u) (L u) ≡ true
       goes_before e u l m = beats-on (G v) (L v) held.gain held.load (G u) (L u) (beats-v e) (s.beaten u l m)
@@ -114,7 +113,7 @@ module _ (rooms lifts : List ℕ) (gains : List ℤ) (labels weights : List ℕ)
       not-goes_before true f m false q = refl
       not-goes_before false f m b q = clash (F v) (and_right (is_free (G v)) (F v) m) f
 
-      by-look : (t : Bool) → wins ≡ t → Swept rooms lifts gains labels weights start (v + 1) (cond t (taken v) held)
+      by-look : (t : Bool) → wins ≡ t → Swept sight start (v + 1) (cond t (taken v) held)
       unfolding held_by
       by-look true e =
           record {
@@ -139,33 +138,33 @@ module _ (rooms lifts : List ℕ) (gains : List ℤ) (labels weights : List ℕ)
               rw r (not-goes_before (F v) refl (rw r at m) (beats (G v) (L v) held.gain held.load) e)
           go u l m false q = let ne = eqb-false u v q in s.beaten u (omega (arith, ne)) m
 
-      pub sweep-look : (r : Held) → r ≡ look held v → Swept rooms lifts gains labels weights start (v + 1) r
+      pub sweep-look : (r : Held) → r ≡ look held v → Swept sight start (v + 1) r
       sweep-look r e = rw e (by-look wins refl)
 
   -- no look, and one look more
-  pub looks-none : (held : Held) (from : ℕ) → held ≡ looks rooms lifts gains labels weights held from 0
+  pub looks-none : (held : Held) (from : ℕ) → held ≡ looks sight held from 0
   unfolding looks
   looks-none held from = refl
 
-  looks-suc : (held : Held) (from k : ℕ) → looks rooms lifts gains labels weights held from (suc k) ≡ look (looks rooms lifts gains labels weights held from k) (from + k)
+  looks-suc : (held : Held) (from k : ℕ) → looks sight held from (suc k) ≡ look (looks sight held from k) (from + k)
   unfolding looks
   looks-suc held from k = refl
 
-  pub looks_on : (held h r : Held) (from k : ℕ) → h ≡ looks rooms lifts gains labels weights held from k → r ≡ look h (from + k) → r ≡ looks rooms lifts gains labels weights held from (suc k)
+  pub looks_on : (held h r : Held) (from k : ℕ) → h ≡ looks sight held from k → r ≡ look h (from + k) → r ≡ looks sight held from (suc k)
   looks_on held h r from k e f = f ∙ ap (λ (x : Held). look x (from + k)) e ∙ sym (looks-suc held from k)
 
   -- several looks, one after the other
-  swept_at : (start held r : Held) (v w : ℕ) → v ≡ w → held ≡ r → Swept rooms lifts gains labels weights start v held → Swept rooms lifts gains labels weights start w r
+  swept_at : (start held r : Held) (v w : ℕ) → v ≡ w → held ≡ r → Swept sight start v held → Swept sight start w r
   swept_at start held r v w e f s = rw (← e, ← f) s
 
-  sweep-looks : (start held : Held) (from k : ℕ) → from + k ≤ length labels → Swept rooms lifts gains labels weights start from held → Swept rooms lifts gains labels weights start (from + k) (looks rooms lifts gains labels weights held from k)
-  sweep-looks start held from zero l s = swept_at start held (looks rooms lifts gains labels weights held from 0) from (from + 0) (omega arith) (looks-none held from) s
+  sweep-looks : (start held : Held) (from k : ℕ) → from + k ≤ length sight.labels → Swept sight start from held → Swept sight start (from + k) (looks sight held from k)
+  sweep-looks start held from zero l s = swept_at start held (looks sight held from 0) from (from + 0) (omega arith) (looks-none held from) s
   sweep-looks start held from (suc k) l s =
-      swept_at start (looks rooms lifts gains labels weights held from (suc k)) (looks rooms lifts gains labels weights held from (suc k)) (from + k + 1) (from + suc k) (omega arith) refl
-      (sweep-look start (looks rooms lifts gains labels weights held from k) (from + k) (omega arith) (sweep-looks start held from k (omega arith) s) (looks rooms lifts gains labels weights held from (suc k)) (looks-suc held from k))
+      swept_at start (looks sight held from (suc k)) (looks sight held from (suc k)) (from + k + 1) (from + suc k) (omega arith) refl
+      (sweep-look start (looks sight held from k) (from + k) (omega arith) (sweep-looks start held from k (omega arith) s) (looks sight held from (suc k)) (looks-suc held from k))
 
   -- before the first look
-  pub hold-none : (start : Held) → is_free start.gain ≡ true → Holds rooms lifts gains labels weights start start
+  pub hold-none : (start : Held) → is_free start.gain ≡ true → Holds sight start start
   hold-none start st =
       record {
         found = false;
@@ -180,18 +179,12 @@ module _ (rooms lifts : List ℕ) (gains : List ℤ) (labels weights : List ℕ)
         free = st;
       }
 
-  pub sweep-none : (start : Held) → is_free start.gain ≡ true → Swept rooms lifts gains labels weights start 0 start
+  pub sweep-none : (start : Held) → is_free start.gain ≡ true → Swept sight start 0 start
   unfolding hold-none
   sweep-none start st = record { holds = hold-none start st; beaten = λ u l. absurd (omega arith); ahead = λ q. clash false q refl }
 
-  -- the look at v by itself, as a loop makes it
-  pub sweep-one : (start held : Held) (v : ℕ) (r : Held) → v < length labels → Swept rooms lifts gains labels weights start v held → r ≡ look held (v + 0) → Swept rooms lifts gains labels weights start (v + 1) r
-  sweep-one start held v r l s e =
-      let q : v + 0 ≡ v = omega arith in
-      rw q at (sweep-look start held (v + 0) (omega arith) (rw q s) r e)
-
   -- the looks at the block's twenty vertices
-  pub sweep-twenty : (start held : Held) (block : ℕ) (r : Held) → block * 20 + 20 ≤ length labels → r ≡ looks rooms lifts gains labels weights held (block * 20) 20 → Swept rooms lifts gains labels weights start (block * 20) held → Swept rooms lifts gains labels weights start ((block + 1) * 20) r
+  pub sweep-twenty : (start held : Held) (block : ℕ) (r : Held) → block * 20 + 20 ≤ length sight.labels → r ≡ looks sight held (block * 20) 20 → Swept sight start (block * 20) held → Swept sight start ((block + 1) * 20) r
   sweep-twenty start held block r l e s =
       let q : (block + 1) * 20 ≡ block * 20 + 20 = omega arith in
       rw (q, e) (sweep-looks start held (block * 20) 20 l s)

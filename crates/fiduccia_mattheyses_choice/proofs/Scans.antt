@@ -19,10 +19,10 @@ use Rattle.imbalance.specs.Limit.{most_weight}
 use Rattle.fiduccia_mattheyses_choice.specs.inner.Bounds.{past_weights, lock_size, far}
 use Rattle.fiduccia_mattheyses_choice.specs.Choice.{other}
 use Rattle.fiduccia_mattheyses_choice.specs.inner.Scan.{Scannable, is_free, beats, picked, load_after, ceiling_at, pick_below}
-use Rattle.fiduccia_mattheyses_choice.specs.inner.Look.{lowest, lesser, room_of, rooms_of, lifts_of, nobody, Sighted, gain_of, load_of, fits_of, may_of, Holds, Swept}
+use Rattle.fiduccia_mattheyses_choice.specs.inner.Look.{lowest, lesser, room_of, rooms_of, lifts_of, nobody, Sight, sight_of, Sighted, gain_of, load_of, fits_of, may_of, Holds, Swept}
 use Rattle.fiduccia_mattheyses_choice.specs.declared.Held.{Held}
 use Rattle.fiduccia_mattheyses_choice.specs.declared.Pick.{Pick}
-use Rattle.fiduccia_mattheyses_choice.specs.declared.Pick.TheVariants.{Nobody, Vertex}
+use Rattle.std.proofs.Common.{Option, Some, None}
 use Rattle.fiduccia_mattheyses_choice.proofs.Beats.{by-load}
 
 -- a free vertex's gain is not below the lowest
@@ -34,28 +34,18 @@ free-low (negsuc g) p = let x = ltb-true g (lock_size - 1) p in le-leb g (lock_s
 abbrev pub start_of : Held → Held
 start_of found = record { past = 0; gain = found.gain; load = found.load + 1 }
 
--- what the code begins with is that
-pub swept-from :
-    (rooms lifts : List ℕ) (gains : List ℤ) (labels weights : List ℕ) (found held : Held) (g : ℤ) (l v : ℕ)
-    → Swept rooms lifts gains labels weights (record { past = 0; gain = g; load = l }) v held
-    → g ≡ found.gain
-    → l ≡ found.load + 1
-    → Swept rooms lifts gains labels weights (start_of found) v held
-swept-from rooms lifts gains labels weights found held g l v s e f = rw (← e, ← f) s
-
 -- what the sample found and the sweep left, by loads and ceilings: the code's rooms and lifts are theirs
 pub seen :
-    (rooms lifts loads ceilings : List ℕ) (gains : List ℤ) (labels weights : List ℕ) (found held : Held) (g : ℤ) (l v : ℕ)
+    (gains : List ℤ) (labels weights rooms lifts loads ceilings : List ℕ) (found held : Held) (g : ℤ) (l v : ℕ)
     → rooms ≡ rooms_of loads ceilings
     → lifts ≡ lifts_of loads
-    → Holds rooms lifts gains labels weights nobody found
-    → Swept rooms lifts gains labels weights (record { past = 0; gain = g; load = l }) v held
+    → Holds (sight_of gains labels weights rooms lifts) nobody found
+    → Swept (sight_of gains labels weights rooms lifts) (record { past = 0; gain = g; load = l }) v held
     → g ≡ found.gain
     → l ≡ found.load + 1
-    → Holds (rooms_of loads ceilings) (lifts_of loads) gains labels weights nobody found
-    × Swept (rooms_of loads ceilings) (lifts_of loads) gains labels weights (start_of found) v held
-seen rooms lifts loads ceilings gains labels weights found held g l v a b h s e f =
-    (rw (a, b) at h, swept-from (rooms_of loads ceilings) (lifts_of loads) gains labels weights found held g l v (rw (a, b) at s) e f)
+    → Holds (sight_of gains labels weights (rooms_of loads ceilings) (lifts_of loads)) nobody found
+    × Swept (sight_of gains labels weights (rooms_of loads ceilings) (lifts_of loads)) (start_of found) v held
+seen gains labels weights rooms lifts loads ceilings found held g l v a b h s e f = (rw (a, b) at h, rw (← e, ← f) (rw (a, b) at s))
 
 -- neither load is below the lesser
 pub lesser-least : (loads : List ℕ) → (lesser loads ≤ get_or loads 0 0) × (lesser loads ≤ get_or loads 1 0)
@@ -93,29 +83,27 @@ ltb-above k l m = go (ltb (k + l) (k + m)) refl
 
 -- the scan, with the rooms and lifts that the code has by loads and ceilings
 module _ (gains : List ℤ) (labels weights loads ceilings : List ℕ) (q : Scannable gains labels weights loads) (narrow : (v : ℕ) → get_or weights v 0 < past_weights) where
-  abbrev rooms : List ℕ
-  rooms = rooms_of loads ceilings
-
-  abbrev lifts : List ℕ
-  lifts = lifts_of loads
+  -- what the scan sees by these loads and ceilings
+  abbrev pub sight : Sight
+  sight = sight_of gains labels weights (rooms_of loads ceilings) (lifts_of loads)
 
   abbrev G : ℕ → ℤ
-  G = gain_of rooms lifts gains labels weights
+  G = gain_of sight
 
   abbrev L : ℕ → ℕ
-  L = load_of rooms lifts gains labels weights
+  L = load_of sight
 
   abbrev M : ℕ → Bool
-  M = may_of rooms lifts gains labels weights
+  M = may_of sight
 
   abbrev B : ℕ → ℕ → Bool
   B u v = beats (G u) (L u) (G v) (L v)
 
-  abbrev pick : Pick
+  abbrev pick : Option Pick
   pick = pick_below gains (load_after loads weights labels) (ceiling_at ceilings labels) (length labels)
 
   -- what a look asks holds of them
-  pub sighted : Sighted gains labels weights rooms lifts
+  pub sighted : Sighted sight
   sighted =
       record {
         gained = q.gained;
@@ -123,7 +111,7 @@ module _ (gains : List ℤ) (labels weights loads ceilings : List ℕ) (q : Scan
         two_labels = q.two_labels;
         roomed = refl;
         lifted = refl;
-        light = each_label (λ p. get_or lifts p 0 ≤ most_weight) (let l = q.light 1 (omega arith) in omega arith) (let l = q.light 0 (omega arith) in omega arith);
+        light = each_label (λ p. get_or sight.lifts p 0 ≤ most_weight) (let l = q.light 1 (omega arith) in omega arith) (let l = q.light 0 (omega arith) in omega arith);
       }
 
   small : (v : ℕ) → L v + 1 < far
@@ -133,12 +121,12 @@ module _ (gains : List ℤ) (labels weights loads ceilings : List ℕ) (q : Scan
   load_is : (v : ℕ) → lesser loads + L v ≡ load_after loads weights labels v
   load_is v =
       let m = lesser-least loads in
-      let e = each_label (λ p. lesser loads + get_or lifts p 0 ≡ get_or loads (other p) 0) (omega (arith, m.1)) (omega (arith, m.0)) (part labels v) (q.two_labels v) in
+      let e = each_label (λ p. lesser loads + get_or sight.lifts p 0 ≡ get_or loads (other p) 0) (omega (arith, m.1)) (omega (arith, m.0)) (part labels v) (q.two_labels v) in
       omega arith
 
-  fits_is : (v : ℕ) → fits_of rooms lifts gains labels weights v ≡ leb (load_after loads weights labels v) (ceiling_at ceilings labels v)
+  fits_is : (v : ℕ) → fits_of sight v ≡ leb (load_after loads weights labels v) (ceiling_at ceilings labels v)
   fits_is v =
-      each_label (λ p. ltb (get_or weights v 0) (get_or rooms p 0) ≡ leb (get_or loads (other p) 0 + get_or weights v 0) (get_or ceilings (other p) 0))
+      each_label (λ p. ltb (get_or weights v 0) (get_or sight.rooms p 0) ≡ leb (get_or loads (other p) 0 + get_or weights v 0) (get_or ceilings (other p) 0))
       (room-is (get_or loads 1 0) (get_or ceilings 1 0) (get_or weights v 0) (omega (arith, narrow v)))
       (room-is (get_or loads 0 0) (get_or ceilings 0 0) (get_or weights v 0) (omega (arith, narrow v)))
       (part labels v) (q.two_labels v)
@@ -150,14 +138,14 @@ module _ (gains : List ℤ) (labels weights loads ceilings : List ℕ) (q : Scan
   pick_is = λ i. picked G (best (λ v. is_free (G v) && fits_is v i) (λ u v. goes_before-is u v i) (length labels))
 
   -- what is sampled has a load within the bound
-  pub sample-near : (found : Held) → Holds rooms lifts gains labels weights nobody found → found.load ≤ far
+  pub sample-near : (found : Held) → Holds sight nobody found → found.load ≤ far
   sample-near found h = go h.found refl
     where
       go : (t : Bool) → h.found ≡ t → found.load ≤ far
       go true f = let k = h.load_is f in let i = small h.vertex in omega arith
       go false f = let k = h.load_was f in omega arith
 
-  module _ (found held : Held) (h : Holds rooms lifts gains labels weights nobody found) (s : Swept rooms lifts gains labels weights (start_of found) (length labels) held) where
+  module _ (found held : Held) (h : Holds sight nobody found) (s : Swept sight (start_of found) (length labels) held) where
     -- the vertex sampled goes before the start, so that a vertex comes to be held
     sampled : h.found ≡ true → s.holds.found ≡ false → ⊥
     sampled f n =
@@ -178,7 +166,7 @@ module _ (gains : List ℤ) (labels weights loads ceilings : List ℕ) (q : Scan
         let j = h.load_was f in
         let i = small u in
         clash (beats (G u) (L u) held.gain held.load)
-        (by-load (G u) (L u) held.gain held.load (rw g (free-low (G u) (and_left (is_free (G u)) (fits_of rooms lifts gains labels weights u) e))) (omega arith))
+        (by-load (G u) (L u) held.gain held.load (rw g (free-low (G u) (and_left (is_free (G u)) (fits_of sight u) e))) (omega arith))
         (s.beaten u l e)
 
     -- a load that is near is that of a vertex
@@ -201,20 +189,20 @@ module _ (gains : List ℤ) (labels weights loads ceilings : List ℕ) (q : Scan
           let k = s.holds.load_is found-one in
           best-is M B (length labels) s.holds.vertex (s.holds.here found-one) (s.holds.may_is found-one) (λ u i m. rw (← g, ← k) (s.beaten u i m)) (λ u i m. rw (← g, ← k) (s.ahead found-one u i m))
 
-      pub scan-found : (v : ℕ) (g : ℤ) → v + 1 ≡ held.past → g ≡ held.gain → Vertex v g ≡ pick
+      pub scan-found : (v : ℕ) (g : ℤ) → v + 1 ≡ held.past → g ≡ held.gain → Some (record { vertex = v; gain = g }) ≡ pick
       scan-found v g e z =
           let p = s.holds.past_is found-one in
           vertex-is v s.holds.vertex g (omega arith) (z ∙ s.holds.gain_is found-one)
           ∙ ap (picked G) (sym is-best)
           ∙ pick_is
         where
-          vertex-is : (v a : ℕ) (g : ℤ) → v ≡ a → g ≡ G a → Vertex v g ≡ picked G (some a)
+          vertex-is : (v a : ℕ) (g : ℤ) → v ≡ a → g ≡ G a → Some (record { vertex = v; gain = g }) ≡ picked G (some a)
           vertex-is v a g x y = rw (y, x)
 
-    pub scan-nobody : far ≤ held.load → Nobody ≡ pick
-    scan-nobody l = go s.holds.found refl h.found refl ∙ pick_is
+    pub scan-none : far ≤ held.load → None ≡ pick
+    scan-none l = go s.holds.found refl h.found refl ∙ pick_is
       where
-        go : (t : Bool) → s.holds.found ≡ t → (u : Bool) → h.found ≡ u → Nobody ≡ picked G (best M B (length labels))
+        go : (t : Bool) → s.holds.found ≡ t → (u : Bool) → h.found ≡ u → None ≡ picked G (best M B (length labels))
         go true f u e = let k = s.holds.load_is f in let i = small s.holds.vertex in absurd (omega arith)
         go false n true e = absurd (sampled e n)
         go false n false e = rw (best_none M B (length labels) (λ u i. none-may e n u i (M u) refl))

@@ -3,21 +3,14 @@
 
 pub mod scan; // scan.rt: the scan over the list of gains
 
-// A vertex's place in the list of gains: a locked vertex has no gain.
+// The vertex that the scan finds, with its gain.
 #[derive(Clone, Copy)]
-pub enum Slot {
-    Locked,
-    Free(i64),
+pub struct Pick {
+    pub vertex: usize,
+    pub gain: i64,
 }
 
-// What the scan finds: nobody, or a vertex with its gain.
-#[derive(Clone, Copy)]
-pub enum Pick {
-    Nobody,
-    Vertex(usize, i64),
-}
-
-// What a scan holds on its way: one past the vertex, its gain, and how far its target's load after the move is above the lesser of the two loads.
+// What a scan holds on its way: one past the vertex, its gain, and how far its target's load after the move is above the lesser of the two loads. Nobody is held while the load is FAR: one comparison ranks a vertex against either, where an Option would have each look ask first.
 #[derive(Clone, Copy)]
 pub struct Held {
     pub past: usize,

@@ -1,6 +1,5 @@
 -- The laws of a pass and its moves.
 pub mod Moved
-pub mod Nexts
 pub mod Updates
 pub mod Follows
 pub mod Worths
@@ -15,4 +14,3 @@ pub mod Zeros
 pub mod Walking
 pub mod Rewinding
 pub mod Passing
-pub mod Plain

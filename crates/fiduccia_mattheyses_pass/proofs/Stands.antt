@@ -29,11 +29,10 @@ use Rattle.fiduccia_mattheyses_pass.specs.inner.Bounds.{most_in_row, most_cut}
 use Rattle.fiduccia_mattheyses_choice.specs.Choice.{Terms, other, flip, member, worth, fits, choice, is_bad}
 use Rattle.fiduccia_mattheyses_pass.specs.Pass.{State, start, move_on, next}
 use Rattle.fiduccia_mattheyses_choice.specs.inner.Scan.{Scannable, lock, picked, pick_below, load_after, ceiling_at}
-use Rattle.fiduccia_mattheyses_pass.specs.inner.Next.{next_of}
+use Rattle.fiduccia_mattheyses_pass.specs.inner.Next.{go, next_of}
 use Rattle.fiduccia_mattheyses_pass.specs.inner.Standing.{gains_after, standing_after, Moveable, Fixed, Stands}
-use Rattle.fiduccia_mattheyses_choice.specs.declared.Pick.TheVariants.{Nobody, Vertex}
-use Rattle.fiduccia_mattheyses_pass.specs.declared.Next.{Next}
-use Rattle.fiduccia_mattheyses_pass.specs.declared.Next.TheVariants.{Stop, Go}
+use Rattle.std.specs.Prelude.{Option as Maybe, Some, None}
+use Rattle.fiduccia_mattheyses_pass.specs.declared.NextMove.{NextMove}
 use Rattle.fiduccia_mattheyses_pass.specs.declared.Standing.{Standing}
 use Rattle.fiduccia_mattheyses_pass.proofs.Moved.{at_more, apart_more, count-more, count-leaves-one}
 use Rattle.fiduccia_mattheyses_pass.proofs.Worths.{Light, arcs-small, worth-small, gains-move}
@@ -89,12 +88,24 @@ two-flip p v lv two_labels x = go (eqb x v) refl
     go false r = rw (get_or-set_other p v x (other (part p v)) 0 (eqb-false x v r)) (two_labels x)
 
 -- what the code's answer tells of the state's next
-bad-go : (t u : Bool) (v : ℕ) (g : ℤ) (bad w : ℕ) (h : ℤ) (b : ℕ) → cond t (cond u Stop (Go v g (bad + 1))) (Go v g 0) ≡ Go w h b → (t && u ≡ false) × (cond t (bad + 1) 0 ≡ b) × (v ≡ w) × (g ≡ h)
-bad-go true true v g bad w h b e = let o : ◌≡◌ {A = ℕ} 0 1 = cc in absurd (omega arith)
-bad-go true false v g bad w h b e = (refl, cc, cc, cc)
-bad-go false u v g bad w h b e = (refl, cc, cc, cc)
+abbrev vertex_in : Maybe NextMove → ℕ
+vertex_in None = 0
+vertex_in (Some m) = m.vertex
 
-bad-stop : (t u : Bool) (v : ℕ) (g : ℤ) (bad : ℕ) → cond t (cond u Stop (Go v g (bad + 1))) (Go v g 0) ≡ Stop → t && u ≡ true
+abbrev gain_in : Maybe NextMove → ℤ
+gain_in None = pos 0
+gain_in (Some m) = m.gain
+
+abbrev bad_in : Maybe NextMove → ℕ
+bad_in None = 0
+bad_in (Some m) = m.bad
+
+bad-go : (t u : Bool) (v : ℕ) (g : ℤ) (bad w : ℕ) (h : ℤ) (b : ℕ) → cond t (cond u None (go v g (bad + 1))) (go v g 0) ≡ go w h b → (t && u ≡ false) × (cond t (bad + 1) 0 ≡ b) × (v ≡ w) × (g ≡ h)
+bad-go true true v g bad w h b e = let o : ◌≡◌ {A = ℕ} 0 1 = cc in absurd (omega arith)
+bad-go true false v g bad w h b e = (refl, ap bad_in e, ap vertex_in e, ap gain_in e)
+bad-go false u v g bad w h b e = let f : go v g 0 ≡ go w h b = e in (refl, ap bad_in f, ap vertex_in f, ap gain_in f)
+
+bad-stop : (t u : Bool) (v : ℕ) (g : ℤ) (bad : ℕ) → cond t (cond u None (go v g (bad + 1))) (go v g 0) ≡ None → t && u ≡ true
 bad-stop true true v g bad e = refl
 bad-stop true false v g bad e = let o : ◌≡◌ {A = ℕ} 0 1 = cc in absurd (omega arith)
 bad-stop false u v g bad e = let o : ◌≡◌ {A = ℕ} 0 1 = cc in absurd (omega arith)
@@ -123,7 +134,7 @@ pub record Goes (s : Terms) (n : ℕ) (st : State) (labels : List ℕ) (v : ℕ)
   pub within : fits s labels v ≡ true
 
 module _ (s : Terms) (n : ℕ) (f : Fixed s n) (st : State) (labels : List ℕ) (gains : List ℤ) (c : Standing) (on : Stands s n st labels gains c) where
-  abbrev pub asked : Next
+  abbrev pub asked : Maybe NextMove
   asked = next_of (pick_below gains (load_after c.loads.at s.weights labels) (ceiling_at s.ceilings labels) (length labels)) c.bad s.bad_limit
 
   loads-are : (t : ℕ) → t < 2 → get_or c.loads.at t 0 ≡ load s.weights labels t
@@ -141,24 +152,24 @@ module _ (s : Terms) (n : ℕ) (f : Fixed s n) (st : State) (labels : List ℕ) 
     light = λ t l. (let a = load-within s.weights labels (f.weighed ∙ sym on.long) t in let b = loads-are t l in let d = f.light in omega arith);
   }
 
-  next-as : (o : Option ℕ) → choice s labels st.moved ≡ o → asked ≡ Stop → next s st ≡ none
+  next-as : (o : Option ℕ) → choice s labels st.moved ≡ o → asked ≡ None → next s st ≡ none
   next-as none e a = next-none s st (rw on.labelled at e)
   next-as (some v) e a =
-      let q : next_of (Vertex v (worth s labels v)) c.bad s.bad_limit ≡ Stop = rw (pick_is, e) at a in
+      let q : next_of (Some (record { vertex = v; gain = worth s labels v })) c.bad s.bad_limit ≡ None = rw (pick_is, e) at a in
       let r = bad-stop (is_bad s labels v) (leb s.bad_limit st.bad) v (worth s labels v) st.bad (rw on.bad_is at q) in
       next-stop s st v (rw on.labelled at e) (rw on.labelled at r)
 
   -- the code stops where the state has no next
-  pub stops : asked ≡ Stop → next s st ≡ none
+  pub stops : asked ≡ None → next s st ≡ none
   stops a = next-as (choice s labels st.moved) refl a
 
-  goes-as : (o : Option ℕ) → choice s labels st.moved ≡ o → (v : ℕ) (g : ℤ) (b : ℕ) → asked ≡ Go v g b → Goes s n st labels v g b
+  goes-as : (o : Option ℕ) → choice s labels st.moved ≡ o → (v : ℕ) (g : ℤ) (b : ℕ) → asked ≡ go v g b → Goes s n st labels v g b
   goes-as none e v g b a =
-      let q : next_of Nobody c.bad s.bad_limit ≡ Go v g b = rw (pick_is, e) at a in
+      let q : next_of None c.bad s.bad_limit ≡ go v g b = rw (pick_is, e) at a in
       let o : ◌≡◌ {A = ℕ} 0 1 = cc in
       absurd (omega arith)
   goes-as (some u) e v g b a =
-      let q : next_of (Vertex u (worth s labels u)) c.bad s.bad_limit ≡ Go v g b = rw (pick_is, e) at a in
+      let q : next_of (Some (record { vertex = u; gain = worth s labels u })) c.bad s.bad_limit ≡ go v g b = rw (pick_is, e) at a in
       let r = bad-go (is_bad s labels u) (leb s.bad_limit st.bad) u (worth s labels u) st.bad v g b (rw on.bad_is at q) in
       let i = (chosen s labels st.moved u).0 e in
       let al = allowed-is s labels st.moved u i.may in
@@ -173,7 +184,7 @@ module _ (s : Terms) (n : ℕ) (f : Fixed s n) (st : State) (labels : List ℕ) 
       }
 
   -- where the code goes on, so does the state, with the same vertex
-  pub goes : (v : ℕ) (g : ℤ) (b : ℕ) → asked ≡ Go v g b → Goes s n st labels v g b
+  pub goes : (v : ℕ) (g : ℤ) (b : ℕ) → asked ≡ go v g b → Goes s n st labels v g b
   goes v g b a = goes-as (choice s labels st.moved) refl v g b a
 
   module _ (v : ℕ) (g : ℤ) (b : ℕ) (go : Goes s n st labels v g b) where

@@ -15,10 +15,9 @@ use mir.Facts.{to_z-of_z}
 use mir.Val.{to_z, of_z, SFits, hbits}
 use mir.Syntax.{w64}
 use Rattle.topology.specs.Graph.{change}
-use Rattle.fiduccia_mattheyses_choice.specs.inner.Scan.{is_free, slot_of}
+use Rattle.fiduccia_mattheyses_choice.specs.inner.Scan.{is_free, free_gain}
 use Rattle.fiduccia_mattheyses_pass.specs.inner.Update.{shift, update_at, updated}
-use Rattle.fiduccia_mattheyses_choice.specs.declared.Slot.{Slot}
-use Rattle.fiduccia_mattheyses_choice.specs.declared.Slot.TheVariants.{Locked, Free}
+use Rattle.std.proofs.Common.{Option, Some, None}
 use Rattle.lists.proofs.Differences.{mag_up, mag_down}
 use Rattle.topology.proofs.Gains.{twice-small}
 use Rattle.fiduccia_mattheyses_choice.specs.inner.Bounds.{past_weights}
@@ -29,18 +28,18 @@ pub back : (z : ℤ) → mag z < 2 ^ hbits w64 → to_z w64 (of_z w64 z) ≡ z
 back z h = to_z-of_z {w = w64} (sfits_of h)
 
 -- what a place in the list of gains answers
-free-go : (t : Bool) (z g : ℤ) → cond t (Free z) Locked ≡ Free g → (t ≡ true) × (g ≡ z)
+free-go : (t : Bool) (z g : ℤ) → cond t (Some z) None ≡ Some g → (t ≡ true) × (g ≡ z)
 free-go true z g e = (refl, cc)
 free-go false z g e = let o : ◌≡◌ {A = ℕ} 0 1 = cc in absurd (omega arith)
 
-pub free_of : (s : Slot) (z g : ℤ) → s ≡ slot_of z → s ≡ Free g → (is_free z ≡ true) × (g ≡ z)
+pub free_of : (s : Option ℤ) (z g : ℤ) → s ≡ free_gain z → s ≡ Some g → (is_free z ≡ true) × (g ≡ z)
 free_of s z g p q = free-go (is_free z) z g (sym p ∙ q)
 
-locked-go : (t : Bool) (z : ℤ) → cond t (Free z) Locked ≡ Locked → t ≡ false
+locked-go : (t : Bool) (z : ℤ) → cond t (Some z) None ≡ None → t ≡ false
 locked-go true z e = let o : ◌≡◌ {A = ℕ} 0 1 = cc in absurd (omega arith)
 locked-go false z e = refl
 
-locked-of : (s : Slot) (z : ℤ) → s ≡ slot_of z → s ≡ Locked → is_free z ≡ false
+locked-of : (s : Option ℤ) (z : ℤ) → s ≡ free_gain z → s ≡ None → is_free z ≡ false
 locked-of s z p q = locked-go (is_free z) z (sym p ∙ q)
 
 -- the gain g and what the arc adds to it, r, summed as they went through memory: the sum is the gain's shift, far from the ends of the range
@@ -83,13 +82,13 @@ module _ (neighbours weights labels : List ℕ) (old a e : ℕ) (gs₀ gs : List
       let q : a + (e - a) ≡ e = omega arith in
       rw (r, so) (rw q)
 
-  pub turn-passed : (s : Slot) → s ≡ slot_of (get_or gs (get_or neighbours e 0) (pos 0)) → s ≡ Locked → gs ≡ updated neighbours weights labels old a (e + 1 - a) gs₀
+  pub turn-passed : (s : Option ℤ) → s ≡ free_gain (get_or gs (get_or neighbours e 0) (pos 0)) → s ≡ None → gs ≡ updated neighbours weights labels old a (e + 1 - a) gs₀
   turn-passed s k f = sym (updated-more ∙ rw (locked-of s (get_or gs (get_or neighbours e 0) (pos 0)) k f))
 
   pub turn-updated :
-      (s : Slot) (g h : ℤ)
-      → s ≡ slot_of (get_or gs (get_or neighbours e 0) (pos 0))
-      → s ≡ Free g
+      (s : Option ℤ) (g h : ℤ)
+      → s ≡ free_gain (get_or gs (get_or neighbours e 0) (pos 0))
+      → s ≡ Some g
       → h ≡ shift (eqb (get_or labels (get_or neighbours e 0) 0) old) g (get_or weights e 0)
       → set gs (get_or neighbours e 0) h ≡ updated neighbours weights labels old a (e + 1 - a) gs₀
   turn-updated s g h k f q =

@@ -16,8 +16,9 @@ use Rattle.fiduccia_mattheyses_pass.specs.Pass.{State, start, move_on, walk, fli
 use Rattle.fiduccia_mattheyses_choice.specs.inner.Scan.{Scannable}
 use Rattle.fiduccia_mattheyses_pass.specs.inner.Standing.{Fixed, Stands, Moveable, gains_after, standing_after}
 use Rattle.fiduccia_mattheyses_pass.specs.declared.Standing.{Standing}
-use Rattle.fiduccia_mattheyses_pass.specs.declared.Next.{Next}
-use Rattle.fiduccia_mattheyses_pass.specs.declared.Next.TheVariants.{Stop, Go}
+use Rattle.std.specs.Prelude.{Option as Maybe, None}
+use Rattle.fiduccia_mattheyses_pass.specs.declared.NextMove.{NextMove}
+use Rattle.fiduccia_mattheyses_pass.specs.inner.Next.{go}
 use Rattle.fiduccia_mattheyses_pass.proofs.Moved.{count-few}
 use Rattle.fiduccia_mattheyses_pass.proofs.Backs.{flips-more}
 use Rattle.fiduccia_mattheyses_pass.proofs.Walks.{walk-stop, walk_step}
@@ -85,7 +86,7 @@ module _ (s : Terms) (limit : ℕ) (p : List ℕ) (moves₀ : List Move) where
 
   module _ (f : Fixed s (length p)) (wide : length p ≤ length moves₀) (labels : List ℕ) (gains : List ℤ) (moves : List Move) (st : Standing) (made : ℕ) (w : Walking s limit p moves₀ labels gains moves st made) where
     -- what the code is to do next
-    unfoldable pub answer : Next
+    unfoldable pub answer : Maybe NextMove
     answer = asked s (length p) f w.state labels gains st w.stands
 
     -- what the next move asks
@@ -116,12 +117,12 @@ module _ (s : Terms) (limit : ℕ) (p : List ℕ) (moves₀ : List Move) where
     unfolding walk
     walking-full h = ended (let r : limit - made ≡ 0 = omega arith in rw r at w.rest)
 
-    pub walking-stop : (r : Next) → r ≡ answer → r ≡ Stop → WalkDone s p moves₀ (walk s limit (start s p)) labels gains moves made st
+    pub walking-stop : (r : Maybe NextMove) → r ≡ answer → r ≡ None → WalkDone s p moves₀ (walk s limit (start s p)) labels gains moves made st
     unfolding answer
     walking-stop r e q =
         ended (sym (walk-stop s (limit - made) w.state (stops s (length p) f w.state labels gains st w.stands (sym e ∙ q))) ∙ w.rest)
 
-    module _ (r : Next) (v : ℕ) (g : ℤ) (b : ℕ) (e : r ≡ answer) (q : r ≡ Go v g b) where
+    module _ (r : Maybe NextMove) (v : ℕ) (g : ℤ) (b : ℕ) (e : r ≡ answer) (q : r ≡ go v g b) where
       pub going : Goes s (length p) w.state labels v g b
       unfolding answer
       going = goes s (length p) f w.state labels gains st w.stands v g b (sym e ∙ q)

@@ -1,33 +1,25 @@
 // The gains of a pass: fresh at its start, and brought up to date after a move. Document 01, "FM".
-ghost use Rattle.std.specs.Prelude.{◌≡◌, ℕ, ◌+◌, ◌-◌, ◌≤◌, ◌<◌, length, get_or, eqb, pos};
+ghost use Rattle.std.specs.Prelude.{◌≡◌, ℕ, ◌-◌, ◌+◌, ◌≤◌, ◌<◌, length, get_or, eqb, pos};
 ghost use Rattle.std.specs.Int.Signed.{mag};
 ghost use Rattle.imbalance.specs.Limit.{most_arcs};
 ghost use Rattle.imbalance.specs.Load.{part};
-ghost use Rattle.topology.specs.Graph.{in_rows};
+ghost use Rattle.topology.specs.Graph.{first, past, neighbour};
 ghost use Rattle.topology.specs.Rule.{Rows};
 ghost use Rattle.fiduccia_mattheyses_choice.specs.inner.Bounds.{lock_size};
 ghost use Rattle.fiduccia_mattheyses_pass.specs.inner.Bounds.{most_twice, most_updated};
 ghost use Rattle.fiduccia_mattheyses_pass.specs.inner.Update.{shift, updated};
 ghost use Rattle.fiduccia_mattheyses_pass.specs.inner.Standing.{fresh_gains};
 
-use fiduccia_mattheyses_choice::{Slot, scan};
+use fiduccia_mattheyses_choice::scan;
+use topology::Graph;
 
 // Each vertex's gain to the other part.
-pub fn fresh_gains(
-    starts: &[u32],
-    neighbours: &[u32],
-    arc_weights: &[u32],
-    labels: &[u32],
-    gains: &mut [i64],
-)
-    requires { Rows (length labels.now) (in_rows starts.now neighbours.now arc_weights.now) × (length gains.old ≡ length labels.now) × ((v : ℕ) → part labels.now v < 2) }
-    ensures { gains.new ≡ fresh_gains (in_rows starts.now neighbours.now arc_weights.now) labels.now gains.old }
+pub fn fresh_gains(graph: &Graph, labels: &[u32], gains: &mut [i64])
+    requires { Rows (length labels.now) graph.now × (length gains.old ≡ length labels.now) × ((v : ℕ) → part labels.now v < 2) }
+    ensures { gains.new ≡ fresh_gains graph.now labels.now gains.old }
 {
-    let mut v: usize = 0;
-    while v < labels.len() {
-        let target = 1 - labels[v];
-        gains[v] = topology::gain_of(starts, neighbours, arc_weights, labels, v, target);
-        v += 1;
+    for v in 0..labels.len() {
+        gains[v] = graph.gain_of(labels, v, 1 - labels[v]);
     }
 }
 
@@ -39,26 +31,17 @@ fn shifted(g: i64, w: u32, p: u32, old: u32) -> i64
     g + topology::twice(w, p, old)
 }
 
-// The gains of the free neighbours, over the arcs from a up to b; a locked one is passed over.
-pub fn update_neighbours(
-    neighbours: &[u32],
-    arc_weights: &[u32],
-    labels: &[u32],
-    gains: &mut [i64],
-    old: u32,
-    a: usize,
-    b: usize,
-)
-    requires a_le_b { (a ≤ b) × (b ≤ length neighbours.now) × (b ≤ most_arcs) × (length arc_weights.now ≡ length neighbours.now) × (length gains.old ≡ length labels.now) }
-    requires by_index { ((e : ℕ) → e < length neighbours.now → get_or neighbours.now e 0 < length labels.now) × ((x : ℕ) → mag (get_or gains.old x (pos 0)) ≤ lock_size) }
-    ensures { gains.new ≡ updated neighbours.now arc_weights.now labels.now old a (b - a) gains.old }
+// The gains of v's free neighbours, once v has left part old; a locked one is passed over.
+pub fn update_neighbours(graph: &Graph, labels: &[u32], gains: &mut [i64], v: usize, old: u32)
+    requires row { (v + 1 < length graph.now.starts) × (first graph.now v ≤ past graph.now v) × (past graph.now v ≤ length graph.now.neighbours) × (past graph.now v ≤ most_arcs) × (length graph.now.weights ≡ length graph.now.neighbours) × (length gains.old ≡ length labels.now) }
+    requires small { ((e : ℕ) → e < length graph.now.neighbours → neighbour graph.now e < length labels.now) × ((x : ℕ) → mag (get_or gains.old x (pos 0)) ≤ lock_size) }
+    ensures { gains.new ≡ updated graph.now.neighbours graph.now.weights labels.now old (first graph.now v) (past graph.now v - first graph.now v) gains.old }
 {
-    for e in a..b {
-        let x = neighbours[e] as usize;
-        let Slot::Free(g) = scan::slot_of(gains[x]) else {
+    for e in graph.first(v)..graph.past(v) {
+        let x = graph.neighbour(e);
+        let Some(g) = scan::free_gain(gains[x]) else {
             continue;
         };
-        let h = shifted(g, arc_weights[e], labels[x], old);
-        gains[x] = h;
+        gains[x] = shifted(g, graph.weight(e), labels[x], old);
     }
 }

@@ -26,7 +26,7 @@ pub fn undo_move(weights: &[u32], labels: &mut [u32], loads: Loads, m: Move) -> 
     requires { UndoAsked weights.now labels.old loads.at m }
     ensures { UndoDone weights.now labels.old loads.at m labels.new result.at }
 {
-    let v = lists::index(m.vertex);
+    let v = m.vertex as usize;
     let from = labels[v];
     let taken_back = imbalance::moved_loads(loads, from, 1 - from, weights[v]);
     labels[v] = m.part;

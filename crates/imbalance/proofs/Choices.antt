@@ -17,10 +17,6 @@ fit-legal asked h two =
     let n : not (legal_e e) ≡ false = rw (eq-eqb choice 2 two) at p.1 in
     rw (not-false (legal_e e) n) tt
 
--- an old choice that is neither of the first two is 2
-pub last-old : (choice : ℕ) → choice ≤ 2 → (choice ≡ 0 → ⊥) → (choice ≡ 1 → ⊥) → choice ≡ 2
-last-old choice old z o = omega (arith, z, o)
-
 -- a fit choice that is not 3 is one of the old ones
 pub fit-old : (asked : Ceiling) → unfit_choice asked ≡ false → (asked.choice ≡ 3 → ⊥) → asked.choice ≤ 2
 unfolding unfit_choice

@@ -64,13 +64,3 @@ module _ (weights : List ℕ) (n rest : ℕ) (here : Remains weights n rest) whe
 pub label-most : (most : ℕ) (labels : List ℕ) → label_above most labels ≡ false → (v : ℕ) → v < length labels → get_or labels v 0 ≤ most
 unfolding label_above
 label-most most labels h v l = ltb-false most (get_or labels v 0) (any_at (length labels) v (λ u. ltb most (get_or labels u 0)) h l)
-
--- a label above `most` decides the test
-pub label-over : (most : ℕ) (labels : List ℕ) (v : ℕ) → v < length labels → most < get_or labels v 0 → true ≡ label_above most labels
-unfolding label_above
-label-over most labels v l h = sym (any-holds (length labels) v (λ u. ltb most (get_or labels u 0)) l (lt-ltb most (get_or labels v 0) h))
-
--- all labels passed decide it too
-pub label-none : (most : ℕ) (labels : List ℕ) (n : ℕ) → n ≡ length labels → above_to n most labels ≡ false → false ≡ label_above most labels
-unfolding label_above
-label-none most labels n e h = sym (rw e at h)

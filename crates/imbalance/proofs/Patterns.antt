@@ -1,10 +1,9 @@
 -- A legal e told by its bit pattern: the pattern is at most that of 64.0, or it is that of -0.0. The patterns of numbers without a sign rise as the numbers do. Assumes nothing.
 use Rattle.std.proofs.Common.{◌≡◌, ℕ, zero, suc, ◌+◌, ◌-◌, ◌*◌, ◌/◌, ◌%◌, ◌^◌, ◌<◌, ◌≤◌, Bool, true, false, cond, not, ◌&&◌, ◌||◌, T, eqb, ltb, leb, sym, refl, ap, ◌∙◌, subst, inl, inr, true≢false, le_trans, mul-le-mul_right, mul_assoc, mul_comm, eq-zero-or-pos, mul-le-mul, lt_of_mul-lt-mul_right, mul-lt-mul_of_pos_right, mul-pos, zero-mul, mul-one, le_of_mul-le-mul_right, arith, lit<, lit≤, pow_pos, pow_mono, le-ltb, lt-ltb, eq-eqb, ne_eqb, eqb-true, le-leb, leb-false, leb-true}
-use lib.Ieee.{Float, nan, inf, fin, binary64, up, down, odd, of_fields, of_bits, to_bits, is_nan, fits, le, ne}
+use lib.Ieee.{Float, nan, inf, fin, binary64, up, down, odd, of_fields, of_bits, to_bits, is_nan, fits, le}
 use lib.Ieee.Fits.{down_pos}
 use lib.Ieee.Exact.{HasValue, odd_sign}
 use lib.Ieee.Bits.{of_bits-to_bits}
-use lib.Ieee.Compare.{differs_from_itself, nan_differs}
 use borrow.Author.Tests.{eqb-false, lt-leb}
 use Rattle.lists.proofs.Bools.{or-none}
 use Rattle.imbalance.specs.Ceiling.{legal_e}
@@ -183,17 +182,12 @@ legal-number nan h = absurd h
 legal-number (inf s) h = tt
 legal-number (fin s m e) h = tt
 
--- what differs from itself is a NaN, and so not legal
-pub differing-illegal : (e : Float) → ne e e ≡ true → legal_e e ≡ false
-unfolding legal_e le
-differing-illegal e h = rw (differs_from_itself e (subst T (sym h) tt)) refl
-
--- what does not is a number, or an infinity
-pub equal-number : (e : Float) → ne e e ≡ false → T (not (is_nan e))
-unfolding is_nan
-equal-number nan h = absurd (true≢false (sym nan_differs ∙ h))
-equal-number (inf s) h = tt
-equal-number (fin s m e) h = tt
+-- a NaN is not legal
+pub nan-illegal : (e : Float) → is_nan e ≡ true → legal_e e ≡ false
+unfolding legal_e le is_nan
+nan-illegal nan h = refl
+nan-illegal (inf s) h = absurd (true≢false (sym h))
+nan-illegal (fin s m e) h = absurd (true≢false (sym h))
 
 -- a float that is no NaN is told by its own bits
 pub legal-by-own-bits : (e : Float) → fits binary64 e ≡ true → legal_e (of_bits binary64 (to_bits binary64 e)) ≡ legal_e e

@@ -5,11 +5,14 @@ ghost use Rattle.std.specs.Prelude.{◌≡◌, ◌<◌, ◌≤◌, false, T, len
 ghost use Rattle.std.specs.Float.{binary64};
 ghost use Rattle.lists.specs.Sum.{total};
 ghost use Rattle.lists.specs.Fill.{table};
+ghost use Rattle.lists.specs.Refusal.{number_in};
 ghost use Rattle.imbalance.specs.Limit.{most_weight, heavy, label_above};
 ghost use Rattle.imbalance.specs.Load.{loads_of, Loadable};
 ghost use Rattle.imbalance.specs.Ceiling.{legal_e, ceiling_of, largest, unfit_choice, ceiling, ceilings};
 ghost use Rattle.imbalance.specs.Number.{loads_number, loads_answer};
 ghost use Rattle.imbalance.specs.inner.Moved.{loads_moved};
+
+use lists::Refusal;
 
 // "n at most 4,096"
 pub const MOST_VERTICES: usize = 4096;
@@ -23,14 +26,22 @@ const MOST_WEIGHT: u64 = 2147483647;
 // "pass limit above 1,024 (FM, KL)" is number 7
 pub const MOST_PASSES: u32 = 1024;
 
-// The load of each of the sixteen parts.
+// The ceiling's choices are 0 to 3.
+const LAST_CHOICE: u32 = 3;
+
+// The bits of 64.0, and those of -0.0.
+const MOST_BITS: u64 = 0x4050_0000_0000_0000;
+
+const NEGATIVE_ZERO_BITS: u64 = 0x8000_0000_0000_0000;
+
+// The load of each of the sixteen parts. Loads and ceilings are two types, so that neither stands for the other.
 #[repr(C)]
 #[derive(Clone, Copy)]
 pub struct Loads {
     pub at: [u64; 16],
 }
 
-// What the stand-alone loads answer: document 01's number, and the loads where it is 0.
+// What the stand-alone loads answer: document 01's number, and the loads where it is 0. C reads it, so that the refusal is a number.
 #[repr(C)]
 #[derive(Clone, Copy)]
 pub struct LoadsAnswer {
@@ -38,7 +49,7 @@ pub struct LoadsAnswer {
     pub loads: Loads,
 }
 
-// What a caller asks of the ceiling: its choice, the whole number, the imbalance e, and the whole number of each part. What the choice does not use is not looked at.
+// What a caller asks of the ceiling: its choice, the whole number, the imbalance e, and the whole number of each part. What the choice does not use is not looked at. C writes it, so that the choice is a number.
 #[repr(C)]
 #[derive(Clone, Copy)]
 pub struct Ceiling {
@@ -58,15 +69,13 @@ pub struct Ceilings {
 pub fn over_limit(weights: &[u32]) -> bool
     ensures { result ≡ heavy weights.now }
 {
-    let mut rest: u64 = MOST_WEIGHT;
-    let mut i: usize = 0;
-    while i < weights.len() {
-        let w = lists::wide(weights[i]);
+    let mut rest = MOST_WEIGHT;
+    for weight in weights {
+        let w = u64::from(*weight);
         if rest < w {
             return true;
         }
         rest -= w;
-        i += 1;
     }
     false
 }
@@ -75,14 +84,7 @@ pub fn over_limit(weights: &[u32]) -> bool
 pub fn label_above(labels: &[u32], most: u32) -> bool
     ensures { result ≡ label_above most labels.now }
 {
-    let mut v: usize = 0;
-    while v < labels.len() {
-        if most < labels[v] {
-            return true;
-        }
-        v += 1;
-    }
-    false
+    labels.iter().any(|label| most < *label)
 }
 
 // The sum of weights within their limit.
@@ -90,13 +92,7 @@ pub fn total_weight(weights: &[u32]) -> u64
     requires { total weights.now ≤ most_weight }
     ensures { result ≡ total weights.now }
 {
-    let mut sum: u64 = 0;
-    let mut i: usize = 0;
-    while i < weights.len() {
-        sum += lists::wide(weights[i]);
-        i += 1;
-    }
-    sum
+    weights.iter().map(|w| u64::from(*w)).sum()
 }
 
 // The load of each part.
@@ -105,11 +101,8 @@ pub fn parts_load(weights: &[u32], labels: &[u32]) -> Loads
     ensures { result ≡ loads_of weights.now labels.now }
 {
     let mut at = [0u64; 16];
-    let mut v: usize = 0;
-    while v < labels.len() {
-        let t = lists::index_at(labels, v);
-        at[t] = at[t] + lists::wide(weights[v]);
-        v += 1;
+    for (v, label) in labels.iter().enumerate() {
+        at[*label as usize] += u64::from(weights[v]);
     }
     Loads { at }
 }
@@ -119,84 +112,68 @@ pub fn moved_loads(loads: Loads, old: u32, new: u32, w: u32) -> Loads
     requires { (old < 16) × (new < 16) × (length loads.at ≡ 16) × (w ≤ slice_index loads.at old) × (slice_index loads.at new ≤ most_weight) }
     ensures { result.at ≡ loads_moved loads.at old new w }
 {
-    let from = lists::index(old);
-    let to = lists::index(new);
-    let at = loads.at;
+    let from = old as usize;
+    let to = new as usize;
     let mut next = loads;
-    next.at[from] = at[from] - lists::wide(w);
-    next.at[to] = at[to] + lists::wide(w);
+    next.at[from] = loads.at[from] - u64::from(w);
+    next.at[to] = loads.at[to] + u64::from(w);
     next
 }
 
-// The number of a call of the stand-alone loads.
-fn loads_number(weights: &[u32], labels: &[u32]) -> u32
-    ensures { result ≡ loads_number weights.now labels.now }
+// Why a call of the stand-alone loads is refused.
+fn check_loads(weights: &[u32], labels: &[u32]) -> Result<(), Refusal>
+    ensures { number_in result ≡ loads_number weights.now labels.now }
 {
     if weights.len() != labels.len() {
-        return 1;
+        return Err(Refusal::Lengths);
     }
     if MOST_VERTICES < labels.len() {
-        return 2;
+        return Err(Refusal::Limits);
     }
     if over_limit(weights) {
-        return 5;
+        return Err(Refusal::Weights);
     }
     if label_above(labels, 15) {
-        return 6;
+        return Err(Refusal::Labels);
     }
-    0
+    Ok(())
 }
 
 // The load of each part, for every input: the stand-alone call.
 pub fn compute_parts_load(weights: &[u32], labels: &[u32]) -> LoadsAnswer
     ensures { result ≡ loads_answer weights.now labels.now }
 {
-    let number = loads_number(weights, labels);
-    if number != 0 {
-        let none = Loads { at: [0; 16] };
+    if let Err(refusal) = check_loads(weights, labels) {
         return LoadsAnswer {
-            number,
-            loads: none,
+            number: u32::from(refusal),
+            loads: Loads { at: [0; 16] },
         };
     }
-    let loads = parts_load(weights, labels);
-    LoadsAnswer { number: 0, loads }
+    LoadsAnswer {
+        number: 0,
+        loads: parts_load(weights, labels),
+    }
 }
 
 // Whether the bits are those of an e from 0.0 to 64.0, or of -0.0. No NaN is: its bits are above those of 64.0.
 pub fn legal_bits(bits: u64) -> bool
     ensures { result ≡ legal_e (from_bits binary64 bits) }
 {
-    if bits <= 0x4050_0000_0000_0000 {
-        return true;
-    }
-    bits == 0x8000_0000_0000_0000
+    bits <= MOST_BITS || bits == NEGATIVE_ZERO_BITS
 }
 
 // Whether e is from 0.0 to 64.0, -0.0 included. It is judged by its bits, so that no mode of the processor that takes the least numbers for zero bears on it; a NaN, which alone differs from itself, has no bits of its own.
 pub fn legal_e(e: f64) -> bool
     ensures { result ≡ legal_e e }
 {
-    if e != e {
-        return false;
-    }
-    legal_bits(f64::to_bits(e))
+    !e.is_nan() && legal_bits(e.to_bits())
 }
 
 // Number 7's test of the choice. What the choice does not use is not looked at: e may be a NaN with every choice but 2.
 pub fn unfit_choice(asked: Ceiling) -> bool
     ensures { result ≡ unfit_choice asked }
 {
-    if 3 < asked.choice {
-        return true;
-    }
-    if asked.choice != 2 {
-        return false;
-    }
-    if legal_e(asked.imbalance) {
-        return false;
-    }
-    true
+    LAST_CHOICE < asked.choice || asked.choice == 2 && !legal_e(asked.imbalance)
 }
 
 // The ceiling from the imbalance: one rounding per operation, then the whole number at or below.
@@ -213,14 +190,9 @@ pub fn ceiling_by(total: u64, parts: u32, e: f64) -> u64
 fn largest_load(loads: Loads) -> u64
     ensures { result ≡ largest 16 (λ t. slice_index loads.at t) }
 {
-    let at = loads.at;
-    let mut most: u64 = 0;
-    let mut t: usize = 0;
-    while t < 16 {
-        if most < at[t] {
-            most = at[t];
-        }
-        t += 1;
+    let mut most = 0;
+    for load in &loads.at {
+        most = most.max(*load);
     }
     most
 }
@@ -230,27 +202,20 @@ fn ceiling_of(loads: Loads, total: u64, parts: u32, asked: Ceiling) -> u64
     requires { (total ≤ most_weight) × (0 < parts) × (parts ≤ 16) × (unfit_choice asked ≡ false) × (asked.choice ≤ 2) }
     ensures { result ≡ ceiling loads.at total parts asked }
 {
-    if asked.choice == 0 {
-        return largest_load(loads);
+    match asked.choice {
+        0 => largest_load(loads),
+        1 => u64::from(asked.whole),
+        _ => ceiling_by(total, parts, asked.imbalance),
     }
-    if asked.choice == 1 {
-        return lists::wide(asked.whole);
-    }
-    ceiling_by(total, parts, asked.imbalance)
 }
 
 // The whole number of each part, as ceilings.
 fn ceilings_by_part(asked: Ceiling) -> Ceilings
     ensures { result.at ≡ table 16 (λ t. slice_index asked.each t) }
 {
-    let each = asked.each;
-    let mut at = [0u64; 16];
-    let mut part: usize = 0;
-    while part < 16 {
-        at[part] = lists::wide(each[part]);
-        part += 1;
+    Ceilings {
+        at: asked.each.map(|ceiling| u64::from(ceiling)),
     }
-    Ceilings { at }
 }
 
 // The ceilings by part: with choice 3 each part has its own, with the others all have one.

@@ -7,11 +7,14 @@ use native.Mathlib.Omega.{arith}
 use lib.ListN.{length, get_or, drop, length-append, length-drop}
 use lib.Seq.{ext_get_or, get_or-append-add, get_or-drop}
 use lib.Dec.{ltb, eqb}
-use borrow.Author.Tests.{eq-eqb, ne_eqb, eqb-true, ltb-true, ltb-false, not-false}
+use borrow.Author.Tests.{eq-eqb, eqb-true, ltb-true, ltb-false, not-false}
 use Rattle.lists.specs.Sum.{weigh}
 use Rattle.lists.specs.All.{any}
 use Rattle.lists.specs.Fill.{filled}
 use Rattle.lists.proofs.Bools.{or-false}
+use Rattle.lists.specs.declared.refusal.Refusal.{Refusal}
+use Rattle.lists.specs.Refusal.{number_of as refusal_number}
+use Rattle.lists.proofs.Refusals.{not-done}
 use Rattle.lists.proofs.Numbers.{or-else-zero, not-given}
 use Rattle.lists.proofs.Totals.{sum-ext, sum-zero}
 use Rattle.lists.proofs.Alls.{any_none}
@@ -33,13 +36,13 @@ none-used labels e =
     ∙ sum-zero 16
 
 -- what number 0 gives to the run; that it is given exactly where every rule is kept is in Refusals.antt
-pub ready : (p : Given) (l : Lent) (k : ℕ) → k ≡ number p l → k ≡ 0 → Ready (graph_of p) p.settings l
+pub ready : (p : Given) (l : Lent) → number p l ≡ 0 → Ready (graph_of p) p.settings l
 unfolding number_of mislabelled short
-ready p l k e z =
+ready p l z =
     let n = length l.labels in
     let eight : ℕ = cond (short n (lengths_of l)) 8 0 in
     let seven : ℕ = cond (ltb most_passes p.settings.passes) 7 eight in
-    let one = or-else-zero (graph_number n p.weights (graph_of p)) (cond (mislabelled l.labels) 6 seven) (sym e ∙ z) in
+    let one = or-else-zero (graph_number n p.weights (graph_of p)) (cond (mislabelled l.labels) 6 seven) z in
     let six = not-given (mislabelled l.labels) 5 seven one.1 in
     let passes = not-given (ltb most_passes p.settings.passes) 6 eight six.1 in
     let places = not-given (short n (lengths_of l)) 7 0 passes.1 in
@@ -90,16 +93,16 @@ same-lent a b c d = λ i. record { labels = a i; gains = b i; locks = c i; swaps
 same-report : {r q : Report} → r.number ≡ q.number → r.end ≡ q.end → r.passes ≡ q.passes → r.first ≡ q.first → r.last ≡ q.last → r ≡ q
 same-report a b c d e = λ i. record { number = a i; end = b i; passes = c i; first = d i; last = e i }
 
-pub at-refusal : (p : Given) (l : Lent) (r : Report) (k : ℕ) → k ≡ number p l → (k ≡ 0 → ⊥) → r ≡ refused k → Refined p l r l
+pub at-refusal : (p : Given) (l : Lent) (r : Report) (refusal : Refusal) → refusal_number refusal ≡ number p l → r ≡ refused (refusal_number refusal) → Refined p l r l
 unfolding answer left
-at-refusal p l r k e u f =
-    let v = ne_eqb (number p l) 0 (λ q. u (e ∙ q)) in
+at-refusal p l r refusal e f =
+    let v : eqb (number p l) 0 ≡ false = rw (← e) (not-done refusal) in
     record { answered = rw v (f ∙ ap refused e); labels = rw v refl; gains = rw v refl; locks = rw v refl; swaps = rw v refl }
 
-pub at-run : (p : Given) (l : Lent) (r : Report) (m : Lent) (k : ℕ) → k ≡ number p l → k ≡ 0 → Ran (graph_of p) p.settings l r m → Refined p l r m
+pub at-run : (p : Given) (l : Lent) (r : Report) (m : Lent) → number p l ≡ 0 → Ran (graph_of p) p.settings l r m → Refined p l r m
 unfolding answer left report_of left_by run_of
-at-run p l r m k e z h =
-    let v = eq-eqb (number p l) 0 (sym e ∙ z) in
+at-run p l r m z h =
+    let v = eq-eqb (number p l) 0 z in
     let d = h.passed in
     record {
       answered = rw v (same-report d.number_is d.end_is d.passes_are d.first_is d.last_is);

@@ -40,18 +40,6 @@ pub record Passing (s : Terms) (most passes : ℕ) (p₀ : List ℕ) (i last : �
   pub rest : run s most (passes - i) i labels ≡ run s most passes 0 p₀
 
 module _ (s : Terms) (most passes : ℕ) (p₀ : List ℕ) where
-  pub passing-start : (gains : List ℤ) (locks swaps : List ℕ) (last : ℕ) → PassesAsked s.graph p₀ gains locks swaps passes → last ≡ cut s.graph p₀ → Passing s most passes p₀ 0 last p₀ gains locks swaps
-  passing-start gains locks swaps last h e =
-      record {
-        upto = omega arith;
-        long = refl;
-        gains_long = h.gains_long;
-        locks_long = h.locks_long;
-        swaps_long = h.swaps_long;
-        last_is = e;
-        rest = let r : passes - 0 ≡ passes = omega arith in rw r;
-      }
-
   module _ (i last : ℕ) (labels : List ℕ) (gains : List ℤ) (locks swaps : List ℕ) (on : Passing s most passes p₀ i last labels gains locks swaps) where
     pub lent-long : (limit : ℕ) → limit ≡ min most (length p₀ / 2) → length p₀ ≤ most_vertices → LentLong labels gains locks (length swaps) limit
     lent-long limit e few =

@@ -1,8 +1,10 @@
 // What a call answers: a refusal, and the report of a run. Document 01, "KL" and "Numbers a call gives back".
 ghost use Rattle.std.specs.Prelude.{◌≡◌};
+ghost use Rattle.lists.specs.End.{end_number};
 ghost use Rattle.kernighan_lin.specs.Entry.{refused};
 
 use crate::Report;
+use lists::End;
 
 // A report of zeros but for the number.
 pub fn bare_report(number: u32) -> Report
@@ -18,12 +20,12 @@ pub fn bare_report(number: u32) -> Report
 }
 
 // The report of a run.
-pub fn run_report(end: u32, passes: u32, first: u64, last: u64) -> Report
-    ensures { result ≡ record { number = 0; end = end; passes = passes; first = first; last = last } }
+pub fn run_report(end: End, passes: u32, first: u64, last: u64) -> Report
+    ensures { result ≡ record { number = 0; end = end_number end; passes = passes; first = first; last = last } }
 {
     Report {
         number: 0,
-        end,
+        end: u32::from(end),
         passes,
         first,
         last,

@@ -1,16 +1,18 @@
 // Kernighan-Lin between two parts: coupe's algorithms/kernighan_lin.rs. Document 01, "KL".
 #![tactic(auto)]
 
-mod answers;
-mod number;
+mod answers; // answers.rt: what a call answers
+mod number; // number.rt: why a call is refused
 
+ghost use Rattle.topology.specs.Given.{given};
 ghost use Rattle.std.specs.Prelude.{◌≡◌, ◌/◌, min, get_or};
-ghost use Rattle.topology.specs.Graph.{in_rows};
 ghost use Rattle.kernighan_lin_pass.specs.inner.Steps.{terms_by};
 ghost use Rattle.kernighan_lin.specs.Entry.{Refined};
 ghost use Rattle.kernighan_lin.specs.inner.Steps.{PassesAsked, PassesDone, Ready, Ran};
 
-use kernighan_lin_pass::Limits;
+use kernighan_lin_pass::{Frame, Limits};
+use lists::End;
+use topology::Graph;
 
 // The limits of a run: passes, swaps in a pass, and bad swaps.
 #[repr(C)]
@@ -21,7 +23,7 @@ pub struct Settings {
     pub bad: u32,
 }
 
-// What a call answers: document 01's number, and where it is 0 the end, the passes, and the cut before and after.
+// What a call answers: document 01's number, and where it is 0 the end, the passes, and the cut before and after. C reads it, so that refusal and end are numbers.
 #[repr(C)]
 #[derive(Clone, Copy)]
 pub struct Report {
@@ -44,12 +46,7 @@ pub struct Lengths {
 fn most_swaps(limit: u32, n: usize) -> usize
     ensures { result ≡ min limit (n / 2) }
 {
-    let half = n / 2;
-    let most = lists::index(limit);
-    if most < half {
-        return most;
-    }
-    half
+    (limit as usize).min(n / 2)
 }
 
 // What bounds a pass of n vertices.
@@ -64,86 +61,68 @@ fn limits_of(settings: Settings, n: usize) -> Limits
 
 // The passes, from labels, lists and settings that are in order. The first part is that of vertex 0, for all passes.
 fn make_passes(
-    starts: &[u32],
-    neighbours: &[u32],
-    arc_weights: &[u32],
+    graph: &Graph,
     labels: &mut [u32],
     gains: &mut [i64],
     locks: &mut [u8],
     swaps: &mut [u32],
     settings: Settings,
 ) -> Report
-    requires { PassesAsked (in_rows starts.now neighbours.now arc_weights.now) labels.old gains.old locks.old swaps.old settings.passes }
-    ensures { PassesDone (terms_by (in_rows starts.now neighbours.now arc_weights.now) (get_or labels.old 0 0) settings.bad) settings.swaps settings.passes labels.old result labels.new }
+    requires { PassesAsked graph.now labels.old gains.old locks.old swaps.old settings.passes }
+    ensures { PassesDone (terms_by graph.now (get_or labels.old 0 0) settings.bad) settings.swaps settings.passes labels.old result labels.new }
 {
-    let first = labels[0];
-    let limits = limits_of(settings, labels.len());
-    let before = topology::cut_of(starts, neighbours, arc_weights, labels);
+    let frame = Frame {
+        graph,
+        first: labels[0],
+        limits: limits_of(settings, labels.len()),
+    };
+    let before = graph.cut_of(labels);
     let mut last = before;
-    let mut i: u32 = 0;
-    while i < settings.passes {
-        let after = kernighan_lin_pass::make_pass(
-            starts,
-            neighbours,
-            arc_weights,
-            labels,
-            gains,
-            locks,
-            swaps,
-            first,
-            limits,
-            last,
-        );
-        i += 1;
+    for i in 0..settings.passes {
+        let after = kernighan_lin_pass::make_pass(&frame, labels, gains, locks, swaps, last);
         if last <= after {
-            return answers::run_report(1, i, before, after);
+            return answers::run_report(End::NoGain, i + 1, before, after);
         }
         last = after;
     }
-    answers::run_report(0, i, before, last)
+    answers::run_report(End::PassLimit, settings.passes, before, last)
 }
 
 // The run of a call to which no number applies. The lent lists may be longer than is needed: the run has their fronts, and these are zeros afterwards.
 fn refine(
-    starts: &[u32],
-    neighbours: &[u32],
-    arc_weights: &[u32],
+    graph: &Graph,
     labels: &mut [u32],
     gains: &mut [i64],
     locks: &mut [u8],
     swaps: &mut [u32],
     settings: Settings,
 ) -> Report
-    requires { Ready (in_rows starts.now neighbours.now arc_weights.now) settings (record { labels = labels.now; gains = gains.old; locks = locks.old; swaps = swaps.old }) }
+    requires { Ready graph.now settings (record { labels = labels.old; gains = gains.old; locks = locks.old; swaps = swaps.old }) }
     ensures { Ran
-        (in_rows starts.now neighbours.now arc_weights.now) settings
-        (record { labels = labels.entry.now; gains = gains.old; locks = locks.old; swaps = swaps.old })
+        graph.now settings
+        (record { labels = labels.old; gains = gains.old; locks = locks.old; swaps = swaps.old })
         result
-        (record { labels = labels.exit.now; gains = gains.new; locks = locks.new; swaps = swaps.new }) }
+        (record { labels = labels.new; gains = gains.new; locks = locks.new; swaps = swaps.new }) }
 {
     let n = labels.len();
     let half = n / 2;
     let report = make_passes(
-        starts,
-        neighbours,
-        arc_weights,
+        graph,
         labels,
         &mut gains[..n],
         &mut locks[..n],
         &mut swaps[..half],
         settings,
     );
-    lists::clear_gains(gains, n);
-    lists::clear_bytes(locks, n);
-    lists::clear_numbers(swaps, half);
+    lists::fill(gains, n, 0);
+    lists::fill(locks, n, 0);
+    lists::fill(swaps, half, 0);
     report
 }
 
-// The call, for every input.
+// The call, for every input. C lends each list by itself.
 pub fn kernighan_lin(
-    starts: &[u32],
-    neighbours: &[u32],
-    arc_weights: &[u32],
+    graph: &Graph,
     weights: &[u32],
     labels: &mut [u32],
     gains: &mut [i64],
@@ -152,31 +131,14 @@ pub fn kernighan_lin(
     settings: Settings,
 ) -> Report
     ensures { Refined
-        (record { starts = starts.entry.now; neighbours = neighbours.now; arcs = arc_weights.now; weights = weights.now; settings = settings })
-        (record { labels = labels.entry.now; gains = gains.old; locks = locks.old; swaps = swaps.old })
+        (given graph.now weights.now settings)
+        (record { labels = labels.old; gains = gains.old; locks = locks.old; swaps = swaps.old })
         result
-        (record { labels = labels.exit.now; gains = gains.new; locks = locks.new; swaps = swaps.new }) }
+        (record { labels = labels.new; gains = gains.new; locks = locks.new; swaps = swaps.new }) }
 {
-    let number = number::number_of(
-        starts,
-        neighbours,
-        arc_weights,
-        weights,
-        labels,
-        number::lengths_of(gains, locks, swaps),
-        settings.passes,
-    );
-    if number != 0 {
-        return answers::bare_report(number);
+    let lengths = number::lengths_of(gains, locks, swaps);
+    if let Err(refusal) = number::check(graph, weights, labels, lengths, settings.passes) {
+        return answers::bare_report(u32::from(refusal));
     }
-    refine(
-        starts,
-        neighbours,
-        arc_weights,
-        labels,
-        gains,
-        locks,
-        swaps,
-        settings,
-    )
+    refine(graph, labels, gains, locks, swaps, settings)
 }

@@ -1,35 +1,28 @@
-// The number of a call. Document 01, "Numbers a call gives back".
+// Why a call is refused. Document 01, "Numbers a call gives back".
 ghost use Rattle.std.specs.Prelude.{◌≡◌, length};
-ghost use Rattle.topology.specs.Graph.{in_rows};
+ghost use Rattle.lists.specs.Refusal.{number_in};
 ghost use Rattle.kernighan_lin.specs.Entry.{uses, different, mislabelled, short, number_of};
 
 use crate::Lengths;
+use lists::Refusal;
+use topology::Graph;
 
 // Whether some vertex has label t.
 fn has_label(labels: &[u32], t: u32) -> bool
     ensures { result ≡ uses labels.now t }
 {
-    let mut v: usize = 0;
-    while v < labels.len() {
-        if labels[v] == t {
-            return true;
-        }
-        v += 1;
-    }
-    false
+    labels.iter().any(|label| *label == t)
 }
 
 // How many different labels there are, of 0 to 15.
 fn different_labels(labels: &[u32]) -> u32
     ensures { result ≡ different labels.now }
 {
-    let mut count: u32 = 0;
-    let mut t: u32 = 0;
-    while t < 16 {
+    let mut count = 0;
+    for t in 0..16 {
         if has_label(labels, t) {
             count += 1;
         }
-        t += 1;
     }
     count
 }
@@ -38,15 +31,12 @@ fn different_labels(labels: &[u32]) -> u32
 fn mislabels(labels: &[u32]) -> bool
     ensures { result ≡ mislabelled labels.now }
 {
-    if imbalance::label_above(labels, 15) {
-        return true;
-    }
-    different_labels(labels) != 2
+    imbalance::label_above(labels, 15) || different_labels(labels) != 2
 }
 
 // The lengths of the lent lists.
 pub fn lengths_of(gains: &[i64], locks: &[u8], swaps: &[u32]) -> Lengths
-    ensures { result ≡ record { gains = length gains.entry.now; locks = length locks.now; swaps = length swaps.now } }
+    ensures { result ≡ record { gains = length gains.now; locks = length locks.now; swaps = length swaps.now } }
 {
     Lengths {
         gains: gains.len(),
@@ -59,40 +49,29 @@ pub fn lengths_of(gains: &[i64], locks: &[u8], swaps: &[u32]) -> Lengths
 fn too_short(n: usize, lengths: Lengths) -> bool
     ensures { result ≡ short n lengths }
 {
-    if lengths.gains < n {
-        return true;
-    }
-    if lengths.locks < n {
-        return true;
-    }
-    lengths.swaps < n / 2
+    lengths.gains < n || lengths.locks < n || lengths.swaps < n / 2
 }
 
-// The smallest number that applies.
-pub fn number_of(
-    starts: &[u32],
-    neighbours: &[u32],
-    arc_weights: &[u32],
+// The first number that applies.
+pub fn check(
+    graph: &Graph,
     weights: &[u32],
     labels: &[u32],
     lengths: Lengths,
     passes: u32,
-) -> u32
-    ensures { result ≡ number_of (in_rows starts.now neighbours.now arc_weights.now) weights.now labels.now lengths passes }
+) -> Result<(), Refusal>
+    ensures { number_in result ≡ number_of graph.now weights.now labels.now lengths passes }
 {
     let n = labels.len();
-    let number = topology::graph_number(starts, neighbours, arc_weights, weights, n);
-    if number != 0 {
-        return number;
-    }
+    graph.check(weights, n)?;
     if mislabels(labels) {
-        return 6;
+        return Err(Refusal::Labels);
     }
     if imbalance::MOST_PASSES < passes {
-        return 7;
+        return Err(Refusal::Settings);
     }
     if too_short(n, lengths) {
-        return 8;
+        return Err(Refusal::Lent);
     }
-    0
+    Ok(())
 }

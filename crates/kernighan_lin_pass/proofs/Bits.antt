@@ -55,9 +55,3 @@ module _ (b m : ℕ) (g : ℤ) (hm : m < 2 ^ 60) (hb : b ≤ m) (hg : mag g ≤ 
 
   rest-kept : to_z w64 (of_z w64 (to_z w64 b -ℤ to_z w64 (of_z w64 g))) ≡ pos rest.0
   rest-kept = to_z-of_z w64 (to_z w64 b -ℤ to_z w64 (of_z w64 g)) rest-fits ∙ rest_read
-
-  pub rest-cast : T (non_neg (to_z w64 (of_z w64 (to_z w64 b -ℤ to_z w64 (of_z w64 g))))) × Fits w64 (nat_abs (to_z w64 (of_z w64 (to_z w64 b -ℤ to_z w64 (of_z w64 g)))))
-  rest-cast = let l = rest.2 in rw rest-kept (tt, record { fits = omega arith })
-
-  pub rest-is : pos (nat_abs (to_z w64 (of_z w64 (to_z w64 b -ℤ to_z w64 (of_z w64 g))))) ≡ pos b -ℤ g
-  rest-is = rw rest-kept (sym rest.1)

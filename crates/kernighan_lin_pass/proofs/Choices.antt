@@ -19,7 +19,8 @@ use Rattle.lists.proofs.Bools.{and_left, and_right}
 use Rattle.lists.proofs.Orders.{clash}
 use Rattle.imbalance.specs.Load.{part}
 use Rattle.kernighan_lin_pass.specs.Gain.{on_side, largest}
-use Rattle.kernighan_lin_pass.specs.inner.Steps.{Within, most_gain, place_of}
+use Rattle.kernighan_lin_pass.specs.inner.Steps.{Within, most_gain, found}
+use Rattle.std.specs.Prelude.{Option as Found, Some, None}
 
 pub and-true : (t : Bool) → t && true ≡ t
 and-true true = refl
@@ -27,26 +28,8 @@ and-true false = refl
 
 -- the test of one vertex: locked, on the other side, or left to its gain
 module _ (label first : ℕ) (side : Bool) (lock : ℕ) (most gain : ℤ) where
-  pub not-locked : (lock ≡ 0 → ⊥) → false ≡ (eqb lock 0 && on_side side first label) && le_z most gain
-  not-locked h = rw (ne_eqb lock 0 h)
-
-  pub off-side : lock ≡ 0 → on_side side first label ≡ false → false ≡ (eqb lock 0 && on_side side first label) && le_z most gain
-  off-side h o = rw (eq-eqb lock 0 h, o)
-
   pub by-gain : lock ≡ 0 → on_side side first label ≡ true → SFits w64 most → SFits w64 gain → le_z (to_z w64 (of_z w64 most)) (to_z w64 (of_z w64 gain)) ≡ (eqb lock 0 && on_side side first label) && le_z most gain
   by-gain h o f k = rw (eq-eqb lock 0 h, o) (ap₂ le_z (to_z-of_z w64 most f) (to_z-of_z w64 gain k))
-
-pub in-first : (first label : ℕ) (side : Bool) → side ≡ true → label ≡ first → on_side side first label ≡ true
-in-first first label side s e = rw s (eq-eqb label first e)
-
-pub not-in-first : (first label : ℕ) (side : Bool) → side ≡ true → (label ≡ first → ⊥) → on_side side first label ≡ false
-not-in-first first label side s e = rw s (ne_eqb label first e)
-
-pub in-second : (first label : ℕ) (side : Bool) → side ≡ false → (label ≡ first → ⊥) → on_side side first label ≡ true
-in-second first label side s e = rw s (ap not (ne_eqb label first e))
-
-pub not-in-second : (first label : ℕ) (side : Bool) → side ≡ false → label ≡ first → on_side side first label ≡ false
-not-in-second first label side s e = rw s (ap not (eq-eqb label first e))
 
 -- -2^62 is below every gain
 abbrev pub lowest : ℤ
@@ -70,16 +53,16 @@ module _ (first : ℕ) (side : Bool) (p : List ℕ) (gains : List ℤ) (locks : 
   sofar v = best free (λ i u. le_z (get_or gains u (pos 0)) (get_or gains i (pos 0))) v
 
   -- what is held of them: the place, and the gain
-  pub record SoFar (v at : ℕ) (most : ℤ) : Type 0 where
+  pub record SoFar (v : ℕ) (at : Found ℕ) (most : ℤ) : Type 0 where
     pub upto : v ≤ length p
-    pub at-is : at ≡ place_of (length p) (sofar v)
+    pub at-is : at ≡ found (sofar v)
     pub most-is : most ≡ worth_of gains (sofar v)
 
-  pub so-far-none : SoFar 0 (length p) lowest
+  pub so-far-none : SoFar 0 None lowest
   unfolding best
   so-far-none = record { upto = omega arith; at-is = refl; most-is = refl }
 
-  module _ (small : Within (2 * most_gain) gains) (v at : ℕ) (most : ℤ) (h : SoFar v at most) (l : v < length p) where
+  module _ (small : Within (2 * most_gain) gains) (v : ℕ) (at : Found ℕ) (most : ℤ) (h : SoFar v at most) (l : v < length p) where
     abbrev offered : Option ℕ → Option ℕ
     offered o = offer (free v) (λ i u. le_z (get_or gains u (pos 0)) (get_or gains i (pos 0))) v o
 
@@ -103,7 +86,7 @@ module _ (first : ℕ) (side : Bool) (p : List ℕ) (gains : List ℤ) (locks : 
         go true q = rw q
         go false q = refl
 
-    pub step-taken : free v && le_z most (get_or gains v (pos 0)) ≡ true → SoFar (v + 1) v (get_or gains v (pos 0))
+    pub step-taken : free v && le_z most (get_or gains v (pos 0)) ≡ true → SoFar (v + 1) (Some v) (get_or gains v (pos 0))
     step-taken e =
         let o = more ∙ takes-v (sofar v) (rw h.most-is at e) in
         record { upto = omega arith; at-is = rw o refl; most-is = rw o refl }
@@ -113,7 +96,7 @@ module _ (first : ℕ) (side : Bool) (p : List ℕ) (gains : List ℤ) (locks : 
         let o = more ∙ leaves-v (sofar v) (rw h.most-is at e) in
         record { upto = omega arith; at-is = rw o h.at-is; most-is = rw o h.most-is }
 
-  pub so-far-all : (v at : ℕ) (most : ℤ) → SoFar v at most → length p ≤ v → at ≡ place_of (length p) (largest (λ u. true) first side p gains locks)
+  pub so-far-all : (v : ℕ) (at : Found ℕ) (most : ℤ) → SoFar v at most → length p ≤ v → at ≡ found (largest (λ u. true) first side p gains locks)
   unfolding largest
   so-far-all v at most h l =
       let u = h.upto in

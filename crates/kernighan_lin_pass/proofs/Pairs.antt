@@ -13,7 +13,8 @@ use Rattle.lists.proofs.Bests.{best-in}
 use Rattle.imbalance.specs.Load.{part}
 use Rattle.kernighan_lin_pass.specs.Gain.{added, updated, on_side, largest}
 use Rattle.kernighan_lin_pass.specs.Pass.{Terms, Swap, pair}
-use Rattle.kernighan_lin_pass.specs.inner.Steps.{place_of, pair_at, Chose}
+use Rattle.std.specs.Prelude.{Option as Found, Some, None}
+use Rattle.kernighan_lin_pass.specs.inner.Steps.{found, pair_at, Chose}
 use Rattle.kernighan_lin_pass.specs.declared.choose.Pair.{Pair}
 
 -- the vertex taken is one of the n, may move, is unlocked, and is on its side
@@ -22,14 +23,23 @@ unfolding largest
 largest-in movable first side p gains locks v e =
     best-in (λ u. movable u && (eqb (get_or locks u 0) 0 && on_side side first (part p u))) (λ i u. le_z (get_or gains u (pos 0)) (get_or gains i (pos 0))) (length p) v e
 
--- a place that is n is nobody's, and any other is the vertex
-pub place_none : (n v : ℕ) (o : Option ℕ) → ((u : ℕ) → o ≡ some u → u < n) → v ≡ place_of n o → v ≡ n → o ≡ none
-place_none n v none h e q = refl
-place_none n v (some u) h e q = let l = h u refl in absurd (omega arith)
+-- what the code found is the vertex chosen, and it found none where none is
+pub found-none : (o : Option ℕ) (r : Found ℕ) → r ≡ found o → r ≡ None → o ≡ none
+found-none none r e q = refl
+found-none (some u) r e q = let o : ◌≡◌ {A = ℕ} 0 1 = clash (sym q ∙ e) in absurd (omega arith)
+  where
+    clash : ◌≡◌ {A = Found ℕ} None (Some u) → ◌≡◌ {A = ℕ} 0 1
+    clash f = cc
 
-pub place-some : (n v : ℕ) (o : Option ℕ) → v ≡ place_of n o → (v ≡ n → ⊥) → o ≡ some v
-place-some n v none e q = absurd (q e)
-place-some n v (some u) e q = ap some (sym e)
+pub found-some : (o : Option ℕ) (r : Found ℕ) (v : ℕ) → r ≡ found o → r ≡ Some v → o ≡ some v
+found-some none r v e q = let o : ◌≡◌ {A = ℕ} 0 1 = clash (sym e ∙ q) in absurd (omega arith)
+  where
+    clash : ◌≡◌ {A = Found ℕ} None (Some v) → ◌≡◌ {A = ℕ} 0 1
+    clash f = cc
+found-some (some u) r v e q = ap some (same (sym e ∙ q))
+  where
+    same : Some u ≡ Some v → u ≡ v
+    same f = cc
 
 module _ (s : Terms) (p : List ℕ) (before : List ℤ) (locks : List ℕ) where
   abbrev gains : List ℤ
@@ -87,20 +97,20 @@ module _ (s : Terms) (p : List ℕ) (before : List ℤ) (locks : List ℕ) where
       go (some v) q e = second v q (choice-two v) refl e
 
   -- what the code answers
-  pub chose_none : (r : Pair) (left : List ℤ) → pair s p before locks ≡ none → r ≡ record { one = length p; two = length p } → Chose s p before locks r left
+  pub chose_none : (r : Found Pair) (left : List ℤ) → pair s p before locks ≡ none → r ≡ None → Chose s p before locks r left
   chose_none r left e q =
       record {
-        pair_is = q ∙ ap (pair_at (length p)) (sym e);
+        pair_is = q ∙ ap pair_at (sym e);
         gains_are = λ t f. (let o : ◌≡◌ {A = ℕ} 0 1 = clash t (sym e ∙ f) in absurd (omega arith));
       }
     where
       clash : (t : Swap) → ◌≡◌ {A = Option Swap} none (some t) → ◌≡◌ {A = ℕ} 0 1
       clash t f = cc
 
-  pub chose-some : (v w : ℕ) (left : List ℤ) → pair s p before locks ≡ some (record { one = v; two = w }) → left ≡ updated s.graph p v gains → Chose s p before locks (record { one = v; two = w }) left
+  pub chose-some : (v w : ℕ) (left : List ℤ) → pair s p before locks ≡ some (record { one = v; two = w }) → left ≡ updated s.graph p v gains → Chose s p before locks (Some (record { one = v; two = w })) left
   chose-some v w left e q =
       record {
-        pair_is = ap (pair_at (length p)) (sym e);
+        pair_is = ap pair_at (sym e);
         gains_are = λ t f. q ∙ ap (λ (x : ℕ). updated s.graph p x gains) (same t (sym e ∙ f));
       }
     where

@@ -13,6 +13,7 @@ use borrow.Author.Tests.{eqb-true, eqb-false}
 use Rattle.lists.proofs.Tables.{length-table}
 use Rattle.imbalance.specs.Limit.{most_vertices}
 use Rattle.topology.specs.Graph.{Graph}
+use Rattle.std.specs.Prelude.{Option as Found, Some, None}
 use Rattle.topology.specs.Cut.{cut}
 use Rattle.kernighan_lin_pass.specs.Gain.{added, updated}
 use Rattle.kernighan_lin_pass.specs.Pass.{Terms, Swap, State, swapped, start, pair, after, next, walk}
@@ -49,22 +50,28 @@ pair-below s p before locks t e =
     ((largest-in s.movable s.first true p (added s.graph p before) locks t.one c.0).0, (largest-in s.movable s.first false p (updated s.graph p t.one (added s.graph p before)) locks t.two c.1).0)
 
 -- what the answer says of the pair
-pub answer-none : (s : Terms) (p : List ℕ) (before : List ℤ) (locks : List ℕ) (r : Pair) → r ≡ pair_at (length p) (pair s p before locks) → r.one ≡ length p → pair s p before locks ≡ none
-answer-none s p before locks r e q = go (pair s p before locks) refl e
+pub answer-none : (s : Terms) (p : List ℕ) (before : List ℤ) (locks : List ℕ) (r : Found Pair) → r ≡ pair_at (pair s p before locks) → r ≡ None → pair s p before locks ≡ none
+answer-none s p before locks r e q = go (pair s p before locks) (sym q ∙ e)
   where
-    go : (o : Option Swap) → pair s p before locks ≡ o → r ≡ pair_at (length p) o → o ≡ none
-    go none f g = refl
-    go (some t) f g =
-        let l = (pair-below s p before locks t f).0 in
-        let k : r.one ≡ t.one = ap (λ (x : Pair). x.one) g in
-        absurd (omega arith)
+    clash : (x : Pair) → ◌≡◌ {A = Found Pair} None (Some x) → ◌≡◌ {A = ℕ} 0 1
+    clash x f = cc
 
-pub answer-some : (s : Terms) (p : List ℕ) (before : List ℤ) (locks : List ℕ) (r : Pair) → r ≡ pair_at (length p) (pair s p before locks) → (r.one ≡ length p → ⊥) → pair s p before locks ≡ some (record { one = r.one; two = r.two })
-answer-some s p before locks r e q = go (pair s p before locks) e
+    go : (o : Option Swap) → None ≡ pair_at o → o ≡ none
+    go none f = refl
+    go (some t) f = let z : ◌≡◌ {A = ℕ} 0 1 = clash _ f in absurd (omega arith)
+
+pub answer-some : (s : Terms) (p : List ℕ) (before : List ℤ) (locks : List ℕ) (r : Found Pair) (x : Pair) → r ≡ pair_at (pair s p before locks) → r ≡ Some x → pair s p before locks ≡ some (record { one = x.one; two = x.two })
+answer-some s p before locks r x e q = go (pair s p before locks) (sym e ∙ q)
   where
-    go : (o : Option Swap) → r ≡ pair_at (length p) o → o ≡ some (record { one = r.one; two = r.two })
-    go none g = absurd (q (ap (λ (x : Pair). x.one) g))
-    go (some t) g = rw g refl
+    clash : ◌≡◌ {A = Found Pair} None (Some x) → ◌≡◌ {A = ℕ} 0 1
+    clash f = cc
+
+    same : (y : Pair) → Some y ≡ Some x → y ≡ x
+    same y f = cc
+
+    go : (o : Option Swap) → pair_at o ≡ Some x → o ≡ some (record { one = x.one; two = x.two })
+    go none f = let z : ◌≡◌ {A = ℕ} 0 1 = clash f in absurd (omega arith)
+    go (some t) f = rw (sym (same _ f)) refl
 
 -- Where the code stands after the swaps that it has made.
 pub record On (s : Terms) (limit : ℕ) (p₀ labels : List ℕ) (gains : List ℤ) (locks codes : List ℕ) (cur : ℕ) (w : Walked) : Type 0 where
@@ -110,9 +117,6 @@ module _ (s : Terms) (limit : ℕ) (p₀ : List ℕ) (fit : Fit (length p₀) s.
 
     pub fit-now : Fit (length labels) s.graph
     fit-now = rw on.long fit
-
-    pub gains-small : limit ≤ most_swaps → Within most_gain gains
-    gains-small few u = let k' = on.upto in omega (arith, on.within u)
 
     ended : (labels' : List ℕ) → labels' ≡ labels → here ≡ walk s limit (start s p₀) → WalkDone s limit p₀ labels' codes w
     ended labels' f e =

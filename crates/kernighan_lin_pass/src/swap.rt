@@ -2,12 +2,14 @@
 ghost use Rattle.std.specs.Prelude.{◌≡◌, true, ◌<◌, ◌≤◌, length, set, pos, ◌-ℤ◌};
 ghost use Rattle.std.specs.Int.Signed.{mag, le_z};
 ghost use Rattle.imbalance.specs.Limit.{most_vertices};
-ghost use Rattle.topology.specs.Graph.{in_rows};
 ghost use Rattle.topology.specs.Cut.{cut};
 ghost use Rattle.kernighan_lin_pass.specs.Pass.{swapped};
 ghost use Rattle.kernighan_lin_pass.specs.inner.Steps.{Fit, most_gain, code_of, swap_of};
 
-// A noted swap is one number: the first vertex times this, and the second.
+use crate::choose::Pair;
+use topology::Graph;
+
+// A noted swap is one number, the first vertex times this, and the second: the C interface lends a list of u32 for them.
 const CODE_BASE: u32 = 65536;
 
 // The cut after it fell by a gain, or rose where the gain is negative.
@@ -19,36 +21,30 @@ fn fallen(before: u64, gain: i64) -> u64
     after as u64
 }
 
-// v and w exchange their labels; the cut is kept up to date from their two rows.
-pub fn swap_pair(
-    starts: &[u32],
-    neighbours: &[u32],
-    arc_weights: &[u32],
-    labels: &mut [u32],
-    v: usize,
-    w: usize,
-    before: u64,
-) -> u64
-    requires { Fit (length labels.old) (in_rows starts.now neighbours.now arc_weights.now) × (v < length labels.old) × (w < length labels.old) × (before ≡ cut (in_rows starts.now neighbours.now arc_weights.now) labels.old) }
-    ensures { (labels.new ≡ swapped labels.old (record { one = v; two = w })) × (result ≡ cut (in_rows starts.now neighbours.now arc_weights.now) (swapped labels.old (record { one = v; two = w }))) }
+// The two vertices exchange their labels; the cut is kept up to date from their two rows.
+pub fn swap_pair(graph: &Graph, labels: &mut [u32], pair: Pair, before: u64) -> u64
+    requires { Fit (length labels.old) graph.now × (pair.one < length labels.old) × (pair.two < length labels.old) × (before ≡ cut graph.now labels.old) }
+    ensures { (labels.new ≡ swapped labels.old (record { one = pair.one; two = pair.two })) × (result ≡ cut graph.now (swapped labels.old (record { one = pair.one; two = pair.two }))) }
 {
+    let v = pair.one;
+    let w = pair.two;
     let a = labels[v];
     let b = labels[w];
-    let g = topology::gain_of(starts, neighbours, arc_weights, labels, v, b);
+    let g = graph.gain_of(labels, v, b);
     labels[v] = b;
-    let h = topology::gain_of(starts, neighbours, arc_weights, labels, w, a);
+    let h = graph.gain_of(labels, w, a);
     labels[w] = a;
     fallen(fallen(before, g), h)
 }
 
 // Both vertices are locked, and the swap is noted in place k.
-pub fn note(locks: &mut [u8], swaps: &mut [u32], k: usize, v: usize, w: usize)
-    requires { (v < length locks.old) × (w < length locks.old) × (length locks.old ≤ most_vertices) × (k < length swaps.old) }
-    ensures { (locks.new ≡ set (set locks.old v 1) w 1) × (swaps.new ≡ set swaps.old k (code_of (record { one = v; two = w }))) }
+pub fn note(locks: &mut [u8], swaps: &mut [u32], k: usize, pair: Pair)
+    requires { (pair.one < length locks.old) × (pair.two < length locks.old) × (length locks.old ≤ most_vertices) × (k < length swaps.old) }
+    ensures { (locks.new ≡ set (set locks.old pair.one 1) pair.two 1) × (swaps.new ≡ set swaps.old k (code_of (record { one = pair.one; two = pair.two }))) }
 {
-    locks[v] = 1;
-    locks[w] = 1;
-    swaps[k] = (v as u32) * CODE_BASE + (w as u32);
+    locks[pair.one] = 1;
+    locks[pair.two] = 1;
+    swaps[k] = (pair.one as u32) * CODE_BASE + (pair.two as u32);
 }
 
 // The two vertices of a noted swap exchange their labels again.
@@ -56,9 +52,7 @@ pub fn undo(labels: &mut [u32], code: u32)
     requires { ((swap_of code).one < length labels.old) × ((swap_of code).two < length labels.old) }
     ensures { labels.new ≡ swapped labels.old (swap_of code) }
 {
-    let v = lists::index(code / CODE_BASE);
-    let w = lists::index(code % CODE_BASE);
-    let a = labels[v];
-    labels[v] = labels[w];
-    labels[w] = a;
+    let v = (code / CODE_BASE) as usize;
+    let w = (code % CODE_BASE) as usize;
+    labels.swap(v, w);
 }

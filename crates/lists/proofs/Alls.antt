@@ -1,11 +1,14 @@
 -- Laws of `all` and `any`, below a bound and over a range. Assumes nothing.
-use mathlib.Core.Path.{◌≡◌, refl, sym, ◌∙◌}
+use mathlib.Core.Path.{◌≡◌, refl, sym, ap, ap₂, ◌∙◌}
 use mathlib.Core.Bool.{Bool, true, false, not, ◌&&◌, ◌||◌}
 use Prim.Native.Nat.{ℕ, zero, suc, ◌+◌, ◌-◌, ◌≤◌, ◌<◌}
 use native.Mathlib.Omega.{arith}
 use native.Mathlib.Numerals.{add-one}
 use lib.Dec.{eqb}
 use borrow.Author.Tests.{eqb-true, eqb-false}
+use mathlib.Core.List.{List, [], ◌∷◌}
+use lib.ListN.{length, get_or}
+use Rattle.std.specs.List.{list_any, list_all, range_with_len}
 use Rattle.lists.specs.All.{all, all_from, any, any_from}
 use Rattle.lists.proofs.Bools.{and-false, or-true}
 
@@ -60,10 +63,6 @@ module _ (a b : ℕ) (f : ℕ → Bool) where
 pub any_none : (f : ℕ → Bool) → any 0 f ≡ false
 unfolding any
 any_none f = refl
-
-pub any-more : (n : ℕ) (f : ℕ → Bool) → any n f ≡ false → f n ≡ false → any (n + 1) f ≡ false
-unfolding any
-any-more n f h t = rw (add-one, h) t
 
 pub any-holds : (n u : ℕ) (f : ℕ → Bool) → u < n → f u ≡ true → any n f ≡ true
 unfolding any
@@ -167,3 +166,56 @@ any-contrary (suc n) f g h = rw (any-contrary n f g (λ i l. h i (omega arith)),
     either : (s t : Bool) → not s || not t ≡ not (s && t)
     either true t = refl
     either false t = refl
+
+any-head : (n : ℕ) (f : ℕ → Bool) → any (suc n) f ≡ (f 0 || any n (λ i. f (suc i)))
+unfolding any
+any-head zero f = go (f 0)
+  where
+    go : (b : Bool) → (false || b) ≡ (b || false)
+    go true = refl
+    go false = refl
+any-head (suc n) f = rw (any-head n f) (assoc (f 0) (any n (λ i. f (suc i))) (f (suc n)))
+  where
+    assoc : (a b c : Bool) → ((a || b) || c) ≡ (a || (b || c))
+    assoc true b c = refl
+    assoc false b c = refl
+
+-- some item of a list passes a test: by its items, and by its places
+pub any-listed : {X : Type 0} (p : X → Bool) (d : X) (xs : List X) → list_any p xs ≡ any (length xs) (λ i. p (get_or xs i d))
+unfolding any
+any-listed p d [] = refl
+any-listed p d (x ∷ xs) = rw (any-listed p d xs) (sym (any-head (length xs) (λ i. p (get_or (x ∷ xs) i d))))
+
+all-head : (n : ℕ) (f : ℕ → Bool) → all (suc n) f ≡ (f 0 && all n (λ i. f (suc i)))
+unfolding all
+all-head zero f = go (f 0)
+  where
+    go : (b : Bool) → (true && b) ≡ (b && true)
+    go true = refl
+    go false = refl
+all-head (suc n) f = rw (all-head n f) (assoc (f 0) (all n (λ i. f (suc i))) (f (suc n)))
+  where
+    assoc : (a b c : Bool) → ((a && b) && c) ≡ (a && (b && c))
+    assoc true b c = refl
+    assoc false b c = refl
+
+all-ext : (n : ℕ) (f g : ℕ → Bool) → ((i : ℕ) → i < n → f i ≡ g i) → all n f ≡ all n g
+unfolding all
+all-ext zero f g h = refl
+all-ext (suc n) f g h = rw (all-ext n f g (λ i l. h i (omega arith)), h n (omega arith))
+
+-- all numbers of a range pass a test: as a list, and one by one
+all-ranged : (p : ℕ → Bool) (a n : ℕ) → list_all p (range_with_len a n) ≡ all n (λ i. p (a + i))
+unfolding all
+all-ranged p a zero = refl
+all-ranged p a (suc n) =
+    let o : a + 0 ≡ a = omega arith in
+    rw (all-ranged p (a + 1) n)
+    (ap₂ (λ (s t : Bool). s && t) (ap p (sym o)) (all-ext n (λ i. p (a + 1 + i)) (λ i. p (a + suc i)) (λ i l. ap p (omega arith))) ∙ sym (all-head n (λ i. p (a + i))))
+
+pub all-from-range : (p : ℕ → Bool) (a b : ℕ) → list_all p (range_with_len a (b - a)) ≡ all_from a b p
+unfolding all_from
+all-from-range p a b = all-ranged p a (b - a)
+
+pub all-below : (p : ℕ → Bool) (n : ℕ) → list_all p (range_with_len 0 n) ≡ all n p
+all-below p n = all-ranged p 0 n ∙ all-ext n (λ i. p (0 + i)) p (λ i l. ap p (omega arith))

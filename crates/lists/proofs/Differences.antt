@@ -184,9 +184,3 @@ pos-minus c a b d e = ap (λ (z : ℤ). z -ℤ sub_ℕ a b) (pos-is c) ∙ sub c
 parts-small : (z : ℤ) → above z + beneath z ≤ mag z + 1
 parts-small (pos a) = omega arith
 parts-small (negsuc a) = omega arith
-
-pub mag-minus : (x y : ℤ) → mag (x -ℤ y) ≤ mag x + mag y + 2
-mag-minus x y =
-    let e : x -ℤ y ≡ sub_ℕ (above x + beneath y) (beneath x + above y) =
-    ap (λ (z : ℤ). z -ℤ y) (is-diff x) ∙ ap (λ (z : ℤ). sub_ℕ (above x) (beneath x) -ℤ z) (is-diff y) ∙ sub (above x) (beneath x) (above y) (beneath y) in
-    rw e (omega (arith, mag-sub (above x + beneath y) (beneath x + above y), parts-small x, parts-small y))

@@ -1,6 +1,7 @@
 -- The laws that every crate shares.
 pub mod Bools
 pub mod Numbers
+pub mod Refusals
 pub mod Sums
 pub mod Totals
 pub mod Alls

@@ -65,7 +65,3 @@ first-gives-none r m rest e q = q ∙ sym (or-else-then 0 m rest e refl)
 
 -- the tests of a definition, for `search`; where it wants more steps than it may take, only those that the way out needs
 pub ruleset numbering = (test-holds, test-fails, rule-fails, rule-holds, counts-differ, counts-agree, either_first, either_second, neither, first_gives, first-gives-none)
-
--- a call made the first tests, and s is what it gave: s itself where that is not 0 (`or-else-first`), else
-pub call-gives-none : (s r m rest : ℕ) → s ≡ m → s ≡ 0 → r ≡ rest → r ≡ or_else m rest
-call-gives-none s r m rest e z q = q ∙ sym (or-else-then s m rest e z)

@@ -8,6 +8,8 @@ use native.Mathlib.Nat.{add-zero, zero-add, add-suc, suc-mul}
 use lib.ListN.{length, get_or}
 use lib.Dec.{eqb}
 use borrow.Author.Tests.{ne_eqb, eqb-true, eqb-false}
+use Rattle.std.specs.List.{sum_by}
+use Rattle.std.proofs.lemmas.List.Sums.{sum_by-cons}
 use Rattle.lists.specs.Sum.{sum, between, weigh, total}
 use Rattle.lists.proofs.Bools.{weigh-split}
 
@@ -130,3 +132,8 @@ total-none = refl
 pub total-cons : (x : ℕ) (xs : List ℕ) → total (x ∷ xs) ≡ x + total xs
 unfolding total
 total-cons x xs = sum_head (length xs) (λ i. get_or (x ∷ xs) i 0)
+
+-- the standard library's sum of a list is its total
+pub total-sum : (xs : List ℕ) → sum_by (λ x. x) xs ≡ total xs
+total-sum [] = sym total-none
+total-sum (x ∷ xs) = omega (arith, sum_by-cons (λ y. y) x xs, total-sum xs, total-cons x xs)

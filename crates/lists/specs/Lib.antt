@@ -6,4 +6,6 @@ pub mod All
 pub mod Best
 pub mod Fill
 pub mod Number
+pub mod Refusal
+pub mod End
 pub mod Smallest

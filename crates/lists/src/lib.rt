@@ -1,71 +1,21 @@
-// What every crate shares: numbers widened out of a lent list and narrowed into one, and lent lists cleared. Document 01, "What must change shape": u32 in, wider inside; lent lists.
+// What every crate shares: why a call is refused, how a run ends, and lent lists filled. Document 01, "Numbers a call gives back" and "What must change shape".
 #![tactic(auto)]
 
-ghost use Rattle.std.specs.Prelude.{◌≡◌, ◌^◌, ◌≤◌, ◌<◌, pos, length, get_or};
+mod end; // end.rt: how a run ends
+mod refusal; // refusal.rt: the numbers of document 01, as an enum
+
+ghost use Rattle.std.specs.Prelude.{◌≡◌, ◌≤◌, length};
 ghost use Rattle.lists.specs.Fill.{filled};
 
-// The number as a sum takes it.
-pub fn wide(x: u32) -> u64
-    ensures { result ≡ x }
-{
-    x as u64
-}
+pub use end::End;
+pub use refusal::Refusal;
 
-// The number as a place in a list.
-pub fn index(x: u32) -> usize
-    ensures { result ≡ x }
-{
-    x as usize
-}
-
-// What a list of places has at a place: where a row starts, the vertex that an arc goes to, a vertex's part.
-pub fn index_at(xs: &[u32], at: usize) -> usize
-    requires { at < length xs.now }
-    ensures { result ≡ get_or xs.now at 0 }
-{
-    index(xs[at])
-}
-
-// A count or a place as a lent list holds it.
-pub fn narrow(x: usize) -> u32
-    requires { x < 2 ^ 32 }
-    ensures { result ≡ x }
-{
-    x as u32
-}
-
-// Zeros in the first n places; the others are kept.
-pub fn clear_numbers(xs: &mut [u32], n: usize)
+// x in the first n places; the others are kept.
+pub fn fill<T: Copy>(xs: &mut [T], n: usize, x: T)
     requires { n ≤ length xs.old }
-    ensures { xs.new ≡ filled 0 n xs.old }
+    ensures { xs.new ≡ filled x n xs.old }
 {
-    let mut i: usize = 0;
-    while i < n {
-        xs[i] = 0;
-        i += 1;
-    }
-}
-
-// The same for gains.
-pub fn clear_gains(xs: &mut [i64], n: usize)
-    requires { n ≤ length xs.old }
-    ensures { xs.new ≡ filled (pos 0) n xs.old }
-{
-    let mut i: usize = 0;
-    while i < n {
-        xs[i] = 0;
-        i += 1;
-    }
-}
-
-// The same for bytes.
-pub fn clear_bytes(xs: &mut [u8], n: usize)
-    requires { n ≤ length xs.old }
-    ensures { xs.new ≡ filled 0 n xs.old }
-{
-    let mut i: usize = 0;
-    while i < n {
-        xs[i] = 0;
-        i += 1;
+    for i in 0..n {
+        xs[i] = x;
     }
 }

@@ -2,8 +2,8 @@
 pub mod Bits
 pub mod WordLaws
 pub mod Places
+pub mod BlockKinds
 pub mod Accepts
-pub mod BlockTurns
 pub mod Headers
 pub mod HeaderCounts
 pub mod Rewritten

@@ -1,5 +1,5 @@
 -- Laws of words: a word is its four bytes and they are the word; what a stored word changes; sums that wrap. Assumes nothing.
-use Rattle.std.proofs.Common.{◌≡◌, ℕ, zero, suc, ◌+◌, ◌*◌, ◌/◌, ◌%◌, ◌^◌, ◌<◌, ◌≤◌, Bool, true, false, eqb, ltb, List, length, get_or, set, sym, refl, ap, ◌∙◌, ap₂, mod-lt, arith, length-set, get_or-set_other, get_or-set_same, ext_get_or, ltb-false, ltb-true, eqb-true}
+use Rattle.std.proofs.Common.{◌≡◌, ℕ, zero, suc, ◌+◌, ◌*◌, ◌/◌, ◌%◌, ◌^◌, ◌<◌, ◌≤◌, Bool, true, false, eqb, ltb, List, [], ◌∷◌, length, get_or, set, sym, refl, ap, ◌∙◌, ap₂, mod-lt, arith, length-set, get_or-set_other, get_or-set_same, ext_get_or, ltb-false, ltb-true, eqb-true}
 use native.Mathlib.Nat.{add-mod, mod-add-mod, mod-mod, div-div-eq-div-mul}
 use borrow.Author.Tests.{eqb-false}
 use lib.ListN.{get_or-eq_default}
@@ -118,13 +118,13 @@ unfolding word
 word_below s h w =
     let a = h (4 * w) in let b = h (4 * w + 1) in let c = h (4 * w + 2) in let d = h (4 * w + 3) in omega arith
 
--- the four stores of a word
-pub stored : (s : List ℕ) (w x a b c d : ℕ) → a ≡ x % 256 → b ≡ x / 256 % 256 → c ≡ x / 65536 % 256 → d ≡ x / 16777216 % 256
-    → set (set (set (set s (4 * w) a) (4 * w + 1) b) (4 * w + 2) c) (4 * w + 3) d ≡ put_word s w x
+-- the four stores of a word's bytes
+pub stored : (s ys : List ℕ) (w x : ℕ) → ys ≡ (x % 256 ∷ x / 256 % 256 ∷ x / 65536 % 256 ∷ x / 16777216 % 256 ∷ [])
+    → set (set (set (set s (4 * w) (get_or ys 0 0)) (4 * w + 1) (get_or ys 1 0)) (4 * w + 2) (get_or ys 2 0)) (4 * w + 3) (get_or ys 3 0) ≡ put_word s w x
 unfolding put_word byte_of
-stored s w x a b c d p q r t =
+stored s ys w x e =
     let o : x / 1 ≡ x = omega arith in
-    rw (p, q, r, t, o)
+    rw (e, o) refl
 
 -- a stored word changes its own four bytes
 module _ (s : List ℕ) (w x : ℕ) where

@@ -3,6 +3,7 @@
 -- ---- What the documents say: the contracts of inner functions need no more
 pub mod Word
 pub mod Block
+pub mod Kind
 pub mod Plan
 pub mod Encode
 pub mod Decode

@@ -7,7 +7,7 @@ ghost use Rattle.plan_blocks.specs.Decode.{each_at, header_at, bad_numbers};
 use crate::{ceiling, layout, words};
 use imbalance::Ceiling;
 
-// n vertices, a arcs, k parts, the ceiling's choice, its value as a number of 8 bytes, and its number for each part.
+// n vertices, a arcs, k parts, the ceiling's choice, its value as a number of 8 bytes, and its number for each part. It has no invariant, since headers out of range are decoded too, and refused; the choice stays a number, as the file's word and C's field are.
 #[derive(Clone, Copy)]
 pub struct Header {
     pub n: usize,
@@ -23,13 +23,7 @@ fn each_at(bytes: &[u8]) -> [u32; 16]
     requires { 512 ≤ length bytes.now }
     ensures { result ≡ each_at bytes.now }
 {
-    let mut each = [0u32; 16];
-    let mut t: usize = 0;
-    while t < 16 {
-        each[t] = words::word_at(bytes, 7 + t);
-        t += 1;
-    }
-    each
+    std::array::from_fn(|t| words::word_at(bytes, 7 + t))
 }
 
 // The header of a file: the one place that decodes it, but for its choice, by which its layout is judged before.
@@ -37,19 +31,13 @@ pub fn header_of(bytes: &[u8]) -> Header
     requires { 512 ≤ length bytes.now }
     ensures { result ≡ header_at bytes.now }
 {
-    let n = lists::index(words::word_at(bytes, 1));
-    let a = lists::index(words::word_at(bytes, 2));
-    let k = words::word_at(bytes, 3);
-    let choice = words::word_at(bytes, 4);
-    let value = ceiling::paired(words::word_at(bytes, 5), words::word_at(bytes, 6));
-    let each = each_at(bytes);
     Header {
-        n,
-        a,
-        k,
-        choice,
-        value,
-        each,
+        n: words::word_at(bytes, 1) as usize,
+        a: words::word_at(bytes, 2) as usize,
+        k: words::word_at(bytes, 3),
+        choice: words::word_at(bytes, 4),
+        value: ceiling::paired(words::word_at(bytes, 5), words::word_at(bytes, 6)),
+        each: each_at(bytes),
     }
 }
 
@@ -58,15 +46,13 @@ pub fn header_with(n: usize, a: usize, k: u32, asked: Ceiling) -> Header
     requires { unfit_choice asked ≡ false }
     ensures { result ≡ record { n = n; a = a; k = k; choice = asked.choice; value = value_of asked; each = each_of asked } }
 {
-    let value = ceiling::value_of(asked);
-    let each = ceiling::each_of(asked);
     Header {
         n,
         a,
         k,
         choice: asked.choice,
-        value,
-        each,
+        value: ceiling::value_of(asked),
+        each: ceiling::each_of(asked),
     }
 }
 
@@ -74,8 +60,6 @@ pub fn header_with(n: usize, a: usize, k: u32, asked: Ceiling) -> Header
 pub fn bad_numbers(header: Header) -> bool
     ensures { result ≡ bad_numbers header }
 {
-    if layout::out_of_range(header.n, header.a, header.k) {
-        return true;
-    }
-    ceiling::unfit_value(header.choice, header.value)
+    layout::out_of_range(header.n, header.a, header.k)
+        || ceiling::unfit_value(header.choice, header.value)
 }

@@ -8,36 +8,23 @@ use lib.ListN.{length, get_or, set, length-set}
 use lib.Dec.{ltb, eqb}
 use borrow.Author.Tests.{eq-eqb, ne_eqb, lt-ltb, le-ltb, eqb-true, eqb-false, not-false, ltb-false}
 use Rattle.lists.specs.Sum.{sum}
-use Rattle.lists.specs.All.{all, all_from}
+use Rattle.lists.specs.All.{all}
 use Rattle.lists.specs.Fill.{written, table, over}
 use Rattle.lists.specs.Number.{or_else}
 use Rattle.lists.proofs.Bools.{or-true, or-none, or-false}
 use Rattle.lists.proofs.Sums.{sum-none, sum_more, sum_step}
 use Rattle.lists.proofs.Totals.{sum-ext, sum-grows}
-use Rattle.lists.proofs.Alls.{all_more, all-fails, from-fails, from_more}
+use Rattle.lists.proofs.Alls.{all_more, all-fails}
 use Rattle.lists.proofs.Tables.{table_at, table-ext, written_over}
 use Rattle.lists.proofs.Fills.{written_none, written-more}
 use Rattle.imbalance.specs.Limit.{most_vertices, most_arcs}
 use Rattle.plan_blocks.specs.declared.header.Header.{Header}
 use Rattle.plan_blocks.specs.Word.{wrap, word}
-use Rattle.plan_blocks.specs.Block.{sum_at, checks, laid_out, blocks_for, blocks_of, kind_at, count_at}
-use Rattle.plan_blocks.specs.Decode.{in_block, blocks_in, kind_of, vertex_at, arc_at, label_at, degree_at, header_at, bad_length, bad_kind, bad_check, bad_header, bad_numbers, later_laid, bad_later, labelled, bad_records, plan_of, file_number}
+use Rattle.plan_blocks.specs.Block.{blocks_for, blocks_of}
+use Rattle.plan_blocks.specs.Decode.{blocks_in, kind_of, vertex_at, arc_at, label_at, degree_at, header_at, bad_length, bad_kind, bad_check, bad_header, bad_numbers, later_laid, bad_later, labelled, bad_records, plan_of, file_number}
 use Rattle.plan_blocks.proofs.Accepts.{in-range, not-given, counted, accepts}
 use Rattle.plan_reader.specs.Read.{starts_of, short, number_for}
 use Rattle.plan_reader.specs.inner.Reading.{frame_number, plan_number}
-
--- number 10, block by block: r says whether block b checks
-module _ (s : List ℕ) (file b : ℕ) (r : Bool) (judged : r ≡ checks (sum_at file b) (in_block s b)) where
-  pub check-more : all b (λ b. checks (sum_at file b) (in_block s b)) ≡ true → r ≡ true → all (b + 1) (λ b. checks (sum_at file b) (in_block s b)) ≡ true
-  check-more h e = all_more b (λ b. checks (sum_at file b) (in_block s b)) h (sym judged ∙ e)
-
-  pub check-fails : b < blocks_in s → r ≡ false → true ≡ bad_check file s
-  unfolding bad_check
-  check-fails l e = sym (ap not (all-fails (blocks_in s) b (λ b. checks (sum_at file b) (in_block s b)) l (sym judged ∙ e)))
-
-pub check-all : (s : List ℕ) (file b : ℕ) → b ≡ blocks_in s → all b (λ b. checks (sum_at file b) (in_block s b)) ≡ true → false ≡ bad_check file s
-unfolding bad_check
-check-all s file b e h = sym (ap not (rw e at h))
 
 -- what an accepted file's numbers are
 pub record Fine (s : List ℕ) : Type 0 where
@@ -103,30 +90,6 @@ sized-by s header file h l =
     let q = or-false (not (eqb (blocks_in s) (blocks_of header.n header.a))) (not (later_laid file header s)) l in
     counted s _ h (eqb-true _ _ (not-false _ q.0))
 
--- number 13, block by block
-abbrev pub later_to : List ℕ → ℕ → ℕ → ℕ → ℕ → ℕ → Bool
-later_to s file choice n a b = all_from 1 b (λ b. laid_out file (kind_at n b) (count_at choice n a b) (in_block s b))
-
--- block b of a header's file is laid out
-abbrev as_laid : List ℕ → ℕ → Header → ℕ → Bool
-as_laid s file header b =
-    laid_out file (kind_at header.n b) (count_at header.choice header.n header.a b) (in_block s b)
-
-module _ (s : List ℕ) (file : ℕ) (header : Header) (b kind count : ℕ) (r : Bool) (ek : kind ≡ kind_at header.n b) (ec : count ≡ count_at header.choice header.n header.a b) (er : r ≡ laid_out file kind count (in_block s b)) where
-  laid-here : as_laid s file header b ≡ r
-  laid-here = sym (er ∙ ap₂ (λ (x y : ℕ). laid_out file x y (in_block s b)) ek ec)
-
-  pub later_more : 1 ≤ b → r ≡ true → later_to s file header.choice header.n header.a b ≡ true → later_to s file header.choice header.n header.a (b + 1) ≡ true
-  later_more l t h = from_more 1 b (as_laid s file header) l h (laid-here ∙ t)
-
-  pub later-fails : 1 ≤ b → b < blocks_in s → r ≡ false → false ≡ later_laid file header s
-  unfolding later_laid
-  later-fails l m f = sym (from-fails 1 (blocks_in s) (as_laid s file header) b l m (laid-here ∙ f))
-
-pub later-all : (s : List ℕ) (file : ℕ) (header : Header) (b : ℕ) → b ≡ blocks_in s → later_to s file header.choice header.n header.a b ≡ true → true ≡ later_laid file header s
-unfolding later_laid
-later-all s file header b e h = sym (rw e at h)
-
 -- number 13, by its two tests
 module _ (s : List ℕ) (file m : ℕ) (header : Header) (em : m ≡ blocks_of header.n header.a) where
   pub blocks-differ : (blocks_in s ≡ m → ⊥) → true ≡ bad_later file header s
@@ -157,13 +120,13 @@ module _ (s : List ℕ) (labels weights starts neighbours arc_weights : ℕ) whe
   by-frame zero e ne = absurd (ne refl)
   by-frame (suc m) e ne = sym (in_two ∙ rw (← e))
 
-  pub by-plan : (m k : ℕ) (header : Header) → m ≡ frame_number s → m ≡ 0 → header ≡ header_at s → k ≡ plan_number header s labels weights starts neighbours arc_weights → k ≡ number_for s labels weights starts neighbours arc_weights
-  by-plan m k header e z h q = q ∙ ap (λ (x : Header). plan_number x s labels weights starts neighbours arc_weights) h ∙ sym (in_two ∙ rw (← e, z))
+  pub by-plan : (k : ℕ) (header : Header) → frame_number s ≡ 0 → header ≡ header_at s → k ≡ plan_number header s labels weights starts neighbours arc_weights → k ≡ number_for s labels weights starts neighbours arc_weights
+  by-plan k header z h q = q ∙ ap (λ (x : Header). plan_number x s labels weights starts neighbours arc_weights) h ∙ sym (in_two ∙ rw z)
 
 -- a frame that is not refused has whole blocks
-pub whole-blocks : (s : List ℕ) (m : ℕ) → m ≡ frame_number s → m ≡ 0 → bad_length s ≡ false
+pub whole-blocks : (s : List ℕ) → frame_number s ≡ 0 → bad_length s ≡ false
 unfolding frame_number
-whole-blocks s m e z = (not-given (bad_length s) 9 _ (omega arith) (sym e ∙ z)).0
+whole-blocks s z = (not-given (bad_length s) 9 _ (omega arith) z).0
 
 -- where the reader's number is 0, the file is accepted and the targets are long enough
 pub record AcceptedPlaces (s : List ℕ) (l w t n a : ℕ) : Type 0 where
@@ -199,14 +162,10 @@ module _ (s : List ℕ) (l w t n a : ℕ) where
       go zero e z = fits _ refl z e
       go (suc m) e z = absurd (omega arith)
 
--- the same, by the reader's two numbers
-module _ (s : List ℕ) (l w t n a m k : ℕ) (header : Header) (decoded : header ≡ header_at s) (framed : m ≡ frame_number s) (planned : k ≡ plan_number header s l w t n a) where
-  pub opened : m ≡ 0 → k ≡ 0 → AcceptedPlaces s l w t n a
-  opened y z = accepted-places s l w t n a (sym (by-plan s l w t n a m k header framed y decoded planned) ∙ z)
-
-  pub ranged : k ≡ 0 → bad_numbers header ≡ false
-  unfolding plan_number
-  ranged z = (not-given (bad_numbers header) 12 _ (omega arith) (sym planned ∙ z)).0
+-- the numbers of an accepted file's header are in range
+pub numbers-fit : (s : List ℕ) (header : Header) → header ≡ header_at s → file_number s ≡ 0 → bad_numbers header ≡ false
+unfolding bad_numbers
+numbers-fit s header e z = let g = accepts s z in rw (e, g.ranged, g.fit) refl
 
 -- the vertices' records, vertex by vertex
 pub record VerticesTo (s labels₀ weights₀ starts₀ : List ℕ) (n : ℕ) (labels weights starts : List ℕ) (row v : ℕ) : Type 0 where

@@ -4,11 +4,11 @@
 ghost use Rattle.plan_reader.specs.Read.{Read};
 
 use imbalance::Ceiling;
-use plan_blocks::header;
+use reader::Lengths;
 
 mod reader; // reader.rt: the numbers that refuse a file, and the records
 
-// What the reader answers: document 01's number, and where that is 0 the header. A value that the ceiling's choice does not use is 0.
+// What the reader answers: document 01's number, and where that is 0 the header. A value that the ceiling's choice does not use is 0. C reads it, so that the refusal is a number.
 #[repr(C)]
 #[derive(Clone, Copy)]
 pub struct ReadAnswer {
@@ -19,7 +19,7 @@ pub struct ReadAnswer {
     pub ceiling: Ceiling,
 }
 
-// Reads a plan into the five targets. A refusal writes nothing; targets keep what stood past the plan's end.
+// Reads a plan into the five targets. A refusal writes nothing; targets keep what stood past the plan's end. C lends each target by itself.
 pub fn read_plan(
     bytes: &[u8],
     labels: &mut [u32],
@@ -34,24 +34,19 @@ pub fn read_plan(
         result
         (record { labels = labels.exit.now; weights = weights.new; starts = starts.new; neighbours = neighbours.new; arc_weights = arc_weights.new }) }
 {
-    let framed = reader::frame_number(bytes);
-    if framed != 0 {
-        return reader::refusal(framed);
+    let lengths = Lengths {
+        labels: labels.len(),
+        weights: weights.len(),
+        starts: starts.len(),
+        neighbours: neighbours.len(),
+        arc_weights: arc_weights.len(),
+    };
+    match reader::accept(bytes, lengths) {
+        Err(refusal) => reader::refused(refusal),
+        Ok(header) => {
+            reader::read_vertices(bytes, header.n, labels, weights, starts);
+            reader::read_arcs(bytes, header.n, header.a, neighbours, arc_weights);
+            reader::read_header(header)
+        }
     }
-    let header = header::header_of(bytes);
-    let number = reader::plan_number(
-        bytes,
-        header,
-        labels.len(),
-        weights.len(),
-        starts.len(),
-        neighbours.len(),
-        arc_weights.len(),
-    );
-    if number != 0 {
-        return reader::refusal(number);
-    }
-    reader::read_vertices(bytes, header.n, labels, weights, starts);
-    reader::read_arcs(bytes, header.n, header.a, neighbours, arc_weights);
-    reader::read_header(header)
 }

@@ -2,39 +2,54 @@
 ghost use Rattle.std.specs.Prelude.{◌≡◌, false, ◌+◌, ◌*◌, ◌≤◌, ◌<◌, length};
 ghost use Rattle.lists.specs.Fill.{over};
 ghost use Rattle.imbalance.specs.Limit.{most_vertices, most_arcs};
-ghost use Rattle.plan_blocks.specs.Block.{blocks_of};
-ghost use Rattle.plan_blocks.specs.Decode.{blocks_in, kind_of, header_at, bad_length, bad_check, bad_numbers, later_laid, bad_later, bad_records, plan_of, file_number};
+ghost use Rattle.plan_blocks.specs.Block.{blocks_of, kind_at, count_at, laid_out};
+ghost use Rattle.plan_blocks.specs.Decode.{in_block, blocks_in, kind_of, header_at, bad_length, bad_check, bad_numbers, later_laid, bad_later, bad_records, plan_of, file_number};
 ghost use Rattle.plan_reader.specs.Read.{short, starts_of, ceiling_in, header_answer, refusal_of};
-ghost use Rattle.plan_reader.specs.inner.Reading.{frame_number, plan_number};
+ghost use Rattle.lists.specs.Refusal.{number_of, number_in};
+ghost use Rattle.plan_reader.specs.inner.Reading.{frame_number, plan_number, accepted_as};
 
 use crate::ReadAnswer;
 use imbalance::Ceiling;
+use lists::Refusal;
 use plan_blocks::header::Header;
 use plan_blocks::{block, ceiling, header, layout, words};
+
+// How long the five targets are.
+#[derive(Clone, Copy)]
+pub(crate) struct Lengths {
+    pub(crate) labels: usize,
+    pub(crate) weights: usize,
+    pub(crate) starts: usize,
+    pub(crate) neighbours: usize,
+    pub(crate) arc_weights: usize,
+}
 
 // Number 9's test.
 fn bad_length(bytes: &[u8]) -> bool
     ensures { result ≡ bad_length bytes.now }
 {
-    if bytes.len() == 0 {
-        return true;
-    }
-    bytes.len() % 512 != 0
+    bytes.len() == 0 || bytes.len() % 512 != 0
 }
 
 // Number 10's test: one walk over the file.
 fn bad_check(bytes: &[u8], file: usize) -> bool
     ensures { result ≡ bad_check file bytes.now }
 {
-    let blocks = bytes.len() / 512;
-    let mut b: usize = 0;
-    while b < blocks {
-        if !block::checks(bytes, file, b) {
-            return true;
-        }
-        b += 1;
-    }
-    false
+    !(0..bytes.len() / 512).all(|b| block::checks(bytes, file, b))
+}
+
+// Whether later block b is laid out as the file's kind, n and a ask.
+fn later_block_laid(bytes: &[u8], file: usize, header: Header, b: usize) -> bool
+    requires { (file < 256)
+        × (header.n ≤ most_vertices)
+        × (header.a ≤ most_arcs)
+        × (b < blocks_of header.n header.a)
+        × (512 * b + 512 ≤ length bytes.now) }
+    ensures { result ≡ laid_out file (kind_at header.n b) (count_at header.choice header.n header.a b) (in_block bytes.now b) }
+{
+    let kind = usize::from(layout::kind_at(header.n, b));
+    let count = layout::count_at(header.choice, header.n, header.a, b);
+    block::laid_out(bytes, b, file, kind, count)
 }
 
 // Whether each later block is laid out as the file's kind, n and a ask.
@@ -45,20 +60,7 @@ fn later_laid(bytes: &[u8], file: usize, header: Header) -> bool
         × (blocks_in bytes.now ≡ blocks_of header.n header.a) }
     ensures { result ≡ later_laid file header bytes.now }
 {
-    let choice = header.choice;
-    let n = header.n;
-    let a = header.a;
-    let blocks = bytes.len() / 512;
-    let mut b: usize = 1;
-    while b < blocks {
-        let kind = layout::kind_at(n, b);
-        let count = layout::count_at(choice, n, a, b);
-        if !block::laid_out(bytes, b, file, kind, count) {
-            return false;
-        }
-        b += 1;
-    }
-    true
+    (1..bytes.len() / 512).all(|b| later_block_laid(bytes, file, header, b))
 }
 
 // Number 13's test.
@@ -66,13 +68,8 @@ fn bad_later(bytes: &[u8], header: Header) -> bool
     requires { bad_numbers header ≡ false }
     ensures { result ≡ bad_later (kind_of bytes.now) header bytes.now }
 {
-    if bytes.len() / 512 != layout::blocks_of(header.n, header.a) {
-        return true;
-    }
-    if later_laid(bytes, block::kind_of(bytes), header) {
-        return false;
-    }
-    true
+    bytes.len() / 512 != layout::blocks_of(header.n, header.a)
+        || !later_laid(bytes, block::kind_of(bytes), header)
 }
 
 // Number 14's test: one walk over the vertices' records.
@@ -80,123 +77,97 @@ fn bad_records(bytes: &[u8], header: Header) -> bool
     requires { (bad_numbers header ≡ false) × (512 * blocks_of header.n header.a ≤ length bytes.now) }
     ensures { result ≡ bad_records header bytes.now }
 {
-    let n = header.n;
     let k = header.k;
     let mut sum: usize = 0;
-    let mut v: usize = 0;
-    while v < n {
+    for v in 0..header.n {
         let x = words::word_at(bytes, layout::place(1, v) + 1);
         if x % 65536 >= k {
             return true;
         }
-        sum += lists::index(x / 65536);
-        v += 1;
+        sum += (x / 65536) as usize;
     }
     sum != header.a
 }
 
-// The first of 9, 11 for the file's kind, 10 and 11 that applies, 0 if none does: what the bytes show before the header is decoded.
-pub(crate) fn frame_number(bytes: &[u8]) -> u32
-    ensures { result ≡ frame_number bytes.now }
+// The first of 9, 11 for the file's kind, 10 and 11 that applies: what the bytes show before the header is decoded.
+fn check_frame(bytes: &[u8]) -> Result<(), Refusal>
+    ensures { number_in result ≡ frame_number bytes.now }
 {
     if bad_length(bytes) {
-        return 9;
+        return Err(Refusal::FileLength);
     }
     let file = block::kind_of(bytes);
     if 1 < file {
-        return 11;
+        return Err(Refusal::HeaderLayout);
     }
     if bad_check(bytes, file) {
-        return 10;
+        return Err(Refusal::Check);
     }
     // How the header is laid out is judged by its choice, before it is decoded.
     let count = layout::header_count(words::word_at(bytes, 4));
     if !block::laid_out(bytes, 0, file, 1, count) {
-        return 11;
+        return Err(Refusal::HeaderLayout);
     }
-    0
+    Ok(())
 }
 
-// Number 15's test, on the lengths of the targets.
-fn short_of(
-    n: usize,
-    a: usize,
-    labels: usize,
-    weights: usize,
-    starts: usize,
-    neighbours: usize,
-    arc_weights: usize,
-) -> bool
+// Number 15's test.
+fn short_of(n: usize, a: usize, lengths: Lengths) -> bool
     requires { n ≤ most_vertices }
-    ensures { result ≡ short n a labels weights starts neighbours arc_weights }
+    ensures { result ≡ short n a lengths.labels lengths.weights lengths.starts lengths.neighbours lengths.arc_weights }
 {
-    if labels < n {
-        return true;
-    }
-    if weights < n {
-        return true;
-    }
-    if starts < n + 1 {
-        return true;
-    }
-    if neighbours < a {
-        return true;
-    }
-    arc_weights < a
+    lengths.labels < n
+        || lengths.weights < n
+        || lengths.starts < n + 1
+        || lengths.neighbours < a
+        || lengths.arc_weights < a
 }
 
-// The smallest of 12 to 15 that applies, 0 if none does: what the decoded header shows of the file and of the targets' lengths.
-pub(crate) fn plan_number(
-    bytes: &[u8],
-    header: Header,
-    labels: usize,
-    weights: usize,
-    starts: usize,
-    neighbours: usize,
-    arc_weights: usize,
-) -> u32
+// The smallest of 12 to 15 that applies: what the decoded header shows of the file and of the targets' lengths.
+fn check_plan(bytes: &[u8], header: Header, lengths: Lengths) -> Result<(), Refusal>
     requires { bad_length bytes.now ≡ false }
-    ensures { result ≡ plan_number header bytes.now labels weights starts neighbours arc_weights }
+    ensures { number_in result ≡ plan_number header bytes.now lengths.labels lengths.weights lengths.starts lengths.neighbours lengths.arc_weights }
 {
     if header::bad_numbers(header) {
-        return 12;
+        return Err(Refusal::HeaderNumbers);
     }
     if bad_later(bytes, header) {
-        return 13;
+        return Err(Refusal::LaterBlocks);
     }
     if bad_records(bytes, header) {
-        return 14;
+        return Err(Refusal::Records);
     }
-    if short_of(
-        header.n,
-        header.a,
-        labels,
-        weights,
-        starts,
-        neighbours,
-        arc_weights,
-    ) {
-        return 15;
+    if short_of(header.n, header.a, lengths) {
+        return Err(Refusal::Targets);
     }
-    0
+    Ok(())
 }
 
-// A refusal: the number, and zero in every other field.
-pub(crate) fn refusal(number: u32) -> ReadAnswer
-    ensures { result ≡ refusal_of number }
+// The header of a file that is accepted for targets of these lengths, or why it is refused.
+pub(crate) fn accept(bytes: &[u8], lengths: Lengths) -> Result<Header, Refusal>
+    ensures { accepted_as bytes.now lengths result }
 {
-    let ceiling = Ceiling {
-        choice: 0,
-        whole: 0,
-        imbalance: 0.0,
-        each: [0; 16],
-    };
+    check_frame(bytes)?;
+    let header = header::header_of(bytes);
+    check_plan(bytes, header, lengths)?;
+    Ok(header)
+}
+
+// A refusal: its number, and zero in every other field.
+pub(crate) fn refused(refusal: Refusal) -> ReadAnswer
+    ensures { result ≡ refusal_of (number_of refusal) }
+{
     ReadAnswer {
-        number,
+        number: u32::from(refusal),
         n: 0,
         a: 0,
         k: 0,
-        ceiling,
+        ceiling: Ceiling {
+            choice: 0,
+            whole: 0,
+            imbalance: 0.0,
+            each: [0; 16],
+        },
     }
 }
 
@@ -205,13 +176,11 @@ fn ceiling_in(header: Header) -> Ceiling
     requires { bad_numbers header ≡ false }
     ensures { result ≡ ceiling_in header }
 {
-    let whole = ceiling::whole_of(header.choice, header.value);
-    let imbalance = ceiling::imbalance_of(header.choice, header.value);
     let each = header.each;
     Ceiling {
         choice: header.choice,
-        whole,
-        imbalance,
+        whole: ceiling::whole_of(header.choice, header.value),
+        imbalance: ceiling::imbalance_of(header.choice, header.value),
         each,
     }
 }
@@ -221,15 +190,12 @@ pub(crate) fn read_header(header: Header) -> ReadAnswer
     requires { bad_numbers header ≡ false }
     ensures { result ≡ header_answer header }
 {
-    let n = lists::narrow(header.n);
-    let a = lists::narrow(header.a);
-    let ceiling = ceiling_in(header);
     ReadAnswer {
         number: 0,
-        n,
-        a,
+        n: header.n as u32,
+        a: header.a as u32,
         k: header.k,
-        ceiling,
+        ceiling: ceiling_in(header),
     }
 }
 
@@ -251,15 +217,13 @@ pub(crate) fn read_vertices(
         × (starts.new ≡ over (starts_of (header_at bytes.now).n (plan_of bytes.now).degrees) starts.old) }
 {
     let mut row: u32 = 0;
-    let mut v: usize = 0;
-    while v < n {
+    for v in 0..n {
         let at = layout::place(1, v);
         let x = words::word_at(bytes, at + 1);
         weights[v] = words::word_at(bytes, at);
         labels[v] = x % 65536;
         starts[v] = row;
         row += x / 65536;
-        v += 1;
     }
     starts[n] = row;
 }
@@ -281,11 +245,9 @@ pub(crate) fn read_arcs(
         × (arc_weights.new ≡ over (plan_of bytes.now).arc_weights arc_weights.old) }
 {
     let first = 1 + layout::blocks_for(n);
-    let mut e: usize = 0;
-    while e < a {
+    for e in 0..a {
         let at = layout::place(first, e);
         neighbours[e] = words::word_at(bytes, at);
         arc_weights[e] = words::word_at(bytes, at + 1);
-        e += 1;
     }
 }

@@ -11,11 +11,11 @@ use Rattle.topology.specs.Rule.{starts_ok}
 use Rattle.topology.proofs.Starts.{start-rises, start-inside}
 use Rattle.plan_blocks.specs.declared.header.Header.{Header}
 use Rattle.plan_blocks.specs.Block.{new_kind, blocks_for, blocks_of}
-use Rattle.plan_blocks.specs.Plan.{out_of_range, value_of, each_of}
+use Rattle.plan_blocks.specs.Plan.{out_of_range}
 use Rattle.plan_blocks.specs.Encode.{encode}
 use Rattle.plan_blocks.proofs.Accepts.{InRange, in-range, not-given}
 use Rattle.plan_writer.specs.Write.{Given, plan_from, vertices, arcs, unfit, miscounted, bad_starts, bad_labels, size_of, write_number, write_answer, write_left, Written}
-use Rattle.plan_writer.specs.inner.Writing.{VerticesFit, ArcsFit}
+use Rattle.plan_writer.specs.inner.Writing.{VerticesFit, ArcsFit, header_from}
 
 -- the rows that are given
 abbrev pub rows_in : Given → Graph
@@ -76,20 +76,8 @@ module _ (g : Given) (places : ℕ) (f : Fits g places) where
   arcs-fit : ArcsFit g.neighbours g.arc_weights
   arcs-fit = record { few = f.ranged.few_arcs; paired = sym f.paired }
 
--- the header of what is given
-abbrev header_with : Given → Header
-header_with g =
-    record {
-      n = vertices g;
-      a = arcs g;
-      k = g.k;
-      choice = g.ceiling.choice;
-      value = value_of g.ceiling;
-      each = each_of g.ceiling;
-    }
-
 -- what the writer's steps ask of that header and of the length of the target, which is kept
-module _ (g : Given) (places : ℕ) (f : Fits g places) (header : Header) (e : header ≡ header_with g) (kept : ℕ) (same : kept ≡ places) where
+module _ (g : Given) (places : ℕ) (f : Fits g places) (header : Header) (e : header ≡ header_from g) (kept : ℕ) (same : kept ≡ places) where
   pub blocks-asked : (header.n ≤ most_vertices) × (header.a ≤ most_arcs) × (size_of header.n header.a ≤ kept)
   blocks-asked = let i = f.ranged in rw (e, same) (i.few, i.few_arcs, f.roomy)
 

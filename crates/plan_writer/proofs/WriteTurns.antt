@@ -1,17 +1,16 @@
 -- What a turn of each of the writer's loops puts, a block's first word, a record's two words, a block's last word, and what all turns leave. Assumes nothing.
-use Rattle.std.proofs.Common.{◌≡◌, ℕ, ◌+◌, ◌-◌, ◌*◌, ◌/◌, ◌%◌, ◌<◌, List, [], length, get_or, sym, ap, ◌∙◌, ap₂, arith}
+use Rattle.std.proofs.Common.{◌≡◌, ℕ, ◌+◌, ◌-◌, ◌*◌, ◌/◌, ◌%◌, ◌<◌, List, [], ◌∷◌, length, get_or, sym, refl, ap, ◌∙◌, ap₂, arith}
 use Rattle.lists.specs.Sum.{sum}
-use Rattle.lists.specs.Fill.{filled}
 use Rattle.lists.proofs.Totals.{sum-ext}
 use Rattle.lists.proofs.Tables.{table_at}
 use Rattle.plan_blocks.specs.declared.header.Header.{Header}
-use Rattle.plan_blocks.specs.Word.{wrap, word, put_word}
-use Rattle.plan_blocks.specs.Block.{new_kind, opening, sum_at, check_word, blocks_for, blocks_of, kind_at, count_at}
+use Rattle.plan_blocks.specs.Word.{wrap, word}
+use Rattle.plan_blocks.specs.Block.{new_kind, opening, sum_at, check_word, blocks_of, kind_at, count_at}
 use Rattle.plan_blocks.specs.Encode.{header_word, vertex_word, arc_word}
 use Rattle.plan_blocks.specs.Decode.{in_block}
 use Rattle.plan_blocks.proofs.Places.{eleven-records, three-records, each_word}
 use Rattle.plan_writer.specs.Write.{plan_with}
-use Rattle.plan_writer.specs.inner.Writing.{put_words, opening_word, laid_down, put_header, put_first_three, put_each, put_records, sealed}
+use Rattle.plan_writer.specs.inner.Writing.{put_words, opening_word, put_header, sealed}
 use Rattle.plan_writer.proofs.Puts.{puts_then, word_kept}
 
 pub first_word : (choice n a b kind count x : ℕ) → kind ≡ kind_at n b → count ≡ count_at choice n a b → x ≡ kind + 256 + 65536 * count → x ≡ opening_word choice n a b
@@ -19,24 +18,20 @@ first_word choice n a b kind count x ek ec e =
     let o : kind + 256 + 65536 * count ≡ opening new_kind kind count = omega arith in
     e ∙ o ∙ ap₂ (opening new_kind) ek ec
 
-pub all_laid : (choice n a blocks : ℕ) (s₀ cleared s : List ℕ) → blocks ≡ blocks_of n a → cleared ≡ filled 0 (512 * blocks) s₀ → s ≡ put_words (λ b. 128 * b) (opening_word choice n a) blocks cleared → s ≡ laid_down choice n a s₀
-all_laid choice n a blocks s₀ cleared s eb ec e = rw (ec, eb) at e
+-- the header's first three records, which are all that a choice other than 3 asks for; with choice 3 the numbers by part follow
+module _ (header : Header) (s first : List ℕ) (low high : ℕ) (el : low ≡ header.value % wrap) (eh : high ≡ header.value / wrap)
+    (put : first ≡ put_words (λ i. 1 + i) (λ i. get_or (header.n ∷ header.a ∷ header.k ∷ header.choice ∷ low ∷ high ∷ []) i 0) 6 s) where
+  six-words : first ≡ put_words (λ r. 1 + r) (header_word header) 6 s
+  unfolding put_words header_word
+  six-words = put ∙ rw (el, eh) refl
 
--- the six words of the header's first three records
-pub six-words : (header : Header) (s s₁ s₂ s₃ s₄ s₅ s₆ : List ℕ) (n a low high : ℕ) → n ≡ header.n → a ≡ header.a → low ≡ header.value % wrap → high ≡ header.value / wrap
-    → s₁ ≡ put_word s 1 n → s₂ ≡ put_word s₁ 2 a → s₃ ≡ put_word s₂ 3 header.k → s₄ ≡ put_word s₃ 4 header.choice → s₅ ≡ put_word s₄ 5 low → s₆ ≡ put_word s₅ 6 high → s₆ ≡ put_first_three header s
-unfolding put_words header_word
-six-words header s s₁ s₂ s₃ s₄ s₅ s₆ n a low high en ea el eh e₁ e₂ e₃ e₄ e₅ e₆ = rw (e₆, e₅, e₄, e₃, e₂, e₁, en, ea, el, eh)
-
--- which are all that a choice other than 3 asks for; with choice 3 the numbers by part follow
-module _ (header : Header) (s first : List ℕ) (e : first ≡ put_first_three header s) where
   pub three-put : (header.choice ≡ 3 → ⊥) → first ≡ put_header header s
-  three-put other = rw (three-records header.choice other) e
+  three-put other = rw (three-records header.choice other) six-words
 
-  pub eleven-put : header.choice ≡ 3 → (whole : List ℕ) → whole ≡ put_each header.each first → whole ≡ put_header header s
-  eleven-put new whole put =
+  pub eleven-put : header.choice ≡ 3 → length header.each ≡ 16 → (whole : List ℕ) → whole ≡ put_words (λ t. 7 + t) (λ t. get_or header.each t 0) (length header.each) first → whole ≡ put_header header s
+  eleven-put new long whole laid =
       rw (eleven-records header.choice new)
-      (put ∙ ap (put_each header.each) e ∙ puts_then (λ r. 1 + r) (header_word header) (λ t. 7 + t) (λ t. get_or header.each t 0) 6 16 s (λ t l. omega arith) (λ t l. sym (each_word header t)))
+      ((rw long at laid) ∙ ap (put_words (λ t. 7 + t) (λ t. get_or header.each t 0) 16) six-words ∙ puts_then (λ r. 1 + r) (header_word header) (λ t. 7 + t) (λ t. get_or header.each t 0) 6 16 s (λ t l. omega arith) (λ t l. sym (each_word header t)))
 
 -- the two words of vertex v's record
 module _ (labels weights starts : List ℕ) (v x : ℕ) where
@@ -69,9 +64,6 @@ module _ (neighbours arc_weights : List ℕ) (e x : ℕ) where
       let odd : (2 * e + 1) % 2 ≡ 1 = omega arith in
       let half : (2 * e + 1) / 2 ≡ e = omega arith in
       h ∙ sym (simp (odd, half))
-
-pub all-joined : (n vertices : ℕ) (x : ℕ → ℕ) (records : ℕ) (s₀ s : List ℕ) → vertices ≡ blocks_for n → s ≡ put_records (1 + vertices) x records s₀ → s ≡ put_records (1 + blocks_for n) x records s₀
-all-joined n vertices x records s₀ s ev e = rw ev at e
 
 -- the word that brings a block's sum to its position, wrapping: the last words of the blocks before it change none of its own
 pub last_word : (check : ℕ → ℕ) (s₀ s : List ℕ) (b x t : ℕ) → s ≡ put_words (λ b. 128 * b + 127) check b s₀ → t ≡ sum 127 (λ j. word s (128 * b + j)) % wrap → x < wrap → (x + t) % wrap ≡ b → x ≡ check_word (sum_at new_kind b) (in_block s₀ b)

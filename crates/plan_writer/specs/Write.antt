@@ -4,7 +4,7 @@ use Rattle.lists.specs.All.{all}
 use Rattle.lists.specs.Fill.{table, over}
 use Rattle.imbalance.specs.Ceiling.{unfit_choice}
 use Rattle.imbalance.specs.declared.Ceiling.{Ceiling}
-use Rattle.topology.specs.Graph.{in_rows}
+use Rattle.topology.specs.Graph.{Graph, in_rows}
 use Rattle.topology.specs.Rule.{starts_ok}
 use Rattle.plan_writer.specs.declared.WriteAnswer.{WriteAnswer}
 use Rattle.plan_blocks.specs.Block.{new_kind, blocks_of}
@@ -20,6 +20,19 @@ pub record Given : Type 0 where
   pub arc_weights : List ℕ
   pub k : ℕ
   pub ceiling : Ceiling
+
+-- what is given, by labels, weights, rows, parts and ceiling
+abbrev pub given_by : List ℕ → List ℕ → Graph → ℕ → Ceiling → Given
+given_by labels weights graph k asked =
+    record {
+      labels = labels;
+      weights = weights;
+      starts = graph.starts;
+      neighbours = graph.neighbours;
+      arc_weights = graph.weights;
+      k = k;
+      ceiling = asked;
+    }
 
 -- n is the count of labels, a the count of neighbours
 abbrev pub vertices : Given → ℕ

@@ -1,14 +1,14 @@
 // The plan file's writer. Document 01, "Plan blocks"; document 02, A2 and A4.
 #![tactic(auto)]
 
-ghost use Rattle.plan_writer.specs.Write.{Written};
+ghost use Rattle.plan_writer.specs.Write.{given_by, Written};
 
 use imbalance::Ceiling;
-use plan_blocks::header;
+use topology::Graph;
 
 mod writer; // writer.rt: the numbers that refuse a plan, and the blocks
 
-// What the writer answers: document 01's number, and the length that it wrote, 0 on a refusal.
+// What the writer answers: document 01's number, and the length that it wrote, 0 on a refusal. C reads it, so that the refusal is a number.
 #[repr(C)]
 #[derive(Clone, Copy)]
 pub struct WriteAnswer {
@@ -20,37 +20,25 @@ pub struct WriteAnswer {
 pub fn write_plan(
     labels: &[u32],
     weights: &[u32],
-    starts: &[u32],
-    neighbours: &[u32],
-    arc_weights: &[u32],
+    graph: &Graph<'_>,
     k: u32,
     asked: Ceiling,
     target: &mut [u8],
 ) -> WriteAnswer
-    ensures { Written
-        (record { labels = labels.entry.now; weights = weights.now; starts = starts.now; neighbours = neighbours.now; arc_weights = arc_weights.now; k = k; ceiling = asked })
-        target.old
-        result
-        target.new }
+    ensures { Written (given_by labels.entry.now weights.now graph.now k asked) target.old result target.new }
 {
-    let number = writer::write_number(
-        labels,
-        weights,
-        starts,
-        neighbours,
-        arc_weights,
-        k,
-        asked,
-        target.len(),
-    );
-    if number != 0 {
-        return WriteAnswer { number, length: 0 };
+    match writer::accept(labels, weights, graph, k, asked, target.len()) {
+        Err(refusal) => WriteAnswer {
+            number: u32::from(refusal),
+            length: 0,
+        },
+        Ok(header) => {
+            writer::lay_out(header, target);
+            writer::write_header(header, target);
+            writer::write_vertices(labels, weights, graph, target);
+            writer::write_arcs(graph, header.n, target);
+            let length = writer::seal(header, target);
+            WriteAnswer { number: 0, length }
+        }
     }
-    let header = header::header_with(labels.len(), neighbours.len(), k, asked);
-    writer::lay_out(header.choice, header.n, header.a, target);
-    writer::write_header(header, target);
-    writer::write_vertices(labels, weights, starts, target);
-    writer::write_arcs(neighbours, arc_weights, header.n, target);
-    let length = writer::seal(header.n, header.a, target);
-    WriteAnswer { number: 0, length }
 }

@@ -1,190 +1,166 @@
 // The writer: the numbers that refuse a plan, and the blocks of one that is accepted. Document 01, "Plan blocks"; document 02, A2 and A4.
-ghost use Rattle.std.specs.Prelude.{◌≡◌, ◌+◌, ◌*◌, ◌≤◌, not, ◌||◌, [], length, ◌==◌, nat_eq};
+ghost use Rattle.std.specs.Prelude.{◌≡◌, ◌+◌, ◌*◌, ◌≤◌, not, ◌||◌, [], length, ◌==◌, slice_index};
 ghost use Rattle.imbalance.specs.Ceiling.{unfit_choice};
 ghost use Rattle.imbalance.specs.Limit.{most_vertices, most_arcs};
 ghost use Rattle.plan_blocks.specs.Block.{blocks_for, blocks_of};
 ghost use Rattle.plan_blocks.specs.Plan.{out_of_range};
 ghost use Rattle.plan_blocks.specs.Encode.{vertex_word, arc_word};
-ghost use Rattle.plan_writer.specs.Write.{plan_with, size_of, write_number};
-ghost use Rattle.plan_writer.specs.inner.Writing.{VerticesFit, ArcsFit, laid_down, put_first_three, put_each, put_header, put_records, sealed};
+ghost use Rattle.plan_writer.specs.Write.{given_by, plan_with, size_of};
+ghost use Rattle.plan_writer.specs.inner.Writing.{accepted_as, VerticesFit, ArcsFit, laid_down, put_words, put_header, put_records, sealed};
 
 use imbalance::Ceiling;
+use lists::Refusal;
 use plan_blocks::header::Header;
-use plan_blocks::{block, ceiling, layout, words};
+use plan_blocks::{block, ceiling, header, layout, words};
+use topology::Graph;
 
 // Number 12's test.
 fn unfit(n: usize, a: usize, k: u32, asked: Ceiling) -> bool
     ensures { result ≡ (out_of_range n a k || unfit_choice asked) }
 {
-    if layout::out_of_range(n, a, k) {
-        return true;
-    }
-    imbalance::unfit_choice(asked)
+    layout::out_of_range(n, a, k) || imbalance::unfit_choice(asked)
 }
 
-// Number 1's test, on the lists' lengths.
-fn miscounted(n: usize, a: usize, weights: usize, starts: usize, arc_weights: usize) -> bool
-    requires { n ≤ most_vertices }
-    ensures { result ≡ (not (weights == n) || (not (starts == n + 1) || not (nat_eq a arc_weights))) }
+// Number 1's test.
+fn miscounted(labels: &[u32], weights: &[u32], graph: &Graph<'_>) -> bool
+    ensures { result ≡ (not (length weights.now == length labels.now)
+        || (not (length graph.now.starts == length labels.now + 1)
+        || not (length graph.now.neighbours == length graph.now.weights))) }
 {
-    if weights != n {
-        return true;
-    }
-    if starts != n + 1 {
-        return true;
-    }
-    a != arc_weights
+    weights.len() != labels.len()
+        || graph.starts.len() != labels.len() + 1
+        || graph.neighbours.len() != graph.arc_weights.len()
 }
 
-// The number of a call of the writer.
-pub(crate) fn write_number(
+// The header of a plan that is accepted for a target of so many places, or why it is refused.
+pub(crate) fn accept(
     labels: &[u32],
     weights: &[u32],
-    starts: &[u32],
-    neighbours: &[u32],
-    arc_weights: &[u32],
+    graph: &Graph<'_>,
     k: u32,
     asked: Ceiling,
     places: usize,
-) -> u32
-    ensures { result ≡ write_number
-        (record { labels = labels.entry.now; weights = weights.now; starts = starts.now; neighbours = neighbours.now; arc_weights = arc_weights.now; k = k; ceiling = asked })
-        places }
+) -> Result<Header, Refusal>
+    ensures { accepted_as (given_by labels.now weights.now graph.now k asked) places result }
 {
     let n = labels.len();
-    let a = neighbours.len();
+    let a = graph.neighbours.len();
     if unfit(n, a, k, asked) {
-        return 12;
+        return Err(Refusal::HeaderNumbers);
     }
-    if miscounted(n, a, weights.len(), starts.len(), arc_weights.len()) {
-        return 1;
+    if miscounted(labels, weights, graph) {
+        return Err(Refusal::Lengths);
     }
-    if !topology::starts_ok(starts, neighbours, n) {
-        return 3;
+    if !graph.starts_ok(n) {
+        return Err(Refusal::Rows);
     }
     if imbalance::label_above(labels, k - 1) {
-        return 14;
+        return Err(Refusal::Records);
     }
     if places < 512 * layout::blocks_of(n, a) {
-        return 15;
+        return Err(Refusal::Targets);
     }
-    0
+    let header = header::header_with(n, a, k, asked);
+    Ok(header)
 }
 
 // Each block's first word, its kind, the file's kind and its record count; its other words are zero.
-pub(crate) fn lay_out(choice: u32, n: usize, a: usize, target: &mut [u8])
-    requires { (n ≤ most_vertices) × (a ≤ most_arcs) × (size_of n a ≤ length target.old) }
-    ensures { target.new ≡ laid_down choice n a target.old }
+pub(crate) fn lay_out(header: Header, target: &mut [u8])
+    requires { (header.n ≤ most_vertices)
+        × (header.a ≤ most_arcs)
+        × (size_of header.n header.a ≤ length target.old) }
+    ensures { target.new ≡ laid_down header.choice header.n header.a target.old }
 {
-    let blocks = layout::blocks_of(n, a);
-    lists::clear_bytes(target, 512 * blocks);
-    let mut b: usize = 0;
-    while b < blocks {
-        let kind = layout::kind_at(n, b);
-        let count = layout::count_at(choice, n, a, b);
-        words::put_word(
-            target,
-            128 * b,
-            lists::narrow(kind + 256 * block::NEW_KIND + 65536 * count),
-        );
-        b += 1;
+    let blocks = layout::blocks_of(header.n, header.a);
+    lists::fill(target, 512 * blocks, 0);
+    for b in 0..blocks {
+        let kind = usize::from(layout::kind_at(header.n, b));
+        let count = layout::count_at(header.choice, header.n, header.a, b);
+        let opening = kind + 256 * block::NEW_KIND + 65536 * count;
+        words::put_word(target, 128 * b, opening as u32);
     }
 }
 
-// The header's first three records, which it has with every choice.
-fn put_first_three(header: Header, target: &mut [u8])
-    requires { (header.n ≤ most_vertices) × (header.a ≤ most_arcs) × (512 ≤ length target.old) }
-    ensures { target.new ≡ put_first_three header target.old }
+// Numbers put down as words, one after another, from word `first` on.
+fn put_row(xs: &[u32], first: usize, target: &mut [u8])
+    requires { 4 * (first + length xs.now) ≤ length target.old }
+    ensures { target.new ≡ put_words (λ i. first + i) (λ i. slice_index xs.now i) (length xs.now) target.old }
 {
-    words::put_word(target, 1, lists::narrow(header.n));
-    words::put_word(target, 2, lists::narrow(header.a));
-    words::put_word(target, 3, header.k);
-    words::put_word(target, 4, header.choice);
-    words::put_word(target, 5, ceiling::low_word(header.value));
-    words::put_word(target, 6, ceiling::high_word(header.value));
-}
-
-// The number of each part, in the header's further records.
-fn put_each(each: [u32; 16], target: &mut [u8])
-    requires { 512 ≤ length target.old }
-    ensures { target.new ≡ put_each each target.old }
-{
-    let mut t: usize = 0;
-    while t < 16 {
-        words::put_word(target, 7 + t, each[t]);
-        t += 1;
+    for (i, x) in xs.iter().enumerate() {
+        words::put_word(target, first + i, *x);
     }
 }
 
-// The header's records: with choice 3 the numbers of the parts besides.
+// The header's records: the first three with every choice, and with choice 3 the numbers of the parts besides.
 pub(crate) fn write_header(header: Header, target: &mut [u8])
     requires { (header.n ≤ most_vertices)
         × (header.a ≤ most_arcs)
         × (size_of header.n header.a ≤ length target.old) }
     ensures { target.new ≡ put_header header target.old }
 {
-    put_first_three(header, target);
-    if header.choice != 3 {
-        return;
+    let first_three = [
+        header.n as u32,
+        header.a as u32,
+        header.k,
+        header.choice,
+        ceiling::low_word(header.value),
+        ceiling::high_word(header.value),
+    ];
+    put_row(&first_three, 1, target);
+    if header.choice == 3 {
+        put_row(&header.each, 7, target);
     }
-    let each = header.each;
-    put_each(each, target);
 }
 
 // The records of the vertices: starts become degrees.
-pub(crate) fn write_vertices(labels: &[u32], weights: &[u32], starts: &[u32], target: &mut [u8])
-    requires { VerticesFit labels.now weights.now starts.now
+pub(crate) fn write_vertices(labels: &[u32], weights: &[u32], graph: &Graph<'_>, target: &mut [u8])
+    requires { VerticesFit labels.now weights.now graph.now.starts
         × (512 * (1 + blocks_for (length labels.now)) ≤ length target.old) }
     ensures { target.new ≡ put_records 1
-        (vertex_word (plan_with labels.now weights.now starts.now [] [] 0 0 0 []))
+        (vertex_word (plan_with labels.now weights.now graph.now.starts [] [] 0 0 0 []))
         (length labels.now)
         target.old }
 {
-    let mut v: usize = 0;
-    while v < labels.len() {
+    let starts = graph.starts;
+    for v in 0..labels.len() {
         let at = layout::place(1, v);
         let degree = starts[v + 1] - starts[v];
         words::put_word(target, at, weights[v]);
         words::put_word(target, at + 1, labels[v] + 65536 * degree);
-        v += 1;
     }
 }
 
 // The records of the arcs, which stand after those of n vertices.
-pub(crate) fn write_arcs(neighbours: &[u32], arc_weights: &[u32], n: usize, target: &mut [u8])
-    requires { ArcsFit neighbours.now arc_weights.now
+pub(crate) fn write_arcs(graph: &Graph<'_>, n: usize, target: &mut [u8])
+    requires { ArcsFit graph.now.neighbours graph.now.weights
         × (n ≤ most_vertices)
-        × (size_of n (length neighbours.now) ≤ length target.old) }
+        × (size_of n (length graph.now.neighbours) ≤ length target.old) }
     ensures { target.new ≡ put_records (1 + blocks_for n)
-        (arc_word (plan_with [] [] [] neighbours.now arc_weights.now 0 0 0 []))
-        (length neighbours.now)
+        (arc_word (plan_with [] [] [] graph.now.neighbours graph.now.weights 0 0 0 []))
+        (length graph.now.neighbours)
         target.old }
 {
+    let neighbours = graph.neighbours;
+    let arc_weights = graph.arc_weights;
     let first = 1 + layout::blocks_for(n);
-    let mut e: usize = 0;
-    while e < neighbours.len() {
+    for e in 0..neighbours.len() {
         let at = layout::place(first, e);
         words::put_word(target, at, neighbours[e]);
         words::put_word(target, at + 1, arc_weights[e]);
-        e += 1;
     }
 }
 
 // Each block's last word, so that the sum of its words, wrapping, is the block's position. It gives the file's length.
-pub(crate) fn seal(n: usize, a: usize, target: &mut [u8]) -> u64
-    requires { (n ≤ most_vertices) × (a ≤ most_arcs) × (size_of n a ≤ length target.old) }
-    ensures { (result ≡ size_of n a) × (target.new ≡ sealed (blocks_of n a) target.old) }
+pub(crate) fn seal(header: Header, target: &mut [u8]) -> u64
+    requires { (header.n ≤ most_vertices)
+        × (header.a ≤ most_arcs)
+        × (size_of header.n header.a ≤ length target.old) }
+    ensures { (result ≡ size_of header.n header.a) × (target.new ≡ sealed (blocks_of header.n header.a) target.old) }
 {
-    let blocks = layout::blocks_of(n, a);
-    let mut b: usize = 0;
-    while b < blocks {
+    let blocks = layout::blocks_of(header.n, header.a);
+    for b in 0..blocks {
         let sum = words::words_sum(target, 128 * b, 127);
-        words::put_word(
-            target,
-            128 * b + 127,
-            std::num::wrapping_sub_u32(lists::narrow(b), sum),
-        );
-        b += 1;
+        words::put_word(target, 128 * b + 127, (b as u32).wrapping_sub(sum));
     }
     (512 * blocks) as u64
 }

@@ -117,12 +117,11 @@ labels-low s h =
     le-ltb 15 (get_or (table (word s 1) (label_at s)) v 0) (omega arith))
 
 -- the labels as the refiners ask for them
-pub labels-ready : {s : List ℕ} {r : ReadAnswer} {u : Targets} (n : ℕ) → n ≡ r.n → Had s r u → (length (take n u.labels) ≤ plan_vertices) × (label_above 15 (take n u.labels) ≡ false)
-labels-ready {s} {r} {u} n e h =
-    let l : length (take n u.labels) ≤ n = rw (length-take n u.labels) (omega arith) in
-    let q : take n u.labels ≡ (plan_of s).labels = rw e h.labels in
+pub labels-ready : {s : List ℕ} {r : ReadAnswer} {u : Targets} → Had s r u → (length (take r.n u.labels) ≤ plan_vertices) × (label_above 15 (take r.n u.labels) ≡ false)
+labels-ready {s} {r} {u} h =
+    let l : length (take r.n u.labels) ≤ r.n = rw (length-take r.n u.labels) (omega arith) in
     let f = h.few in
-    (omega arith, rw q (labels-low s h.accepted))
+    (omega arith, rw h.labels (labels-low s h.accepted))
 
 -- what is printed: a refusal, and the text of a plan
 module _ (s before after : List ℕ) (end : ℕ) where
@@ -137,12 +136,12 @@ module _ (s before after : List ℕ) (end : ℕ) where
   unfolding text_of
   printed-refusal number e ne p = printed (refusal number) 29 (rw (← e, ne_eqb number 0 ne)) p
 
-  pub printed-plan : (r : ReadAnswer) (u : Targets) (n a : ℕ) → n ≡ r.n → a ≡ r.a → input_number s ≡ 0 → Had s r u
-      → Put (run_text r (take (n + 1) u.starts) (take a u.neighbours) (take a u.arc_weights) (take n u.weights) (take n u.labels)) text_bytes 0 before after end
+  pub printed-plan : (r : ReadAnswer) (u : Targets) → input_number s ≡ 0 → Had s r u
+      → Put (run_text r (take (r.n + 1) u.starts) (take r.a u.neighbours) (take r.a u.arc_weights) (take r.n u.weights) (take r.n u.labels)) text_bytes 0 before after end
       → Printed s before end after
   unfolding text_of plan_text
-  printed-plan r u n a en ea e h p =
-      printed _ text_bytes (rw (e, en, ea, h.starts, h.neighbours, h.arc_weights, h.weights, h.labels, ← h.header)) p
+  printed-plan r u e h p =
+      printed _ text_bytes (rw (e, h.starts, h.neighbours, h.arc_weights, h.weights, h.labels, ← h.header)) p
 
 -- the text is within the output
 pub printed-within : {s t u : List ℕ} {r : ℕ} → Printed s t r u → r ≤ length u

@@ -1,7 +1,7 @@
 -- The lines of a run of FM and of arc-swap: how they are put together, that they fit, and that they are the text. Assumes nothing.
 use mathlib.Core.Path.{◌≡◌, refl, ap, ◌∙◌}
 use mathlib.Core.Bool.{Bool, true, false, cond}
-use mathlib.Core.List.{List, ◌++◌}
+use mathlib.Core.List.{List}
 use Prim.Native.Nat.{ℕ, zero, suc, ◌+◌, ◌*◌, ◌≤◌}
 use native.Mathlib.Omega.{arith}
 use lib.ListN.{length, take}
@@ -31,16 +31,16 @@ pub parts-long : (k : ℕ) (loads : List ℕ) → k ≤ 16 → length loads ≡ 
 parts-long k loads h e = length-take-le k loads (omega arith)
 
 -- the three parts of a run's text, put one after the other
-module _ (r : TwoReport) (made rewound labels : List ℕ) (i : ℕ) {before one two after : List ℕ} {s t end : ℕ} where
-  pub put-two-lines : text_bytes ≤ length before → length labels ≤ plan_vertices → r.passes ≤ 64 → length r.loads.at ≡ 16 → i ≡ r.passes
+module _ (r : TwoReport) (made rewound labels : List ℕ) {before one two after : List ℕ} {s t end : ℕ} where
+  pub put-two-lines : text_bytes ≤ length before → length labels ≤ plan_vertices → r.passes ≤ 64 → length r.loads.at ≡ 16
       → Put (opening r.end r.first r.last (take 2 r.loads.at) r.passes) (105 + 21 * length (take 2 r.loads.at)) 0 before one s
-      → Put (pass_lines i made rewound) (47 * i) s one two t → Put (labels_line labels) (7 + 21 * length labels) t two after end
+      → Put (pass_lines r.passes made rewound) (47 * r.passes) s one two t → Put (labels_line labels) (7 + 21 * length labels) t two after end
       → Put (two_lines r made rewound labels) text_bytes 0 before after end
   unfolding two_lines
-  put-two-lines enough few passes long e a b d =
+  put-two-lines enough few passes long a b d =
       let l = parts-long 2 r.loads.at (omega arith) long in
       let o = opening r.end r.first r.last (take 2 r.loads.at) r.passes in
-      put_as (ap (λ (k : ℕ). o ++ pass_lines k made rewound ++ labels_line labels) e) (omega arith) (put_then (omega arith) (put_then (omega arith) a b) d)
+      put_as refl (omega arith) (put_then (omega arith) (put_then (omega arith) a b) d)
 
 module _ (k : ℕ) (r : ManyReport) (run : RunRecord) (labels : List ℕ) {before one two after : List ℕ} {s t end : ℕ} where
   pub put-many-lines : text_bytes ≤ length before → length labels ≤ plan_vertices → k ≤ 16 → length r.loads.at ≡ 16

@@ -12,6 +12,7 @@ ghost use Rattle.refine_text.specs.Refine.{plan_vertices, plan_arcs, input_bytes
 use plan_blocks::words;
 use plan_reader::ReadAnswer;
 use refine_words::lines;
+use topology::Graph;
 
 // The limits of a plan that the program reads.
 const PLAN_VERTICES: usize = 512;
@@ -24,7 +25,7 @@ pub const INPUT_BYTES: usize = 22016;
 // The bytes lent for the text.
 pub const TEXT_BYTES: usize = 16384;
 
-// The number of an input that the reader refuses by `number`: a header beyond the program's limits is 12, ahead of 13 and 14 and in place of 15.
+// The number of an input that the reader refuses by `number`: a header beyond the program's limits is 12, ahead of 13 and 14 and in place of 15. It is a number, as `ReadAnswer` has it, which C reads.
 fn input_number(input: &[u8], number: u32) -> u32
     requires { (length input.now ≤ input_bytes) × (number ≡ number_for input.now plan_vertices plan_vertices (plan_vertices + 1) plan_arcs plan_arcs) × (number ≡ 0 → ⊥) }
     ensures { result ≡ input_number input.now }
@@ -32,10 +33,10 @@ fn input_number(input: &[u8], number: u32) -> u32
     if number <= 12 {
         return number;
     }
-    if lists::index(words::word_at(input, 1)) > PLAN_VERTICES {
+    if words::word_at(input, 1) as usize > PLAN_VERTICES {
         return 12;
     }
-    if lists::index(words::word_at(input, 2)) > PLAN_ARCS {
+    if words::word_at(input, 2) as usize > PLAN_ARCS {
         return 12;
     }
     number
@@ -44,28 +45,25 @@ fn input_number(input: &[u8], number: u32) -> u32
 // The run that the header asks for, on lists of their exact lengths.
 fn refine_lists(
     read: ReadAnswer,
-    starts: &[u32],
-    neighbours: &[u32],
-    arc_weights: &[u32],
+    graph: &Graph,
     weights: &[u32],
     labels: &mut [u32],
     out: &mut [u8],
 ) -> usize
     requires { (length labels.old ≤ plan_vertices) × (label_above 15 labels.old ≡ false) × (text_bytes ≤ length out.old) }
-    ensures { Put (run_text read starts.now neighbours.now arc_weights.now weights.now labels.old) text_bytes 0 out.old out.new result }
+    ensures { Put (run_text read graph.now.starts graph.now.neighbours graph.now.weights weights.now labels.old) text_bytes 0 out.old out.new result }
 {
     let ceiling = read.ceiling;
     if read.k == 2 {
-        let s = fiduccia_mattheyses::Settings {
+        let settings = fiduccia_mattheyses::Settings {
             passes: 64,
             moves: read.n,
             bad: 0,
             ceiling,
         };
-        return runs::refine_two(starts, neighbours, arc_weights, weights, labels, s, out);
+        return runs::refine_two(graph, weights, labels, settings, out);
     }
-    let s = arc_swap::Settings { ceiling };
-    runs::refine_many(starts, neighbours, arc_weights, weights, labels, s, out)
+    runs::refine_many(graph, weights, labels, arc_swap::Settings { ceiling }, out)
 }
 
 // The text of an input, at the start of the output; its length.
@@ -91,15 +89,15 @@ pub fn refine_text(input: &[u8], output: &mut [u8; TEXT_BYTES]) -> usize
     if read.number != 0 {
         return lines::put_refusal(output, input_number(input, read.number));
     }
-    let n = lists::index(read.n);
-    let a = lists::index(read.a);
-    refine_lists(
-        read,
-        &starts[..n + 1],
-        &neighbours[..a],
-        &arc_weights[..a],
-        &weights[..n],
-        &mut labels[..n],
-        output,
-    )
+    let n = read.n as usize;
+    let a = read.a as usize;
+    // A plan that the reader accepts fits the lists that it was lent.
+    prove!(n <= PLAN_VERTICES);
+    prove!(a <= PLAN_ARCS);
+    let graph = Graph {
+        starts: &starts[..n + 1],
+        neighbours: &neighbours[..a],
+        arc_weights: &arc_weights[..a],
+    };
+    refine_lists(read, &graph, &weights[..n], &mut labels[..n], output)
 }

@@ -1,10 +1,12 @@
 // A run of FM and a run of arc-swap, as the program prints them. Document 01, the end of "The eight-block grid".
 ghost use Rattle.std.specs.Prelude.{◌≡◌, false, ◌≤◌, length};
 ghost use Rattle.imbalance.specs.Limit.{label_above};
+ghost use Rattle.topology.specs.Given.{given};
 ghost use Rattle.refine_words.specs.inner.Steps.{Put};
 ghost use Rattle.refine_text.specs.Refine.{plan_vertices, text_bytes, two_lines, two_text, many_lines, many_text};
 
 use refine_words::lines;
+use topology::Graph;
 
 // The lines of a run of FM.
 fn put_two(
@@ -22,49 +24,44 @@ fn put_two(
         × (text_bytes ≤ length out.old) }
     ensures { Put (two_lines report made.now rewound.now labels.now) text_bytes 0 out.old out.new result }
 {
-    let loads = report.loads;
-    let at = loads.at;
+    let loads = report.loads.at;
     let opened = lines::put_opening(
         out,
         report.end,
         report.first,
         report.last,
-        &at[..2],
+        &loads[..2],
         report.passes,
     );
-    let passes = lists::index(report.passes);
+    let passes = report.passes as usize;
     let listed = lines::put_pass_lines(out, opened, passes, made, rewound);
     lines::put_labels(out, listed, labels)
 }
 
 // FM, and its lines or its refusal.
 pub(crate) fn refine_two(
-    starts: &[u32],
-    neighbours: &[u32],
-    arc_weights: &[u32],
+    graph: &Graph,
     weights: &[u32],
     labels: &mut [u32],
-    s: fiduccia_mattheyses::Settings,
+    settings: fiduccia_mattheyses::Settings,
     out: &mut [u8],
 ) -> usize
-    requires { (length labels.old ≤ plan_vertices) × (s.passes ≡ 64) × (text_bytes ≤ length out.old) }
+    requires { (length labels.old ≤ plan_vertices) × (settings.passes ≡ 64) × (text_bytes ≤ length out.old) }
     ensures { Put
-        (two_text (record { starts = starts.entry.now; neighbours = neighbours.now; arcs = arc_weights.now; weights = weights.now; settings = s }) labels.old)
+        (two_text (given graph.now weights.now settings) labels.old)
         text_bytes 0 out.old out.new result }
 {
     let mut gains = [0i64; crate::PLAN_VERTICES];
     let mut made = [0u32; 64];
     let mut rewound = [0u32; 64];
-    let report = fiduccia_mattheyses_records::with_512_moves(
-        starts,
-        neighbours,
-        arc_weights,
+    let report = fiduccia_mattheyses_records::with_moves::<512>(
+        graph,
         weights,
         labels,
         &mut gains,
         &mut made,
         &mut rewound,
-        s,
+        settings,
     );
     if report.number != 0 {
         return lines::put_refusal(out, report.number);
@@ -86,14 +83,13 @@ fn put_many(
         × (text_bytes ≤ length out.old) }
     ensures { Put (many_lines parts report run labels.now) text_bytes 0 out.old out.new result }
 {
-    let loads = report.loads;
-    let at = loads.at;
+    let loads = report.loads.at;
     let opened = lines::put_opening(
         out,
         report.end,
         report.first,
         report.last,
-        &at[..parts],
+        &loads[..parts],
         report.passes,
     );
     let counted = lines::put_counts(
@@ -109,30 +105,20 @@ fn put_many(
 
 // Arc-swap, and its lines or its refusal.
 pub(crate) fn refine_many(
-    starts: &[u32],
-    neighbours: &[u32],
-    arc_weights: &[u32],
+    graph: &Graph,
     weights: &[u32],
     labels: &mut [u32],
-    s: arc_swap::Settings,
+    settings: arc_swap::Settings,
     out: &mut [u8],
 ) -> usize
     requires { (length labels.old ≤ plan_vertices) × (label_above 15 labels.old ≡ false) × (text_bytes ≤ length out.old) }
     ensures { Put
-        (many_text (record { starts = starts.entry.now; neighbours = neighbours.now; arcs = arc_weights.now; weights = weights.now; settings = s }) labels.old)
+        (many_text (given graph.now weights.now settings) labels.old)
         text_bytes 0 out.old out.new result }
 {
-    let parts = lists::index(arc_swap::parts_of(labels));
+    let parts = arc_swap::parts_of(labels) as usize;
     let mut stack = [0u32; imbalance::MOST_VERTICES];
-    let answered = arc_swap::arc_swap_counted(
-        starts,
-        neighbours,
-        arc_weights,
-        weights,
-        labels,
-        &mut stack,
-        s,
-    );
+    let answered = arc_swap::arc_swap_counted(graph, weights, labels, &mut stack, settings);
     let report = answered.report;
     if report.number != 0 {
         return lines::put_refusal(out, report.number);

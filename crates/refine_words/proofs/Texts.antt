@@ -143,9 +143,6 @@ pub numbers-none : numbers [] ≡ []
 unfolding numbers
 numbers-none = refl
 
-pub numbers-all : (xs : List ℕ) → numbers (take (length xs) xs) ≡ numbers xs
-numbers-all xs = ap numbers (take-length xs)
-
 -- Where a loop stands that has put i of n texts of at most m bytes each.
 pub record Here (text : ℕ → List ℕ) (m n at i : ℕ) (before after : List ℕ) (here : ℕ) : Type 0 where
   pub within : i ≤ n
@@ -176,11 +173,6 @@ module _ {text : ℕ → List ℕ} {m n at i here : ℕ} {before after : List �
         put = put_as (sym e) (omega arith) (put_then (omega arith) h.put p);
         long = put-long here-room p ∙ h.long;
       }
-
-pub here-all : {text : ℕ → List ℕ} {m n at i here : ℕ} {before after : List ℕ} → n ≤ i → Here text m n at i before after here → Put (text n) (m * n) at before after here
-here-all {text} {m} {n} {at} {i} l h =
-    let e : i ≡ n = (let w = h.within in omega arith) in
-    rw e at h.put
 
 -- the digits of a number, put by `put_decimal`
 pub one-long : (x : ℕ) → x < 10 → length (decimal x) ≡ 1

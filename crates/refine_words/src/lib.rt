@@ -1,4 +1,4 @@
-// Words, numbers and lines put into a lent list of bytes, one after the other. Document 01, the end of "The eight-block grid": what the refine program prints.
+// Words, numbers and lines put into a lent list of bytes, one after the other: each function takes the place that it begins at and answers the place past its text, as the promise of the whole text (`Put`) has it, and the program has no heap to grow a text on. Document 01, the end of "The eight-block grid": what the refine program prints.
 #![tactic(auto)]
 
 pub mod lines; // lines.rt: the lines of a run and of a refusal
@@ -21,7 +21,7 @@ fn digit(x: u64) -> u8
     requires { x < 10 }
     ensures { result ≡ nought + x }
 {
-    48 + x as u8
+    b'0' + x as u8
 }
 
 // A number in decimal: the digits of its tens, and then its last.
@@ -45,16 +45,14 @@ fn put_number(out: &mut [u8], at: usize, x: u64) -> usize
     put_decimal(out, next, x)
 }
 
-// The bytes of a word.
+// The bytes of a word, one after the other by `put_byte`, whose promise is `Put`.
 fn put_word(out: &mut [u8], at: usize, word: &[u8]) -> usize
     requires { at + length word.now ≤ length out.old }
     ensures { Put word.now (length word.now) at out.old out.new result }
 {
     let mut here = at;
-    let mut i: usize = 0;
-    while i < word.len() {
-        here = put_byte(out, here, word[i]);
-        i += 1;
+    for byte in word {
+        here = put_byte(out, here, *byte);
     }
     here
 }
@@ -65,24 +63,20 @@ fn put_numbers(out: &mut [u8], at: usize, xs: &[u64]) -> usize
     ensures { Put (numbers xs.now) (21 * length xs.now) at out.old out.new result }
 {
     let mut here = at;
-    let mut i: usize = 0;
-    while i < xs.len() {
-        here = put_number(out, here, xs[i]);
-        i += 1;
+    for x in xs {
+        here = put_number(out, here, *x);
     }
     here
 }
 
-// The same for labels.
+// The same for labels. A generic function of both would need a trait with the number of each type and a proof that the numbers of a list of u64 are the list, which is longer than this loop.
 fn put_labels(out: &mut [u8], at: usize, xs: &[u32]) -> usize
     requires { at + 21 * length xs.now ≤ length out.old }
     ensures { Put (numbers xs.now) (21 * length xs.now) at out.old out.new result }
 {
     let mut here = at;
-    let mut i: usize = 0;
-    while i < xs.len() {
-        here = put_number(out, here, lists::wide(xs[i]));
-        i += 1;
+    for x in xs {
+        here = put_number(out, here, u64::from(*x));
     }
     here
 }
@@ -97,7 +91,7 @@ pub(crate) fn put_line(out: &mut [u8], at: usize, word: &[u8], xs: &[u64]) -> us
     put_byte(out, last, b'\n')
 }
 
-// A line of labels.
+// A line of labels, by itself for the same reason as `put_labels`.
 pub(crate) fn put_label_line(out: &mut [u8], at: usize, word: &[u8], xs: &[u32]) -> usize
     requires { at + (length word.now + 21 * length xs.now + 1) ≤ length out.old }
     ensures { Put (line word.now xs.now) (length word.now + 21 * length xs.now + 1) at out.old out.new result }

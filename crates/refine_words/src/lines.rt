@@ -10,7 +10,7 @@ pub fn put_refusal(out: &mut [u8], number: u32) -> usize
     requires { 29 ≤ length out.old }
     ensures { Put (refusal number) 29 0 out.old out.new result }
 {
-    let numbers = [lists::wide(number)];
+    let numbers = [u64::from(number)];
     put_line(out, 0, b"refused", &numbers)
 }
 
@@ -19,7 +19,7 @@ fn put_end(out: &mut [u8], at: usize, end: u32) -> usize
     requires { at + 25 ≤ length out.old }
     ensures { Put (end_line end) 25 at out.old out.new result }
 {
-    let numbers = [lists::wide(end)];
+    let numbers = [u64::from(end)];
     put_line(out, at, b"end", &numbers)
 }
 
@@ -45,7 +45,7 @@ fn put_passes(out: &mut [u8], at: usize, passes: u32) -> usize
     requires { at + 28 ≤ length out.old }
     ensures { Put (passes_line passes) 28 at out.old out.new result }
 {
-    let numbers = [lists::wide(passes)];
+    let numbers = [u64::from(passes)];
     put_line(out, at, b"passes", &numbers)
 }
 
@@ -72,7 +72,7 @@ fn put_pass(out: &mut [u8], at: usize, made: u32, rewound: u32) -> usize
     requires { at + 47 ≤ length out.old }
     ensures { Put (pass_line made rewound) 47 at out.old out.new result }
 {
-    let numbers = [lists::wide(made), lists::wide(rewound)];
+    let numbers = [u64::from(made), u64::from(rewound)];
     put_line(out, at, b"pass", &numbers)
 }
 
@@ -88,10 +88,8 @@ pub fn put_pass_lines(
     ensures { Put (pass_lines passes made.now rewound.now) (47 * passes) at out.old out.new result }
 {
     let mut here = at;
-    let mut i: usize = 0;
-    while i < passes {
+    for i in 0..passes {
         here = put_pass(out, here, made[i], rewound[i]);
-        i += 1;
     }
     here
 }

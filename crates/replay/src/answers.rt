@@ -1,46 +1,36 @@
-// One function an algorithm: calls the library, and holds its answer to the rest of the line. Document 01, its opening: coupe decides labels and counts.
-use crate::text;
-use crate::text::Place;
+// The cuts and the loads: each calls the library, and holds its answer to the rest of the line. Document 01, its opening: coupe decides labels and counts.
+use crate::case::Case;
+use crate::reader::{Mismatch, Reader};
 
-// A cut: done, and the line's one number.
-fn expect_cut(buffer: &mut [u8; text::BUFFER], place: Place, number: u32, cut: u64) -> Place {
-    let done = text::only_if(number == 0, place);
-    text::expect(buffer, done, cut)
+// A call whose number is not 0 gives no answer. The library's answers are those that C gets, and so the refusal is a number here.
+fn expect_done(number: u32) -> Result<(), Mismatch> {
+    if number == 0 {
+        Ok(())
+    } else {
+        Err(Mismatch::Differs)
+    }
 }
 
-pub fn edge_cut(
-    buffer: &mut [u8; text::BUFFER],
-    place: Place,
-    starts: &[u32],
-    neighbours: &[u32],
-    arc_weights: &[u32],
-    labels: &[u32],
-) -> Place {
-    let answer = topology::edge_cut(starts, neighbours, arc_weights, labels);
-    expect_cut(buffer, place, answer.number, answer.cut)
+// The line's one number.
+pub fn edge_cut(case: Case, reader: &mut Reader) -> Result<(), Mismatch> {
+    let labels = case.labels;
+    let answer = case.graph.edge_cut(labels);
+    expect_done(answer.number)?;
+    reader.expect(answer.cut)
 }
 
-pub fn lambda_cut(
-    buffer: &mut [u8; text::BUFFER],
-    place: Place,
-    starts: &[u32],
-    neighbours: &[u32],
-    arc_weights: &[u32],
-    weights: &[u32],
-    labels: &[u32],
-) -> Place {
-    let answer = topology::lambda_cut(starts, neighbours, arc_weights, weights, labels);
-    expect_cut(buffer, place, answer.number, answer.cut)
+// The line's one number.
+pub fn lambda_cut(case: Case, reader: &mut Reader) -> Result<(), Mismatch> {
+    let labels = case.labels;
+    let answer = case.graph.lambda_cut(case.weights, labels);
+    expect_done(answer.number)?;
+    reader.expect(answer.cut)
 }
 
-// The loads: done, and the line's sixteen numbers.
-pub fn compute_parts_load(
-    buffer: &mut [u8; text::BUFFER],
-    place: Place,
-    weights: &[u32],
-    labels: &[u32],
-) -> Place {
-    let answer = imbalance::compute_parts_load(weights, labels);
-    let done = text::only_if(answer.number == 0, place);
-    crate::refiners::expect_loads(buffer, done, answer.loads)
+// The line's sixteen numbers.
+pub fn loads(case: Case, reader: &mut Reader) -> Result<(), Mismatch> {
+    let labels = case.labels;
+    let answer = imbalance::compute_parts_load(case.weights, labels);
+    expect_done(answer.number)?;
+    reader.expect_all(&answer.loads.at)
 }

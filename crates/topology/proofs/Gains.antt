@@ -40,9 +40,6 @@ module _ (w : ℕ) (h : w < 2 ^ 32) where
   pub twice_same : (label own : ℕ) → label ≡ own → to_z w64 (of_z w64 (pos 2 *ℤ to_z w64 w)) ≡ change (eqb label own) w
   twice_same label own e = rw (eq-eqb label own e) twice-kept
 
-  pub twice-other : (label own : ℕ) → (label ≡ own → ⊥) → to_z w64 (of_z w64 (pos 0 -ℤ to_z w64 (of_z w64 (pos 2 *ℤ to_z w64 w)))) ≡ change (eqb label own) w
-  twice-other label own e = rw (ne_eqb label own e) (to_z-of_z w64 (pos 0 -ℤ to_z w64 (of_z w64 (pos 2 *ℤ to_z w64 w))) negated_fits ∙ negated)
-
   pub twice-small : (t : Bool) → mag (change t w) ≤ 2 * w
   twice-small true = omega arith
   twice-small false = mag-neg (2 * w)

@@ -1,7 +1,7 @@
 -- What number 0 tells of a graph: no number from 1 to 5 applies, so its rows are in order, it is symmetric without loops, and its weights are within their limits. Assumes nothing.
-use mathlib.Core.Path.{◌≡◌, refl, sym, ap, ◌∙◌}
+use mathlib.Core.Path.{◌≡◌, refl, sym, ◌∙◌}
 use mathlib.Core.Bool.{Bool, true, false, not, cond, ◌||◌}
-use mathlib.Core.List.{List, []}
+use mathlib.Core.List.{List}
 use Prim.Native.Nat.{ℕ, zero, suc, ◌+◌, ◌≤◌, ◌<◌}
 use native.Mathlib.Omega.{arith}
 use native.Mathlib.Numerals.{add-one}
@@ -15,13 +15,13 @@ use Rattle.lists.proofs.Numbers.{or-else-zero, not-given}
 use Rattle.imbalance.specs.Limit.{most_vertices, most_arcs, heavy, label_above}
 use Rattle.imbalance.specs.Load.{Loadable}
 use Rattle.imbalance.proofs.Limits.{light-total}
-use Rattle.topology.specs.Graph.{Graph, in_rows, first, past}
+use Rattle.topology.specs.Graph.{Graph, first, past}
 use Rattle.topology.specs.Rule.{misfit, oversize, starts_ok, rows_ok, row_ok, answered, rows_number, graph_number, Rows, Symmetric, Sound}
-use Rattle.topology.specs.Number.{edge_cut_number, lambda_cut_number, answer_of}
+use Rattle.topology.specs.Number.{edge_cut_number, lambda_cut_number}
 use Rattle.topology.specs.inner.Row.{RowsAlone}
 use Rattle.topology.proofs.Starts.{start_first, start-last, start-rises, start-inside}
 use Rattle.topology.proofs.RowWalks.{each_row}
-use Rattle.topology.proofs.Rules.{arc-below, symmetric, rows-found}
+use Rattle.topology.proofs.Rules.{arc-below, symmetric}
 
 -- every place below the last start is in some row
 in_row : (n e : ℕ) (g : Graph) → first g 0 ≡ 0 → e < first g n → (u : ℕ) × (u < n) × (first g u ≤ e) × (e < past g u)
@@ -76,41 +76,44 @@ sound n ws g e =
       light_arcs = light-total g.weights five.1;
     }
 
+-- the code's test of 1: a list of starts that does not fit, or else the other two lists
+module _ (n : ℕ) (g : Graph) where
+  pub miscounted : (length g.starts ≡ n + 1 → ⊥) → true ≡ misfit n g
+  unfolding misfit
+  miscounted ne = rw (ne_eqb (length g.starts) (n + 1) ne)
+
+  pub counted-by : length g.starts ≡ n + 1 → (b : Bool) → b ≡ not (eqb (length g.neighbours) (length g.weights)) → b ≡ misfit n g
+  unfolding misfit
+  counted-by e b q = q ∙ rw (eq-eqb (length g.starts) (n + 1) e)
+
 -- the code's tests of 1, 2 and 3, which did not hold: a list of starts that fits
-pub starts_fit : (n : ℕ) (starts neighbours weights : List ℕ) (unfit : Bool) → unfit ≡ misfit n (in_rows starts neighbours weights) → unfit ≡ false → length starts ≡ n + 1
+pub starts_fit : (n : ℕ) (g : Graph) (unfit : Bool) → unfit ≡ misfit n g → unfit ≡ false → length g.starts ≡ n + 1
 unfolding misfit
-starts_fit n starts neighbours weights unfit e f =
-    let fit = or-false (not (eqb (length starts) (n + 1))) (not (eqb (length neighbours) (length weights))) (sym e ∙ f) in
-    eqb-true (length starts) (n + 1) (not-false (eqb (length starts) (n + 1)) fit.0)
+starts_fit n g unfit e f =
+    let fit = or-false (not (eqb (length g.starts) (n + 1))) (not (eqb (length g.neighbours) (length g.weights))) (sym e ∙ f) in
+    eqb-true (length g.starts) (n + 1) (not-false (eqb (length g.starts) (n + 1)) fit.0)
 
 -- and rows that are in order
 pub rows-ready :
-    (n : ℕ) (starts neighbours weights : List ℕ) (unfit large ok : Bool)
-    → unfit ≡ misfit n (in_rows starts neighbours weights) → unfit ≡ false
-    → large ≡ oversize n (length neighbours) → large ≡ false
-    → ok ≡ rows_ok n (in_rows starts neighbours []) → not ok ≡ false
-    → Rows n (in_rows starts neighbours weights) × (rows_ok n (in_rows starts neighbours weights) ≡ true)
-rows-ready n starts neighbours weights unfit large ok unfit-is fits large_is small ok-is in_order =
-    let r = sym (rows-found n starts neighbours weights ok ok-is) ∙ not-false ok in_order in
-    (rows-hold n (in_rows starts neighbours weights) (sym unfit-is ∙ fits) (sym large_is ∙ small) r, r)
-
--- what the stand-alone cuts answer: a number that is not 0, or the cut
-pub answer-refused : (number cut r : ℕ) → r ≡ number → (r ≡ 0 → ⊥) → record { number = r; cut = 0 } ≡ answer_of number cut
-answer-refused number cut r e ne = rw (ne_eqb number 0 (λ q. ne (e ∙ q))) (ap (λ (x : ℕ). record { number = x; cut = 0 }) e)
-
-pub answer-done : (number cut r c : ℕ) → r ≡ number → r ≡ 0 → c ≡ cut → record { number = 0; cut = c } ≡ answer_of number cut
-answer-done number cut r c e z f = rw (eq-eqb number 0 (sym e ∙ z)) (ap (λ (x : ℕ). record { number = 0; cut = x }) f)
+    (n : ℕ) (g : Graph) (unfit large ok : Bool)
+    → unfit ≡ misfit n g → unfit ≡ false
+    → large ≡ oversize n (length g.neighbours) → large ≡ false
+    → ok ≡ rows_ok n g → not ok ≡ false
+    → Rows n g × (rows_ok n g ≡ true)
+rows-ready n g unfit large ok unfit-is fits large_is small ok-is in_order =
+    let r = sym ok-is ∙ not-false ok in_order in
+    (rows-hold n g (sym unfit-is ∙ fits) (sym large_is ∙ small) r, r)
 
 -- number 0 of the stand-alone edge cut
-pub edge-cut-asked : (g : Graph) (labels : List ℕ) (r : ℕ) → r ≡ edge_cut_number g labels → r ≡ 0 → Rows (length labels) g
+pub edge-cut-asked : (g : Graph) (labels : List ℕ) → edge_cut_number g labels ≡ 0 → Rows (length labels) g
 unfolding edge_cut_number
-edge-cut-asked g labels r e z =
-    (rows-number-zero (length labels) g (or-else-zero (rows_number (length labels) g) (cond (heavy g.weights) 5 (cond (label_above 15 labels) 6 0)) (sym e ∙ z)).0).0
+edge-cut-asked g labels z =
+    (rows-number-zero (length labels) g (or-else-zero (rows_number (length labels) g) (cond (heavy g.weights) 5 (cond (label_above 15 labels) 6 0)) z).0).0
 
 -- number 0 of the stand-alone lambda cut
-pub lambda-cut-asked : (g : Graph) (weights labels : List ℕ) (r : ℕ) → r ≡ lambda_cut_number g weights labels → r ≡ 0 → RowsAlone (length labels) g.starts g.neighbours × Loadable weights labels
+pub lambda-cut-asked : (g : Graph) (weights labels : List ℕ) → lambda_cut_number g weights labels ≡ 0 → RowsAlone (length labels) g.starts g.neighbours × Loadable weights labels
 unfolding lambda_cut_number
-lambda-cut-asked g weights labels r e z =
-    let both = or-else-zero (graph_number (length labels) weights g) (cond (label_above 15 labels) 6 0) (sym e ∙ z) in
+lambda-cut-asked g weights labels z =
+    let both = or-else-zero (graph_number (length labels) weights g) (cond (label_above 15 labels) 6 0) z in
     let s = sound (length labels) weights g both.0 in
     (each_row s.rows, record { paired = s.weighed; few = s.rows.few; light = s.light; named = (not-given (label_above 15 labels) 5 0 both.1).0 })

@@ -1,21 +1,20 @@
 -- What the row rules and the rule of equal opposites give: a symmetric graph without loops. Assumes nothing.
 use mathlib.Core.Path.{◌≡◌, refl, sym, ap, ◌∙◌}
 use mathlib.Core.Bool.{Bool, true, false, not, ◌&&◌, ◌||◌}
-use mathlib.Core.List.{List, []}
 use Prim.Native.Nat.{ℕ, suc, ◌+◌, ◌-◌, ◌≤◌, ◌<◌}
 use native.Mathlib.Omega.{arith}
 use native.Mathlib.Nat.{le_antisymm}
 use lib.Dec.{ltb, eqb}
 use borrow.Author.Tests.{eq-eqb, ne_eqb, eqb-true, eqb-false, ltb-true, ltb-false, not-true, not-false}
 use Rattle.lists.specs.Sum.{sum, between, weigh}
-use Rattle.lists.specs.All.{all, all_from}
+use Rattle.lists.specs.All.{all}
 use Rattle.lists.proofs.Bools.{and_left, and_right}
 use Rattle.lists.proofs.Totals.{sum-ext, sum-zero, sum-only, sum-holds}
 use Rattle.lists.proofs.Alls.{all-at, all-witness}
 use Rattle.topology.proofs.Rises.{chain, arc-rule, step-rises}
 use Rattle.topology.proofs.EqualOpposites.{opposites}
-use Rattle.topology.specs.Graph.{Graph, in_rows, first, past, neighbour, weight, arcs, joins}
-use Rattle.topology.specs.Rule.{starts_ok, arc_ok, row_ok, rows_ok, answered, Symmetric}
+use Rattle.topology.specs.Graph.{Graph, first, past, neighbour, weight, arcs, joins}
+use Rattle.topology.specs.Rule.{arc_ok, rows_ok, answered, Symmetric}
 use Rattle.topology.specs.Rules.{Arc}
 
 -- a row of m arcs whose ends rise
@@ -105,22 +104,3 @@ module _ (n : ℕ) (g : Graph) (rows : rows_ok n g ≡ true) where
 
     pub symmetric : Symmetric n g
     symmetric = record { below = arc-below; equal = λ u x lu lx. le_antisymm (one_way u x lu lx) (one_way x u lx lu); loopless = no_loop }
-
--- the row rules look at the starts and the neighbours alone
-module _ (n : ℕ) (starts neighbours weights : List ℕ) where
-  pub rows-alone : rows_ok n (in_rows starts neighbours []) ≡ rows_ok n (in_rows starts neighbours weights)
-  unfolding rows_ok starts_ok arc_ok
-  rows-alone = refl
-
-  pub rows-found : (ok : Bool) → ok ≡ rows_ok n (in_rows starts neighbours []) → ok ≡ rows_ok n (in_rows starts neighbours weights)
-  rows-found ok e = e ∙ rows-alone
-
-  -- what was found of the arcs from lo up to hi is found of row u
-  pub row_read :
-      (u lo hi : ℕ) (ok : Bool)
-      → lo ≡ first (in_rows starts neighbours weights) u
-      → hi ≡ past (in_rows starts neighbours weights) u
-      → ok ≡ all_from lo hi (arc_ok n (in_rows [] neighbours []) u lo)
-      → ok ≡ row_ok n (in_rows starts neighbours weights) u
-  unfolding arc_ok
-  row_read u lo hi ok a b e = rw (a, b) at e

@@ -53,8 +53,3 @@ pub starts-hold : (n : ℕ) (g : Graph) → first g 0 ≡ 0 → first g n ≡ le
 unfolding starts_ok
 starts-hold n g z e h =
     rw (eq-eqb (first g 0) 0 z, eq-eqb (first g n) (length g.neighbours) e) (all-every n (falls_not g) (λ u l. le-leb (first g u) (past g u) (h u l)))
-
--- their test looks at the starts and the count of the neighbours alone
-pub starts-alone : (n : ℕ) (starts neighbours weights : List ℕ) → starts_ok n (in_rows starts neighbours []) ≡ starts_ok n (in_rows starts neighbours weights)
-unfolding starts_ok
-starts-alone n starts neighbours weights = refl

@@ -11,3 +11,7 @@ pub record GivenWith (Settings : Type 0) : Type 0 where
 
 abbrev pub graph_of : {Settings : Type 0} → GivenWith Settings → Graph
 graph_of p = in_rows p.starts p.neighbours p.arcs
+
+-- what is given by a lent graph, its vertex weights and the settings
+abbrev pub given : {Settings : Type 0} → Graph → List ℕ → Settings → GivenWith Settings
+given g weights settings = record { starts = g.starts; neighbours = g.neighbours; arcs = g.weights; weights = weights; settings = settings }

@@ -1,93 +1,64 @@
 // Every arc has an opposite of equal weight: number 4. Document 01, "Arc u to v needs arc v to u of equal weight".
-ghost use Rattle.std.specs.Prelude.{◌≡◌, true, ◌+◌, ◌<◌, length, get_or};
-ghost use Rattle.lists.specs.All.{all_from};
-ghost use Rattle.topology.specs.Graph.{in_rows};
-ghost use Rattle.topology.specs.Rule.{rows_ok, has_arc, answered, Rows};
+ghost use Rattle.std.specs.Prelude.{◌≡◌, true, ◌+◌, ◌<◌, length};
+ghost use Rattle.topology.specs.Graph.{first, past};
+ghost use Rattle.topology.specs.Rule.{rows_ok, has_arc, row_answered, answered, Rows};
 ghost use Rattle.topology.specs.inner.Lookup.{Rises, Halved, Answerable};
 
-// The first arc from lo up to hi that goes to u or above, hi where there is none. It halves the row, which rises strictly.
-fn lowest_from(neighbours: &[u32], lo: usize, hi: usize, u: usize) -> usize
-    requires { Rises neighbours.now lo hi }
-    ensures { Halved neighbours.now lo hi u result }
-{
-    let mut a = lo;
-    let mut b = hi;
-    while a < b {
-        let middle = a + (b - a) / 2;
-        let v = lists::index_at(neighbours, middle);
-        if v < u {
-            a = middle + 1;
-        } else {
-            b = middle;
-        }
-    }
-    a
-}
+use crate::Graph;
 
-// Whether row v has an arc to u of weight w.
-fn has_arc(
-    starts: &[u32],
-    neighbours: &[u32],
-    arc_weights: &[u32],
-    v: usize,
-    u: usize,
-    w: u32,
-) -> bool
-    requires { (v + 1 < length starts.now) × Rises neighbours.now (get_or starts.now v 0) (get_or starts.now (v + 1) 0) × (length arc_weights.now ≡ length neighbours.now) }
-    ensures { result ≡ has_arc (in_rows starts.now neighbours.now arc_weights.now) v u w }
-{
-    let lo = lists::index_at(starts, v);
-    let hi = lists::index_at(starts, v + 1);
-    let e = lowest_from(neighbours, lo, hi, u);
-    if hi <= e {
-        return false;
-    }
-    let x = lists::index_at(neighbours, e);
-    if x != u {
-        return false;
-    }
-    let weight = arc_weights[e];
-    weight == w
-}
-
-// Whether every arc of row u, from lo up to hi, has its equal opposite.
-fn row_answered(
-    starts: &[u32],
-    neighbours: &[u32],
-    arc_weights: &[u32],
-    u: usize,
-    lo: usize,
-    hi: usize,
-) -> bool
-    requires { Answerable starts.now neighbours.now arc_weights.now lo hi }
-    ensures { result ≡ all_from lo hi (λ e. has_arc (in_rows starts.now neighbours.now arc_weights.now) (get_or neighbours.now e 0) u (get_or arc_weights.now e 0)) }
-{
-    let mut e = lo;
-    while e < hi {
-        let v = lists::index_at(neighbours, e);
-        let ok = has_arc(starts, neighbours, arc_weights, v, u, arc_weights[e]);
-        if !ok {
-            return false;
+impl<'a> Graph<'a> {
+    // The first arc from lo up to hi that goes to u or above, hi where there is none. It halves the row, which rises strictly.
+    fn lowest_from(&self, lo: usize, hi: usize, u: usize) -> usize
+        requires { Rises self.now.neighbours lo hi }
+        ensures { Halved self.now.neighbours lo hi u result }
+    {
+        let mut a = lo;
+        let mut b = hi;
+        while a < b {
+            let middle = a + (b - a) / 2;
+            let v = self.neighbour(middle);
+            if v < u {
+                a = middle + 1;
+            } else {
+                b = middle;
+            }
         }
-        e += 1;
+        a
     }
-    true
-}
 
-// Number 4 is given where this is false.
-pub fn answered_all(starts: &[u32], neighbours: &[u32], arc_weights: &[u32], n: usize) -> bool
-    requires { Rows n (in_rows starts.now neighbours.now arc_weights.now) × (rows_ok n (in_rows starts.now neighbours.now arc_weights.now) ≡ true) }
-    ensures { result ≡ answered n (in_rows starts.now neighbours.now arc_weights.now) }
-{
-    let mut u: usize = 0;
-    while u < n {
-        let lo = lists::index_at(starts, u);
-        let hi = lists::index_at(starts, u + 1);
-        let ok = row_answered(starts, neighbours, arc_weights, u, lo, hi);
-        if !ok {
-            return false;
-        }
-        u += 1;
+    // Whether row v has an arc to u of weight w.
+    fn has_arc(&self, v: usize, u: usize, w: u32) -> bool
+        requires { (v + 1 < length self.now.starts) × Rises self.now.neighbours (first self.now v) (past self.now v) × (length self.now.weights ≡ length self.now.neighbours) }
+        ensures { result ≡ has_arc self.now v u w }
+    {
+        let hi = self.past(v);
+        let e = self.lowest_from(self.first(v), hi, u);
+        e < hi && self.neighbour(e) == u && self.weight(e) == w
     }
-    true
+
+    // Whether every arc of row u has its equal opposite.
+    fn row_answered(&self, u: usize) -> bool
+        requires { (u + 1 < length self.now.starts) × Answerable self.now.starts self.now.neighbours self.now.weights (first self.now u) (past self.now u) }
+        ensures { result ≡ row_answered self.now u }
+    {
+        for e in self.first(u)..self.past(u) {
+            if !self.has_arc(self.neighbour(e), u, self.weight(e)) {
+                return false;
+            }
+        }
+        true
+    }
+
+    // Number 4 is given where this is false.
+    pub(crate) fn answered_all(&self, n: usize) -> bool
+        requires { Rows n self.now × (rows_ok n self.now ≡ true) }
+        ensures { result ≡ answered n self.now }
+    {
+        for u in 0..n {
+            if !self.row_answered(u) {
+                return false;
+            }
+        }
+        true
+    }
 }

@@ -1,114 +1,87 @@
 // The row rules: numbers 1, 2 and 3. Document 01, "The graph and its numbers".
-ghost use Rattle.std.specs.Prelude.{◌≡◌, true, [], ◌+◌, ◌≤◌, ◌<◌, length};
-ghost use Rattle.lists.specs.All.{all, all_from};
-ghost use Rattle.topology.specs.Graph.{in_rows};
+ghost use Rattle.std.specs.Prelude.{◌≡◌, true, ◌+◌, ◌≤◌, ◌<◌, length};
+ghost use Rattle.lists.specs.All.{all};
 ghost use Rattle.topology.specs.Rule.{misfit, oversize, starts_ok, arc_ok, row_ok, rows_ok};
 
-// Number 1's test: whether the lists' lengths do not fit n vertices.
-pub fn misfits(starts: &[u32], neighbours: &[u32], arc_weights: &[u32], n: usize) -> bool
-    ensures { result ≡ misfit n (in_rows starts.now neighbours.now arc_weights.now) }
-{
-    if starts.len() == 0 {
-        return true;
-    }
-    if starts.len() - 1 != n {
-        return true;
-    }
-    neighbours.len() != arc_weights.len()
-}
+use crate::Graph;
 
-// Number 2's test.
-pub fn oversized(n: usize, a: usize) -> bool
-    ensures { result ≡ oversize n a }
-{
-    if imbalance::MOST_VERTICES < n {
-        return true;
+impl<'a> Graph<'a> {
+    // Number 1's test: whether the lists' lengths do not fit n vertices.
+    pub(crate) fn misfits(&self, n: usize) -> bool
+        ensures { result ≡ misfit n self.now }
+    {
+        self.starts.len() == 0
+            || self.starts.len() - 1 != n
+            || self.neighbours.len() != self.arc_weights.len()
     }
-    imbalance::MOST_ARCS < a
-}
 
-// Starts begin at 0, never fall and end at a.
-pub fn starts_ok(starts: &[u32], neighbours: &[u32], n: usize) -> bool
-    requires { length starts.now ≡ n + 1 }
-    ensures { result ≡ starts_ok n (in_rows starts.now neighbours.now []) }
-{
-    if starts[0] != 0 {
-        return false;
+    // Number 2's test.
+    pub(crate) fn oversized(&self, n: usize) -> bool
+        ensures { result ≡ oversize n (length self.now.neighbours) }
+    {
+        imbalance::MOST_VERTICES < n || imbalance::MOST_ARCS < self.neighbours.len()
     }
-    let last = lists::index_at(starts, n);
-    if last != neighbours.len() {
-        return false;
-    }
-    let mut u: usize = 0;
-    while u < n {
-        if starts[u] > starts[u + 1] {
+
+    // Starts begin at 0, never fall and end at the arcs' count.
+    pub fn starts_ok(&self, n: usize) -> bool
+        requires { length self.now.starts ≡ n + 1 }
+        ensures { result ≡ starts_ok n self.now }
+    {
+        if self.first(0) != 0 || self.first(n) != self.neighbours.len() {
             return false;
         }
-        u += 1;
+        for u in 0..n {
+            if self.first(u) > self.past(u) {
+                return false;
+            }
+        }
+        true
     }
-    true
-}
 
-// Arc e of row u, whose first arc is lo: below n, not u itself, above the arc before it.
-fn arc_ok(neighbours: &[u32], n: usize, u: usize, lo: usize, e: usize) -> bool
-    requires { (lo ≤ e) × (e < length neighbours.now) }
-    ensures { result ≡ arc_ok n (in_rows [] neighbours.now []) u lo e }
-{
-    let v = lists::index_at(neighbours, e);
-    if n <= v {
-        return false;
-    }
-    if v == u {
-        return false;
-    }
-    if e == lo {
-        return true;
-    }
-    let before = lists::index_at(neighbours, e - 1);
-    before < v
-}
-
-// Row u, from arc lo up to hi.
-fn row_ok(neighbours: &[u32], n: usize, u: usize, lo: usize, hi: usize) -> bool
-    requires { (lo ≤ hi) × (hi ≤ length neighbours.now) }
-    ensures { result ≡ all_from lo hi (arc_ok n (in_rows [] neighbours.now []) u lo) }
-{
-    let mut e = lo;
-    while e < hi {
-        let ok = arc_ok(neighbours, n, u, lo, e);
-        if !ok {
+    // Arc e of row u, whose first arc is lo: below n, not u itself, above the arc before it.
+    fn arc_ok(&self, n: usize, u: usize, lo: usize, e: usize) -> bool
+        requires { (lo ≤ e) × (e < length self.now.neighbours) }
+        ensures { result ≡ arc_ok n self.now u lo e }
+    {
+        let v = self.neighbour(e);
+        if n <= v || v == u {
             return false;
         }
-        e += 1;
+        e == lo || self.neighbour(e - 1) < v
     }
-    true
-}
 
-// Every row.
-fn all_rows_ok(starts: &[u32], neighbours: &[u32], n: usize) -> bool
-    requires { (length starts.now ≡ n + 1) × (starts_ok n (in_rows starts.now neighbours.now []) ≡ true) }
-    ensures { result ≡ all n (row_ok n (in_rows starts.now neighbours.now [])) }
-{
-    let mut u: usize = 0;
-    while u < n {
-        let lo = lists::index_at(starts, u);
-        let hi = lists::index_at(starts, u + 1);
-        let ok = row_ok(neighbours, n, u, lo, hi);
-        if !ok {
-            return false;
+    // Row u.
+    fn row_ok(&self, n: usize, u: usize) -> bool
+        requires { (length self.now.starts ≡ n + 1) × (u < n) × (starts_ok n self.now ≡ true) }
+        ensures { result ≡ row_ok n self.now u }
+    {
+        let lo = self.first(u);
+        for e in lo..self.past(u) {
+            if !self.arc_ok(n, u, lo, e) {
+                return false;
+            }
         }
-        u += 1;
+        true
     }
-    true
-}
 
-// Number 3 is given where this is false.
-pub fn rows_ok(starts: &[u32], neighbours: &[u32], n: usize) -> bool
-    requires { length starts.now ≡ n + 1 }
-    ensures { result ≡ rows_ok n (in_rows starts.now neighbours.now []) }
-{
-    if starts_ok(starts, neighbours, n) {
-        return all_rows_ok(starts, neighbours, n);
+    // Every row.
+    fn all_rows_ok(&self, n: usize) -> bool
+        requires { (length self.now.starts ≡ n + 1) × (starts_ok n self.now ≡ true) }
+        ensures { result ≡ all n (row_ok n self.now) }
+    {
+        for u in 0..n {
+            if !self.row_ok(n, u) {
+                return false;
+            }
+        }
+        true
     }
-    false
+
+    // Number 3 is given where this is false.
+    pub(crate) fn rows_ok(&self, n: usize) -> bool
+        requires { length self.now.starts ≡ n + 1 }
+        ensures { result ≡ rows_ok n self.now }
+    {
+        self.starts_ok(n) && self.all_rows_ok(n)
+    }
 }

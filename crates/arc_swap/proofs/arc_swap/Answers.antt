@@ -1,15 +1,17 @@
 -- `arc_swap::arc_swap` meets its promise: no vertex, a refusal, or the run. Assumes nothing.
+use Rattle.std.proofs.Common.{sym, refl, ◌∙◌, eqb-true}
+use borrow.Author.Tests.{eqb-false}
 use Rattle.arc_swap.proofs.Entering.{ready, at-empty, at-refusal, at-run}
 use Rattle.arc_swap.proofs.arc_swap.Goals as goal
 
-pub returns-then-labels-eq0 : goal.returns-then-labels-eq0
-returns-then-labels-eq0 c = at-empty _ _ _ _ c.if-labels-eq0.true c.bare_report.ensures c.zero_run.ensures
+pub returns-then-is_empty : goal.returns-then-is_empty
+returns-then-is_empty c = at-empty _ _ _ _ (eqb-true _ 0 (sym c.is_empty.ensures ∙ c.if-is_empty.true)) c.empty_report.ensures refl
 
-pub returns-then-number-ne0 : goal.returns-then-number-ne0
-returns-then-number-ne0 c = at-refusal _ _ c.if-labels-eq0.false _ _ c.number_of-number.ensures c.if-number-ne0.true c.bare_report-then-number-ne0.ensures
+pub returns-in-Err : goal.returns-in-Err
+returns-in-Err c = at-refusal _ _ (eqb-false _ 0 (sym c.is_empty.ensures ∙ c.if-is_empty.false)) _ c.in-Err.refusal c.in-Err.ensures (rw c.from.ensures at c.bare_report.ensures)
 
 pub refine-requires : goal.refine-requires
-refine-requires c = ready _ _ _ c.number_of-number.ensures c.if-number-ne0.false
+refine-requires c = let done = c.in_default.ensures in ready _ _ (sym done)
 
 pub returns : goal.returns
-returns c = at-run _ _ c.if-labels-eq0.false _ _ _ c.number_of-number.ensures c.if-number-ne0.false c.refine.ensures
+returns c = let done = c.in_default.ensures in at-run _ _ (eqb-false _ 0 (sym c.is_empty.ensures ∙ c.if-is_empty.false)) _ _ (sym done) c.refine.ensures

@@ -10,20 +10,20 @@ loop-st-init c = draining _ refl _ _ _ _ c.requires.0 c.requires.1
 pub returns-then-not-st : goal.returns-then-not-st
 returns-then-not-st c =
     let i = c.loop-st.invariant in
-    full _ refl _ _ _ _ c.requires.0 _ _ _ _ i c.loop-st-test.true _ _ _ c.attempt-a.auto.stack
-    (rw i.ordered.places at c.attempt-a.ensures) _ c.note.ensures (not-true _ c.if-not-st.true)
+    full _ refl _ _ _ _ c.requires.0 _ _ _ _ i c.loop-st-test.true _ _ _ c.attempt-tried.auto.stack
+    (rw i.ordered.places at c.attempt-tried.ensures) _ c.note.ensures (not-true _ c.if-not-st.true)
 
 pub loop-st-smaller : goal.loop-st-smaller
 loop-st-smaller c =
     let i = c.loop-st.invariant in
-    lessens _ refl _ _ _ _ c.requires.0 _ _ _ _ i c.loop-st-test.true _ _ _ c.attempt-a.auto.stack
-    (rw i.ordered.places at c.attempt-a.ensures) _ c.note.ensures
+    lessens _ refl _ _ _ _ c.requires.0 _ _ _ _ i c.loop-st-test.true _ _ _ c.attempt-tried.auto.stack
+    (rw i.ordered.places at c.attempt-tried.ensures) _ c.note.ensures
 
 pub loop-st-preserved : goal.loop-st-preserved
 loop-st-preserved c =
     let i = c.loop-st.invariant in
-    again _ refl _ _ _ _ c.requires.0 _ _ _ _ i c.loop-st-test.true _ _ _ c.attempt-a.auto.stack
-    (rw i.ordered.places at c.attempt-a.ensures) _ c.note.ensures (not-false _ c.if-not-st.false)
+    again _ refl _ _ _ _ c.requires.0 _ _ _ _ i c.loop-st-test.true _ _ _ c.attempt-tried.auto.stack
+    (rw i.ordered.places at c.attempt-tried.ensures) _ c.note.ensures (not-false _ c.if-not-st.false)
 
 pub returns : goal.returns
 returns c = emptied _ refl _ _ _ _ c.requires.0 _ _ _ _ c.loop-st.invariant c.loop-st-test.false

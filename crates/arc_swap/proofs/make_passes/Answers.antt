@@ -2,17 +2,18 @@
 use Rattle.arc_swap.proofs.Running.{running, again, ends}
 use Rattle.arc_swap.proofs.make_passes.Goals as goal
 
-pub loop-limits-init : goal.loop-limits-init
-loop-limits-init c = running _ _ _ _ _ c.requires.0 c.requires.1 c.requires.2
+pub loop-end-init : goal.loop-end-init
+loop-end-init c = running _ _ _ _ _ c.requires.0 c.requires.1 c.requires.2
 
-pub returns-then-end-ne0 : goal.returns-then-end-ne0
-returns-then-end-ne0 c =
-    let i = c.loop-limits.invariant in
+pub returns-in-Some : goal.returns-in-Some
+returns-in-Some c =
+    let i = c.loop-end.invariant in
     ends _ _ _ _ _ c.requires.0 c.requires.1 c.requires.2 _ _ _ _ _ i _ _ _ _
-    (rw i.ordered.places at c.make_pass-st.ensures) _ c.end_of-end.ensures c.if-end-ne0.true
+    (rw i.ordered.places at c.make_pass-st.ensures) c.in-Some.end c.in-Some.ensures
 
-pub loop-limits-preserved : goal.loop-limits-preserved
-loop-limits-preserved c =
-    let i = c.loop-limits.invariant in
+pub loop-end-preserved : goal.loop-end-preserved
+loop-end-preserved c =
+    let i = c.loop-end.invariant in
+    let goes_on = c.in_default.ensures in
     again _ _ _ _ _ c.requires.0 c.requires.1 c.requires.2 _ _ _ _ _ i _ _ _ _
-    (rw i.ordered.places at c.make_pass-st.ensures) _ c.end_of-end.ensures c.if-end-ne0.false
+    (rw i.ordered.places at c.make_pass-st.ensures) goes_on

@@ -1,15 +1,19 @@
 -- What the functions inside the entry ask and answer: an attempt, a first push, an emptying of the stack, a pass, the passes.
-use Rattle.std.specs.Prelude.{◌≡◌, Bool, true, false, not, cond, List, [], ◌∷◌, ℕ, ◌+◌, ◌-◌, ◌*◌, ◌^◌, ◌≤◌, ◌<◌, length, get_or, set, ltb, ℤ}
+use Rattle.std.specs.Prelude.{◌≡◌, Bool, true, false, not, cond, List, [], ◌∷◌, ℕ, ◌+◌, ◌-◌, ◌*◌, ◌^◌, ◌≤◌, ◌<◌, length, get_or, set, ltb, ℤ, Option, Some, None}
+use Rattle.lists.specs.End.{end_number}
+use Rattle.lists.specs.declared.end.End.{End}
+use Rattle.lists.specs.declared.end.End.TheVariants.{NoGain, StackFull}
 use Rattle.lists.specs.Fill.{table}
 use Rattle.lists.specs.Sum.{total}
 use Rattle.imbalance.specs.Limit.{most_arcs, most_weight, label_above}
 use Rattle.imbalance.specs.Load.{load, loads_of}
 use Rattle.imbalance.specs.Ceiling.{unfit_choice, ceilings}
-use Rattle.topology.specs.Graph.{Graph, in_rows}
+use Rattle.topology.specs.Graph.{Graph}
 use Rattle.topology.specs.Rule.{Rows, Symmetric, Sound}
 use Rattle.topology.specs.Cut.{cut}
 use Rattle.arc_swap_attempt.specs.Trial.{trial}
 use Rattle.arc_swap_attempt.specs.inner.Steps.{stacked, Named, Stood, MoveDone}
+use Rattle.arc_swap_attempt.specs.declared.Frame.{Frame}
 use Rattle.arc_swap_attempt.specs.declared.Limits.{Limits}
 use Rattle.arc_swap_attempt.specs.declared.Standing.{Standing}
 use Rattle.arc_swap.specs.declared.RunRecord.{RunRecord}
@@ -22,9 +26,13 @@ use Rattle.topology.specs.Given.{graph_of}
 use Rattle.arc_swap.specs.Entry.{Given, Lent, parts_of, no_counts, report_of, left_by}
 
 -- the terms that a function's parameters stand for
-abbrev pub terms_by : List ℕ → List ℕ → List ℕ → List ℕ → Limits → ℕ → Terms
-terms_by starts neighbours arcs weights limits places =
-    record { graph = in_rows starts neighbours arcs; weights = weights; ceilings = limits.ceilings.at; movable = λ v. true; parts = limits.parts; places = places }
+abbrev pub terms_by : Graph → List ℕ → Limits → ℕ → Terms
+terms_by g weights limits places =
+    record { graph = g; weights = weights; ceilings = limits.ceilings.at; movable = λ v. true; parts = limits.parts; places = places }
+
+-- the same of what the code holds together
+abbrev pub terms_in : Frame → ℕ → Terms
+terms_in f places = terms_by f.graph.now f.weights.now f.limits places
 
 -- What stands still during a run of n vertices, once no number applies.
 pub record Fixed (s : Terms) (n : ℕ) : Type 0 where
@@ -112,13 +120,13 @@ pub record TurnAsked (s : Terms) (labels stack : List ℕ) (st : Standing) (coun
   pub empty : st.top ≡ 0
   pub fit : st.fits ≡ true
 
--- how a pass ends the run: 2 where pushes did not fit, 1 where the cut did not fall, 0 where the run goes on
-abbrev pub end_by : ℕ → Bool → ℕ → ℕ
-end_by before fits after = cond fits (cond (ltb after before) 0 1) 2
+-- how a pass ends the run: where pushes did not fit, and where the cut did not fall; else the run goes on
+abbrev pub end_by : ℕ → Bool → ℕ → Option End
+end_by before fits after = cond fits (cond (ltb after before) None (Some NoGain)) (Some StackFull)
 
 -- What the passes answer: the defined run from the labels with no counts, its end and its passes.
 pub record PassesDone (s : Terms) (labels labels' stack' : List ℕ) (counts' : RunRecord) (r : Ended) : Type 0 where
-  pub leads : (hs : List ℤ) × (run s (cut s.graph labels + 1) 0 (at labels [] no_counts [] false) ≡ record { end = r.end; passes = r.passes; state = at labels' (stacked stack' r.st.top) counts' hs (not r.st.fits) })
+  pub leads : (hs : List ℤ) × (run s (cut s.graph labels + 1) 0 (at labels [] no_counts [] false) ≡ record { end = end_number r.end; passes = r.passes; state = at labels' (stacked stack' r.st.top) counts' hs (not r.st.fits) })
   pub stood : Stood s.graph s.weights labels' r.st.cut r.st.loads.at
 
 -- What the run of a call asks, once no number applies. The rules themselves are `rules` of Rules.antt.

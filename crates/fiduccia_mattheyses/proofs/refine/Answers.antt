@@ -15,4 +15,4 @@ returns c =
     let same = c.make_passes-ended.auto.gains in
     let places = c.requires.in_gains in
     ran _ _ c.requires _ c.begin_run-begun.ensures _ _ _ _ _ c.make_passes-ended.ensures _ _ (joined-long n gains front same places)
-    (joined-past n gains front same places) c.finish.ensures.0 _ c.clear.ensures _ c.finish.ensures.1
+    (joined-past n gains front same places) c.finish.ensures.0 _ c.fill.ensures _ c.finish.ensures.1

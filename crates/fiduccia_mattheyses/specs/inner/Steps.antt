@@ -1,5 +1,5 @@
--- What the functions inside the entry ask and answer: what a call comes to, where a run begins, a pass's row, the passes, the run.
-use Rattle.std.specs.Prelude.{◌≡◌, false, cond, List, map, ℕ, ◌+◌, ◌-◌, ◌≤◌, ◌<◌, length, set, drop, leb, eqb, ℤ}
+-- What the functions inside the entry ask and answer: where a run begins, a pass's row, the passes, the run.
+use Rattle.std.specs.Prelude.{◌≡◌, false, List, map, ℕ, ◌+◌, ◌-◌, ◌≤◌, ◌<◌, length, set, drop, ℤ}
 use Rattle.lists.specs.Fill.{table, over}
 use Rattle.lists.specs.Sum.{total}
 use Rattle.imbalance.specs.Limit.{most_vertices, most_passes, label_above}
@@ -12,17 +12,12 @@ use Rattle.fiduccia_mattheyses_pass.specs.Pass.{Pass}
 use Rattle.fiduccia_mattheyses_pass.specs.declared.Move.{Move}
 use Rattle.fiduccia_mattheyses.specs.declared.Ended.{Ended}
 use Rattle.fiduccia_mattheyses.specs.declared.Begun.{Begun}
-use Rattle.fiduccia_mattheyses.specs.declared.Call.{Call}
-use Rattle.fiduccia_mattheyses.specs.declared.Call.TheVariants.{Answered, Runs}
+use Rattle.lists.specs.End.{end_number}
 use Rattle.fiduccia_mattheyses.specs.Run.{run}
 use Rattle.topology.specs.Given.{graph_of}
 use Rattle.fiduccia_mattheyses.specs.Entry.{Given, Lent, report_of, left_by}
 use Rattle.fiduccia_mattheyses.specs.declared.Report.{Report}
 use Rattle.fiduccia_mattheyses_pass.specs.inner.Steps.{PassAsked}
-
--- what a call of so many vertices and this number comes to
-unfoldable pub call_of : ℕ → ℕ → Call
-call_of n number = cond (eqb n 0) (Answered 0 3) (cond (eqb number 0) Runs (Answered number 0))
 
 -- What beginning a run asks: none of the numbers 1 to 7.
 pub record Beginnable (p : Given) (labels : List ℕ) : Type 0 where
@@ -52,10 +47,6 @@ pub record RowDone (rows_made rows-rewound : List ℕ) (passes made kept : ℕ) 
   pub rewound_are : rows-rewound' ≡ set rows-rewound passes (made - kept)
   pub passes_are : r ≡ passes + 1
 
--- how a pass leaves the run: "1 gainless pass (also when it was the last allowed)"; else 0, and the run may go on up to its "pass limit"
-unfoldable pub end_by : ℕ → ℕ → ℕ
-end_by before after = cond (leb before after) 1 0
-
 -- What the passes ask besides: a place for a row a pass.
 pub record PassesAsked (s : Terms) (limit : ℕ) (labels : List ℕ) (gains : List ℤ) (moves : List Move) (made rewound loads : List ℕ) (cut₀ : ℕ) : Type 0 where
   pub begun : PassAsked s labels gains moves loads cut₀
@@ -66,7 +57,7 @@ pub record PassesAsked (s : Terms) (limit : ℕ) (labels : List ℕ) (gains : Li
 -- What the passes answer: the defined run from p, its rows written, the cut and the loads of the labels left.
 pub record PassesDone (s : Terms) (limit : ℕ) (p : List ℕ) (moves₀ : List Move) (made₀ rewound₀ labels : List ℕ) (moves : List Move) (made rewound : List ℕ) (r : Ended) : Type 0 where
   pub labelled : labels ≡ (run s limit p).labels
-  pub end_is : r.end ≡ (run s limit p).end
+  pub end_is : end_number r.end ≡ (run s limit p).end
   pub passes_are : r.passes ≡ length (run s limit p).rows
   pub cut_is : r.cut ≡ cut s.graph labels
   pub loaded : r.loads.at ≡ table 16 (load s.weights labels)

@@ -29,25 +29,36 @@ lowest = negsuc (lock_size - 2)
 abbrev pub nobody : Held
 nobody = record { past = 0; gain = lowest; load = far }
 
--- What a look asks: as many gains and weights as labels, labels 0 or 1, a room and a lift for each, and lifts within the limit.
-pub record Sighted (gains : List ℤ) (labels weights rooms lifts : List ℕ) : Type 0 where
-  pub gained : length gains ≡ length labels
-  pub weighed : length weights ≡ length labels
-  pub two_labels : (v : ℕ) → part labels v < 2
-  pub roomed : length rooms ≡ 2
-  pub lifted : length lifts ≡ 2
-  pub light : (p : ℕ) → p < 2 → get_or lifts p 0 ≤ most_weight
+-- What a scan sees: the gain, label and weight of each vertex, and by a vertex's label the room in its target and how far the target's load is above the lesser of the two.
+pub record Sight : Type 0 where
+  pub gains : List ℤ
+  pub labels : List ℕ
+  pub weights : List ℕ
+  pub rooms : List ℕ
+  pub lifts : List ℕ
 
-module _ (rooms lifts : List ℕ) (gains : List ℤ) (labels weights : List ℕ) where
+abbrev pub sight_of : List ℤ → List ℕ → List ℕ → List ℕ → List ℕ → Sight
+sight_of gains labels weights rooms lifts = record { gains = gains; labels = labels; weights = weights; rooms = rooms; lifts = lifts }
+
+-- What a look asks: as many gains and weights as labels, labels 0 or 1, a room and a lift for each, and lifts within the limit.
+pub record Sighted (sight : Sight) : Type 0 where
+  pub gained : length sight.gains ≡ length sight.labels
+  pub weighed : length sight.weights ≡ length sight.labels
+  pub two_labels : (v : ℕ) → part sight.labels v < 2
+  pub roomed : length sight.rooms ≡ 2
+  pub lifted : length sight.lifts ≡ 2
+  pub light : (p : ℕ) → p < 2 → get_or sight.lifts p 0 ≤ most_weight
+
+module _ (sight : Sight) where
   abbrev pub gain_of : ℕ → ℤ
-  gain_of v = get_or gains v (pos 0)
+  gain_of v = get_or sight.gains v (pos 0)
 
   -- the load of v's target after the move, above the lesser of the two
   abbrev pub load_of : ℕ → ℕ
-  load_of v = get_or lifts (part labels v) 0 + get_or weights v 0
+  load_of v = get_or sight.lifts (part sight.labels v) 0 + get_or sight.weights v 0
 
   abbrev pub fits_of : ℕ → Bool
-  fits_of v = ltb (get_or weights v 0) (get_or rooms (part labels v) 0)
+  fits_of v = ltb (get_or sight.weights v 0) (get_or sight.rooms (part sight.labels v) 0)
 
   abbrev pub may_of : ℕ → Bool
   may_of v = is_free (gain_of v) && fits_of v
@@ -69,7 +80,7 @@ module _ (rooms lifts : List ℕ) (gains : List ℤ) (labels weights : List ℕ)
     pub found : Bool
     pub vertex : ℕ
     pub past_is : found ≡ true → held.past ≡ vertex + 1
-    pub here : found ≡ true → vertex < length labels
+    pub here : found ≡ true → vertex < length sight.labels
     pub may_is : found ≡ true → may_of vertex ≡ true
     pub gain_is : found ≡ true → held.gain ≡ gain_of vertex
     pub load_is : found ≡ true → held.load ≡ load_of vertex

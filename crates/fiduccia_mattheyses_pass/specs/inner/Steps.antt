@@ -5,11 +5,12 @@ use Rattle.lists.specs.Fill.{table}
 use Rattle.imbalance.specs.Limit.{most_vertices, most_weight}
 use Rattle.imbalance.specs.Load.{part, load}
 use Rattle.imbalance.specs.inner.Moved.{loads_moved}
-use Rattle.topology.specs.Graph.{in_rows}
+use Rattle.topology.specs.Graph.{Graph}
 use Rattle.topology.specs.Cut.{cut}
 use Rattle.fiduccia_mattheyses_choice.specs.Choice.{Terms, other, flip}
 use Rattle.fiduccia_mattheyses_pass.specs.Pass.{no_move, State, start, flips, pass}
 use Rattle.fiduccia_mattheyses_pass.specs.inner.Standing.{Fixed, Stands, Apart}
+use Rattle.fiduccia_mattheyses_pass.specs.declared.Frame.{Frame}
 use Rattle.fiduccia_mattheyses_pass.specs.declared.Limits.{Limits}
 use Rattle.fiduccia_mattheyses_pass.specs.declared.Standing.{Standing}
 use Rattle.imbalance.specs.declared.Loads.{Loads}
@@ -17,9 +18,13 @@ use Rattle.fiduccia_mattheyses_pass.specs.declared.Move.{Move}
 use Rattle.fiduccia_mattheyses_pass.specs.declared.Passed.{Passed}
 
 -- the terms that a function's parameters stand for
-abbrev pub terms_by : List ℕ → List ℕ → List ℕ → List ℕ → Limits → Terms
-terms_by starts neighbours arcs weights limits =
-    record { graph = in_rows starts neighbours arcs; weights = weights; ceilings = limits.ceilings.at; movable = λ v. true; bad_limit = limits.bad; move_limit = limits.moves }
+abbrev pub terms_by : Graph → List ℕ → Limits → Terms
+terms_by graph weights limits =
+    record { graph = graph; weights = weights; ceilings = limits.ceilings.at; movable = λ v. true; bad_limit = limits.bad; move_limit = limits.moves }
+
+-- the same of what the code holds together
+abbrev pub terms_in : Frame → Terms
+terms_in f = terms_by f.graph.now f.weights.now f.limits
 
 -- where a pass starts, with these loads and this cut
 abbrev pub first_standing : Loads → ℕ → Standing

@@ -1,24 +1,25 @@
--- `imbalance::ceiling_of` meets its contract: each return rewrites with the tests that led there. Assumes nothing.
-use Rattle.std.proofs.Common.{eq-eqb, ne_eqb}
+-- `imbalance::ceiling_of` meets its contract: each choice's number rewrites with the choice. Assumes nothing.
+use Rattle.std.proofs.Common.{◌≡◌, arith}
 use Rattle.imbalance.specs.Ceiling.{ceiling}
-use Rattle.imbalance.proofs.Choices.{fit-legal, last-old}
+use Rattle.imbalance.proofs.Choices.{fit-legal}
 use Rattle.imbalance.proofs.ceiling_of.Goals as goal
 
-pub returns-then-asked-eq0 : goal.returns-then-asked-eq0
+pub returns-in-0 : goal.returns-in-0
 unfolding ceiling
-returns-then-asked-eq0 c = simp (eq-eqb _ _ c.if-asked-eq0.true) c.largest_load.ensures
+returns-in-0 c = rw c.in-0.is c.largest_load.ensures
 
-pub returns-then-asked-eq1 : goal.returns-then-asked-eq1
+pub returns-in-1 : goal.returns-in-1
 unfolding ceiling
-returns-then-asked-eq1 c =
-    simp (ne_eqb _ _ c.if-asked-eq0.false, eq-eqb _ _ c.if-asked-eq1.true) c.wide.ensures
+returns-in-1 c = rw c.in-1.is c.from.ensures
 
 pub ceiling_by-requires : goal.ceiling_by-requires
 ceiling_by-requires c =
     let p = c.requires in
-    (p.0, p.1, p.2, fit-legal _ p.3 (last-old _ p.4 c.if-asked-eq0.false c.if-asked-eq1.false))
+    let two : c.args.asked.choice ≡ 2 = omega arith in
+    (p.0, p.1, p.2, fit-legal _ p.3 two)
 
-pub returns : goal.returns
+pub returns-in_default : goal.returns-in_default
 unfolding ceiling
-returns c =
-    simp (ne_eqb _ _ c.if-asked-eq0.false, ne_eqb _ _ c.if-asked-eq1.false) c.ceiling_by.ensures
+returns-in_default c =
+    let two : c.args.asked.choice ≡ 2 = omega arith in
+    rw two c.ceiling_by.ensures

@@ -1,20 +1,17 @@
 -- `imbalance::largest_load` meets its contract, by what its loop keeps. Assumes nothing.
-use Rattle.std.proofs.Common.{refl, ◌∙◌, rules}
+use Rattle.std.proofs.Common.{◌≡◌, refl, ◌∙◌, arith}
 use Rattle.imbalance.specs.Ceiling.{largest}
-use Rattle.imbalance.proofs.Largest.{largest-rises, largest-stays}
+use Rattle.imbalance.proofs.Largest.{largest-next}
 use Rattle.imbalance.proofs.largest_load.Goals as goal
-use Rattle.imbalance.proofs.largest_load.Goals.{then-most-at, else-most-at}
 
-pub loop-t-init : goal.loop-t-init
+pub loop-load-init : goal.loop-load-init
 unfolding largest
-loop-t-init c = (search rules, refl)
+loop-load-init c = refl
 
-pub loop-t-preserved : goal.loop-t-preserved
-loop-t-preserved c =
-    let e = c.loop-t.invariant.1 in (
-      search rules,
-      elim c.if-most-at.branch [
-        | then-most-at w ↦ w.most-is ∙ largest-rises _ _ _ e w.if-most-at.true
-        | else-most-at w ↦ w.most-is ∙ largest-stays _ _ _ e w.if-most-at.false
-      ],
-    )
+pub loop-load-preserved : goal.loop-load-preserved
+loop-load-preserved c = c.max-most.ensures ∙ largest-next _ _ _ c.loop-load.invariant
+
+pub returns : goal.returns
+returns c =
+    let e : c.loop-load.load-index ≡ 16 = omega arith in
+    rw e at c.loop-load.invariant

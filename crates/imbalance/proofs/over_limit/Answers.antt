@@ -3,14 +3,14 @@ use Rattle.std.proofs.Common.{rules}
 use Rattle.imbalance.proofs.Limits.{nothing-off, one-off, too-heavy, all-off}
 use Rattle.imbalance.proofs.over_limit.Goals as goal
 
-pub loop-i-init : goal.loop-i-init
-loop-i-init c = search (nothing-off, rules)
+pub loop-weight-init : goal.loop-weight-init
+loop-weight-init c = search (nothing-off, rules)
 
 pub returns-then-rest-w : goal.returns-then-rest-w
 returns-then-rest-w c = search (too-heavy, rules)
 
-pub loop-i-preserved : goal.loop-i-preserved
-loop-i-preserved c = search (one-off, rules)
+pub loop-weight-preserved : goal.loop-weight-preserved
+loop-weight-preserved c = search (one-off, rules)
 
 pub returns : goal.returns
 returns c = search (all-off, rules)

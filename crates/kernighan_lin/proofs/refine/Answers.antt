@@ -15,7 +15,7 @@ returns c =
     let n = length x.labels.now in
     record {
       passed = r.ensures;
-      gains = c.clear_gains.ensures ∙ filled-front (pos 0) n r.new.gains x.gains.now a.in_gains (r.auto.gains ∙ length-take-le n x.gains.now a.in_gains);
-      locks = c.clear_bytes.ensures ∙ filled-front 0 n r.new.locks x.locks.now a.in_locks (r.auto.locks ∙ length-take-le n x.locks.now a.in_locks);
-      swaps = c.clear_numbers.ensures ∙ filled-front 0 (n / 2) r.new.swaps x.swaps.now a.in_swaps (r.auto.swaps ∙ length-take-le (n / 2) x.swaps.now a.in_swaps);
+      gains = c.fill.ensures ∙ filled-front (pos 0) n r.new.gains x.gains.now a.in_gains (r.auto.gains ∙ length-take-le n x.gains.now a.in_gains);
+      locks = c.fill-2.ensures ∙ filled-front 0 n r.new.locks x.locks.now a.in_locks (r.auto.locks ∙ length-take-le n x.locks.now a.in_locks);
+      swaps = c.fill-3.ensures ∙ filled-front 0 (n / 2) r.new.swaps x.swaps.now a.in_swaps (r.auto.swaps ∙ length-take-le (n / 2) x.swaps.now a.in_swaps);
     }

@@ -1,5 +1,6 @@
 -- What the inner functions ask and promise.
-use Rattle.std.specs.Prelude.{◌≡◌, true, cond, ◌||◌, List, ℕ, zero, suc, ◌+◌, ◌-◌, ◌*◌, ◌/◌, ◌%◌, ◌^◌, ◌≤◌, ◌<◌, length, get_or, ltb, eqb, ℤ, pos}
+use Rattle.std.specs.Prelude.{◌≡◌, true, cond, Some, None, ◌||◌, List, ℕ, zero, suc, ◌+◌, ◌-◌, ◌*◌, ◌/◌, ◌%◌, ◌^◌, ◌≤◌, ◌<◌, length, get_or, ltb, eqb, ℤ, pos}
+use Rattle.std.specs.Prelude.{Option as Found}
 use Rattle.std.proofs.Math.Option.{Option, none, some}
 use Rattle.std.specs.Int.Signed.{mag}
 use Rattle.lists.specs.Sum.{total}
@@ -10,6 +11,7 @@ use Rattle.topology.specs.Rule.{Rows, Symmetric}
 use Rattle.topology.specs.Cut.{cut}
 use Rattle.kernighan_lin_pass.specs.Gain.{added, updated}
 use Rattle.kernighan_lin_pass.specs.Pass.{Terms, Swap, swapped, pair, start, walk}
+use Rattle.kernighan_lin_pass.specs.declared.Frame.{Frame}
 use Rattle.kernighan_lin_pass.specs.declared.choose.Pair.{Pair}
 use Rattle.kernighan_lin_pass.specs.declared.pass.Walked.{Walked}
 
@@ -43,23 +45,27 @@ most_swaps = most_vertices / 2
 abbrev pub most_gain : ℕ
 most_gain = 2 ^ 44
 
--- the vertex, or n where there is none
-abbrev pub place_of : ℕ → Option ℕ → ℕ
-place_of n none = n
-place_of n (some v) = v
+-- a choice, as the code answers it
+abbrev pub found : {A : Type 0} → Option A → Found A
+found none = None
+found (some x) = Some x
 
 -- the same of a pair
-abbrev pub pair_at : ℕ → Option Swap → Pair
-pair_at n none = record { one = n; two = n }
-pair_at n (some t) = record { one = t.one; two = t.two }
+abbrev pub pair_at : Option Swap → Found Pair
+pair_at none = None
+pair_at (some t) = Some (record { one = t.one; two = t.two })
 
 -- the terms of a run in which every vertex may be taken
 abbrev pub terms_by : Graph → ℕ → ℕ → Terms
 terms_by g first bad_limit = record { graph = g; movable = λ v. true; first = first; bad_limit = bad_limit }
 
+-- the same of what the code holds together
+abbrev pub terms_in : Frame → Terms
+terms_in f = terms_by f.graph.now f.first f.limits.bad
+
 -- What choosing the next pair answers, and leaves in the gains where there is one.
-pub record Chose (s : Terms) (p : List ℕ) (before : List ℤ) (locks : List ℕ) (r : Pair) (gains : List ℤ) : Type 0 where
-  pub pair_is : r ≡ pair_at (length p) (pair s p before locks)
+pub record Chose (s : Terms) (p : List ℕ) (before : List ℤ) (locks : List ℕ) (r : Found Pair) (gains : List ℤ) : Type 0 where
+  pub pair_is : r ≡ pair_at (pair s p before locks)
   pub gains_are : (t : Swap) → pair s p before locks ≡ some t → gains ≡ updated s.graph p t.one (added s.graph p before)
 
 -- a swap in the lent list is one number: the first vertex times this, and the second, which is below it

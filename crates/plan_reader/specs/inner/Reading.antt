@@ -1,8 +1,11 @@
 -- What the reader's inner functions promise: its number in two parts, before and after the header is decoded.
-use Rattle.std.specs.Prelude.{cond, List, ℕ}
+use Rattle.std.specs.Prelude.{◌≡◌, cond, List, ℕ, Result, Ok, Err}
+use Rattle.lists.specs.declared.refusal.Refusal.{Refusal}
+use Rattle.lists.specs.Refusal.{number_of}
 use Rattle.plan_blocks.specs.declared.header.Header.{Header}
-use Rattle.plan_blocks.specs.Decode.{kind_of, bad_length, bad_kind, bad_check, bad_header, bad_numbers, bad_later, bad_records}
-use Rattle.plan_reader.specs.Read.{short}
+use Rattle.plan_blocks.specs.Decode.{header_at, kind_of, bad_length, bad_kind, bad_check, bad_header, bad_numbers, bad_later, bad_records}
+use Rattle.plan_reader.specs.declared.reader.Lengths.{Lengths}
+use Rattle.plan_reader.specs.Read.{short, number_for}
 
 -- the first of 9, 11 for the file's kind, 10 and 11 that applies, 0 if none does
 unfoldable pub frame_number : List ℕ → ℕ
@@ -19,3 +22,13 @@ plan_number header s labels weights starts neighbours arc_weights =
     (cond (bad_later (kind_of s) header s) 13
     (cond (bad_records header s) 14
     (cond (short header.n header.a labels weights starts neighbours arc_weights) 15 0)))
+
+-- the reader's number for targets of these lengths
+abbrev pub number_with : List ℕ → Lengths → ℕ
+number_with s lengths =
+    number_for s lengths.labels lengths.weights lengths.starts lengths.neighbours lengths.arc_weights
+
+-- a file is accepted with the header that it holds, or refused with its number
+abbrev pub accepted_as : List ℕ → Lengths → Result Header Refusal → Type 0
+accepted_as s lengths (Ok header) = (number_with s lengths ≡ 0) × (header ≡ header_at s)
+accepted_as s lengths (Err refusal) = number_of refusal ≡ number_with s lengths

@@ -1,12 +1,33 @@
 -- What the writer's inner functions ask and promise: lists that can be written, and words put at their places, step by step.
-use Rattle.std.specs.Prelude.{◌≡◌, ℕ, zero, suc, ◌+◌, ◌*◌, ◌/◌, ◌%◌, ◌^◌, ◌<◌, ◌≤◌, List, length, slice_index}
+use Rattle.std.specs.Prelude.{Result, Ok, Err, ◌≡◌, ℕ, zero, suc, ◌+◌, ◌*◌, ◌/◌, ◌%◌, ◌^◌, ◌<◌, ◌≤◌, List, length, slice_index}
 use Rattle.lists.specs.Fill.{filled}
+use Rattle.lists.specs.Refusal.{number_of}
+use Rattle.lists.specs.declared.refusal.Refusal.{Refusal}
 use Rattle.imbalance.specs.Limit.{most_vertices, most_arcs}
 use Rattle.plan_blocks.specs.declared.header.Header.{Header}
 use Rattle.plan_blocks.specs.Word.{put_word}
 use Rattle.plan_blocks.specs.Block.{new_kind, opening, sum_at, check_word, blocks_of, header_count, kind_at, count_at}
 use Rattle.plan_blocks.specs.Encode.{header_word}
 use Rattle.plan_blocks.specs.Decode.{in_block}
+use Rattle.plan_blocks.specs.Plan.{value_of, each_of}
+use Rattle.plan_writer.specs.Write.{Given, vertices, arcs, write_number}
+
+-- the header of what is given
+abbrev pub header_from : Given → Header
+header_from g =
+    record {
+      n = vertices g;
+      a = arcs g;
+      k = g.k;
+      choice = g.ceiling.choice;
+      value = value_of g.ceiling;
+      each = each_of g.ceiling;
+    }
+
+-- what is given is accepted for a target of so many places, with its header, or refused with its number
+abbrev pub accepted_as : Given → ℕ → Result Header Refusal → Type 0
+accepted_as g places (Ok header) = (write_number g places ≡ 0) × (header ≡ header_from g)
+accepted_as g places (Err refusal) = number_of refusal ≡ write_number g places
 
 -- What the vertices' records ask of the lists: their counts, starts in order, and labels that two bytes hold.
 pub record VerticesFit (labels weights starts : List ℕ) : Type 0 where
@@ -39,14 +60,6 @@ laid_down choice n a s =
 -- the header's records: two words each after the first block's first
 abbrev pub put_header : Header → List ℕ → List ℕ
 put_header header s = put_words (λ r. 1 + r) (header_word header) (2 * header_count header.choice) s
-
--- the first three of them
-abbrev pub put_first_three : Header → List ℕ → List ℕ
-put_first_three header s = put_words (λ r. 1 + r) (header_word header) 6 s
-
--- the number of each part: sixteen words, after those of the header's first three records
-abbrev pub put_each : List ℕ → List ℕ → List ℕ
-put_each each s = put_words (λ t. 7 + t) (λ t. slice_index each t) 16 s
 
 -- word r of the records of a kind whose blocks start at block `first`: 126 to a block, after its first word
 abbrev pub record_at : ℕ → ℕ → ℕ

@@ -1,5 +1,4 @@
 -- `refine_text::input_number` meets its contract: each way out is one law of the number. Assumes nothing.
-use mathlib.Core.Path.{◌∙◌}
 use native.Mathlib.Omega.{arith}
 use Rattle.refine_text.proofs.Judged.{judged-low, whole-header, judged-beyond, judged-within, many-vertices, many-arcs}
 use Rattle.refine_text.proofs.input_number.Goals as goal
@@ -12,21 +11,21 @@ pub word_at-requires : goal.word_at-requires
 word_at-requires c =
     omega (arith, whole-header _ _ c.requires.0 c.requires.1 c.if-number-le12.false)
 
-pub returns-then-index-gt-PLAN_VERTICES : goal.returns-then-index-gt-PLAN_VERTICES
-returns-then-index-gt-PLAN_VERTICES c =
+pub returns-then-word_at-gt-PLAN_VERTICES : goal.returns-then-word_at-gt-PLAN_VERTICES
+returns-then-word_at-gt-PLAN_VERTICES c =
     judged-beyond _ _ c.requires.0 c.requires.1 c.if-number-le12.false
-    (many-vertices _ _ (c.index.ensures ∙ c.word_at.ensures) c.if-index-gt-PLAN_VERTICES.true)
+    (many-vertices _ _ c.word_at.ensures c.if-word_at-gt-PLAN_VERTICES.true)
 
 pub word_at-requires-2 : goal.word_at-requires-2
 word_at-requires-2 c =
     omega (arith, whole-header _ _ c.requires.0 c.requires.1 c.if-number-le12.false)
 
-pub returns-then-index-gt-PLAN_ARCS : goal.returns-then-index-gt-PLAN_ARCS
-returns-then-index-gt-PLAN_ARCS c =
+pub returns-then-word_at-gt-PLAN_ARCS : goal.returns-then-word_at-gt-PLAN_ARCS
+returns-then-word_at-gt-PLAN_ARCS c =
     judged-beyond _ _ c.requires.0 c.requires.1 c.if-number-le12.false
-    (many-arcs _ _ (c.index-2.ensures ∙ c.word_at-2.ensures) c.if-index-gt-PLAN_ARCS.true)
+    (many-arcs _ _ c.word_at-2.ensures c.if-word_at-gt-PLAN_ARCS.true)
 
 pub returns : goal.returns
 returns c =
-    judged-within _ _ c.requires.0 c.requires.1 c.if-number-le12.false _ _ (c.index.ensures ∙ c.word_at.ensures)
-    c.if-index-gt-PLAN_VERTICES.false (c.index-2.ensures ∙ c.word_at-2.ensures) c.if-index-gt-PLAN_ARCS.false
+    judged-within _ _ c.requires.0 c.requires.1 c.if-number-le12.false _ _ c.word_at.ensures
+    c.if-word_at-gt-PLAN_VERTICES.false c.word_at-2.ensures c.if-word_at-gt-PLAN_ARCS.false

@@ -1,7 +1,6 @@
 -- `refine_text::refine_text` meets its contract: an input unread, one that the reader refuses, and a plan. Assumes nothing.
 use mathlib.Core.Path.{sym, ◌∙◌}
 use native.Mathlib.Omega.{arith}
-use lib.ListN.{length-take}
 use Rattle.refine_text.proofs.Judged.{unread, judged-zero, judged-refused}
 use Rattle.refine_text.proofs.Handed.{zeros, number_read, had, labels-ready, printed-refusal, printed-plan}
 use borrow.Author.Rules.{rules}
@@ -22,64 +21,24 @@ returns-then-read-ne0 c =
     (sym e ∙ z))
     c.put_refusal-then-read-ne0.ensures
 
-pub slice_bounds-starts-end : goal.slice_bounds-starts-end
-slice_bounds-starts-end c =
-    let h = had zeros c.read_plan-read.ensures c.if-read-ne0.false in
-    omega (arith, h.few, c.index-n.ensures, c.read_plan-read.auto.starts)
+pub prove-unreachable-requires : goal.prove-unreachable-requires
+prove-unreachable-requires c =
+    let few = (had zeros c.read_plan-read.ensures c.if-read-ne0.false).few in
+    omega (arith, few, c.if-prove.true)
 
-pub slice_bounds-refine_lists-end : goal.slice_bounds-refine_lists-end
-slice_bounds-refine_lists-end c =
-    let h = had zeros c.read_plan-read.ensures c.if-read-ne0.false in
-    simp length-take (omega (arith, h.few, c.index-n.ensures, c.read_plan-read.auto.starts))
-
-pub slice_bounds-neighbours-end : goal.slice_bounds-neighbours-end
-slice_bounds-neighbours-end c =
-    let h = had zeros c.read_plan-read.ensures c.if-read-ne0.false in
-    omega (arith, h.few_arcs, c.index-a.ensures, c.read_plan-read.auto.neighbours)
-
-pub slice_bounds-refine_lists-end-2 : goal.slice_bounds-refine_lists-end-2
-slice_bounds-refine_lists-end-2 c =
-    let h = had zeros c.read_plan-read.ensures c.if-read-ne0.false in
-    simp length-take (omega (arith, h.few_arcs, c.index-a.ensures, c.read_plan-read.auto.neighbours))
-
-pub slice_bounds-arc_weights-end : goal.slice_bounds-arc_weights-end
-slice_bounds-arc_weights-end c =
-    let h = had zeros c.read_plan-read.ensures c.if-read-ne0.false in
-    omega (arith, h.few_arcs, c.index-a.ensures, c.read_plan-read.auto.arc_weights)
-
-pub slice_bounds-refine_lists-end-3 : goal.slice_bounds-refine_lists-end-3
-slice_bounds-refine_lists-end-3 c =
-    let h = had zeros c.read_plan-read.ensures c.if-read-ne0.false in
-    simp length-take (omega (arith, h.few_arcs, c.index-a.ensures, c.read_plan-read.auto.arc_weights))
-
-pub slice_bounds-weights-end : goal.slice_bounds-weights-end
-slice_bounds-weights-end c =
-    let h = had zeros c.read_plan-read.ensures c.if-read-ne0.false in
-    omega (arith, h.few, c.index-n.ensures, c.read_plan-read.auto.weights)
-
-pub slice_bounds-refine_lists-end-4 : goal.slice_bounds-refine_lists-end-4
-slice_bounds-refine_lists-end-4 c =
-    let h = had zeros c.read_plan-read.ensures c.if-read-ne0.false in
-    simp length-take (omega (arith, h.few, c.index-n.ensures, c.read_plan-read.auto.weights))
-
-pub slice_bounds-labels-end : goal.slice_bounds-labels-end
-slice_bounds-labels-end c =
-    let h = had zeros c.read_plan-read.ensures c.if-read-ne0.false in
-    omega (arith, h.few, c.index-n.ensures, c.read_plan-read.auto.labels)
-
-pub slice_bounds-refine_lists-end-5 : goal.slice_bounds-refine_lists-end-5
-slice_bounds-refine_lists-end-5 c =
-    let h = had zeros c.read_plan-read.ensures c.if-read-ne0.false in
-    simp length-take (omega (arith, h.few, c.index-n.ensures, c.read_plan-read.auto.labels))
+pub prove-unreachable-requires-2 : goal.prove-unreachable-requires-2
+prove-unreachable-requires-2 c =
+    let few = (had zeros c.read_plan-read.ensures c.if-read-ne0.false).few_arcs in
+    omega (arith, few, c.if-prove-2.true)
 
 pub refine_lists-requires : goal.refine_lists-requires
 refine_lists-requires c =
-    let r = labels-ready _ c.index-n.ensures (had zeros c.read_plan-read.ensures c.if-read-ne0.false) in
+    let r = labels-ready (had zeros c.read_plan-read.ensures c.if-read-ne0.false) in
     (r.0, r.1, search rules)
 
 pub returns : goal.returns
 returns c =
-    printed-plan _ _ _ _ _ _ _ _ c.index-n.ensures c.index-a.ensures
+    printed-plan _ _ _ _ _ _
     (judged-zero _ _ (omega (arith, c.if-input-gt-INPUT_BYTES.false)) (number_read zeros c.read_plan-read.ensures) c.if-read-ne0.false)
     (had zeros c.read_plan-read.ensures c.if-read-ne0.false)
     c.refine_lists.ensures

@@ -2,10 +2,10 @@
 use Rattle.refine_words.proofs.Texts.{here-none, here-more, numbers-none, numbers-next}
 use Rattle.refine_words.proofs.put_labels.Goals as goal
 
-pub loop-i-init : goal.loop-i-init
-loop-i-init c = here-none _ _ _ _ _ numbers-none
+pub loop-x-init : goal.loop-x-init
+loop-x-init c = here-none _ _ _ _ _ numbers-none
 
-pub loop-i-preserved : goal.loop-i-preserved
-loop-i-preserved c =
-    here-more c.requires c.loop-i-test.true c.loop-i.invariant
-    (numbers-next _ _ _ c.loop-i-test.true c.wide.ensures) c.put_number-here.ensures
+pub loop-x-preserved : goal.loop-x-preserved
+loop-x-preserved c =
+    here-more c.requires c.loop-x-test.true c.loop-x.invariant
+    (numbers-next _ _ _ c.loop-x-test.true c.from.ensures) c.put_number-here.ensures

@@ -1,11 +1,7 @@
--- What the loop of `refine_words::put_word` keeps, and its measure.
-use Prim.Native.Nat.{◌-◌}
+-- What the loop of `refine_words::put_word` keeps.
 use lib.ListN.{length, take}
 use Rattle.refine_words.proofs.Texts.{Here}
 use Rattle.refine_words.proofs.put_word.Given as goal
 
-abbrev pub invariant-loop-i : goal.invariant-loop-i
-invariant-loop-i l = Here (λ k. take k l.word) 1 (length l.word) l.at l.i l.initial.out l.out l.here
-
-abbrev pub decreases-loop-i : goal.decreases-loop-i
-decreases-loop-i l = length l.word - l.i
+abbrev pub invariant-loop-byte : goal.invariant-loop-byte
+invariant-loop-byte l = Here (λ k. take k l.word) 1 (length l.word) l.at l.byte-index l.initial.out l.out l.here

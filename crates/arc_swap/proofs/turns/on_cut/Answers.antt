@@ -10,7 +10,7 @@ pub returns-then-labels-u : goal.returns-then-labels-u
 returns-then-labels-u c = search (found, rules)
 
 pub loop-e-preserved : goal.loop-e-preserved
-loop-e-preserved c = passed _ _ _ _ _ _ c.loop-e.invariant c.loop-e-test.true _ c.index_at-u.ensures c.if-labels-u.false
+loop-e-preserved c = passed _ _ _ _ _ _ c.loop-e.invariant c.loop-e-test.true _ c.neighbour-u.ensures c.if-labels-u.false
 
 pub returns : goal.returns
 returns c = search (nowhere, rules)

@@ -1,50 +1,47 @@
 -- `fiduccia_mattheyses_pass::gains::update_neighbours` meets its contract, by what its loop keeps. Assumes nothing.
-use mathlib.Core.Path.{◌≡◌, refl}
-use Prim.Native.Nat.{◌+◌, ◌-◌, ◌*◌, ◌≤◌}
-use native.Mathlib.Omega.{arith}
-use lib.ListN.{get_or, length-set}
+use Rattle.std.proofs.Common.{◌≡◌, ◌+◌, ◌-◌, ◌*◌, ◌≤◌, get_or, arith}
 use lib.IntN.{pos}
 use lib.Signed.{mag}
-use Rattle.fiduccia_mattheyses_pass.proofs.Updates.{back, free_of}
-use Rattle.fiduccia_mattheyses_pass.proofs.Updates.{updated_none, mag-set, turn-passed, turn-updated}
-use borrow.Author.Rules.{rules}
 use Rattle.fiduccia_mattheyses_choice.specs.inner.Bounds.{lock_size}
 use Rattle.fiduccia_mattheyses_pass.specs.inner.Bounds.{most_twice}
+use Rattle.fiduccia_mattheyses_pass.proofs.Updates.{back, free_of, updated_none, mag-set, turn-passed, turn-updated}
 use Rattle.fiduccia_mattheyses_pass.proofs.gains.update_neighbours.Goals as goal
 
 pub loop-e-init : goal.loop-e-init
-loop-e-init c =
-    (search rules, search rules, refl, updated_none _ _ _ _ _ _, λ x. omega (arith, c.requires.by_index.1 x))
+loop-e-init c = (updated_none _ _ _ _ _ _, λ x. omega (arith, c.requires.small.1 x))
 
 pub loop-e-preserved-in_default : goal.loop-e-preserved-in_default
 loop-e-preserved-in_default c =
-    let x = c.args in
-    let v = get_or x.neighbours.now c.loop-e.e 0 in
-    let slot = rw (back (get_or c.loop-e.gains v (pos 0)) (omega (arith, c.loop-e.invariant.4 v))) at c.slot_of.ensures in (
-      search rules,
-      search rules,
-      c.loop-e.invariant.2,
-      turn-passed x.neighbours.now x.arc_weights.now x.labels.now x.old x.a c.loop-e.e x.gains.now
-          c.loop-e.gains c.loop-e.invariant.0 c.loop-e.invariant.3 _ slot c.in_default.is,
-      λ y. omega (arith, c.loop-e.invariant.4 y),
+    let g = c.args.graph.now in
+    let i = c.loop-e.invariant in
+    let x = c.neighbour-x.result in
+    let slot = rw (back (get_or c.loop-e.gains x (pos 0)) (omega (arith, i.1 x))) at c.free_gain.ensures in (
+      turn-passed g.neighbours g.weights c.args.labels.now c.args.old c.first-e.result c.loop-e.e c.args.gains.now
+          c.loop-e.gains c.loop-e.auto.e i.0 _ (rw c.neighbour-x.ensures at slot) c.in_default.is,
+      λ y. omega (arith, i.1 y),
     )
 
 pub loop-e-preserved : goal.loop-e-preserved
 loop-e-preserved c =
-    let x = c.args in
-    let v = get_or x.neighbours.now c.loop-e.e 0 in
-    let z = get_or c.loop-e.gains v (pos 0) in
-    let g = c.in-Free.g in
-    let slot = rw (back z (omega (arith, c.loop-e.invariant.4 v))) at c.slot_of.ensures in
-    let q : g ≡ z = (free_of _ z g slot c.in-Free.is).1 in
-    let r = rw (back g (rw q (omega (arith, c.loop-e.invariant.4 v)))) at c.shifted-h.ensures in
-    let h = c.shifted-h.result in
-    let low : mag h ≤ lock_size + most_twice * (c.loop-e.e + 1 - x.a) = omega (arith, rw q at r.1, c.loop-e.invariant.4 v) in
+    let g = c.args.graph.now in
+    let i = c.loop-e.invariant in
+    let x = c.neighbour-x.result in
+    let z = get_or c.loop-e.gains x (pos 0) in
+    let gain = c.in-Some.g in
+    let slot = rw (back z (omega (arith, i.1 x))) at c.free_gain.ensures in
+    let q : gain ≡ z = (free_of _ z gain slot c.in-Some.is).1 in
+    let r = rw (back gain (rw q (omega (arith, i.1 x)))) at c.shifted.ensures in
+    let h = c.shifted.result in
+    let low : mag h ≤ lock_size + most_twice * (c.loop-e.e + 1 - c.first-e.result) = omega (arith, rw q at r.1, i.1 x) in
     let hz = back h (omega arith) in (
-      search rules,
-      search rules,
-      simp length-set c.loop-e.invariant.2,
-      rw hz (turn-updated x.neighbours.now x.arc_weights.now x.labels.now x.old x.a c.loop-e.e x.gains.now
-          c.loop-e.gains c.loop-e.invariant.0 c.loop-e.invariant.3 _ g _ slot c.in-Free.is r.0),
-      λ y. rw hz (mag-set c.loop-e.gains v y h _ (λ k. omega (arith, c.loop-e.invariant.4 k)) low),
+      rw (hz, c.neighbour-x.ensures) (turn-updated g.neighbours g.weights c.args.labels.now c.args.old c.first-e.result c.loop-e.e c.args.gains.now
+          c.loop-e.gains c.loop-e.auto.e i.0 _ gain _ (rw c.neighbour-x.ensures at slot) c.in-Some.is (rw (c.neighbour-x.ensures, c.weight.ensures) at r.0)),
+      λ y. rw hz (mag-set c.loop-e.gains x y h _ (λ k. omega (arith, i.1 k)) low),
     )
+
+pub returns : goal.returns
+returns c =
+    let up = c.requires.row.1 in
+    let upto = c.loop-e.auto.e-end (rw (c.first-e.ensures, c.past-e-end.ensures) up) in
+    let e : c.loop-e.e ≡ c.past-e-end.result = omega (arith, upto) in
+    rw (← c.first-e.ensures, ← c.past-e-end.ensures) (rw e at c.loop-e.invariant.0)

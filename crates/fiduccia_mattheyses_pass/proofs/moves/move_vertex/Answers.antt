@@ -1,5 +1,5 @@
 -- `fiduccia_mattheyses_pass::moves::move_vertex` meets its contract. Assumes nothing.
-use mathlib.Core.Path.{refl}
+use Rattle.std.proofs.Common.{refl}
 use Rattle.fiduccia_mattheyses_choice.specs.Choice.{flip}
 use Rattle.fiduccia_mattheyses_pass.proofs.moves.move_vertex.Goals as goal
 

@@ -6,7 +6,6 @@ use native.Mathlib.Omega.{arith}
 use lib.ListN.{length, get_or, set}
 use lib.IntN.{ℤ, pos, ◌+ℤ◌}
 use lib.Signed.{mag}
-use borrow.Author.Rules.{rules}
 use Rattle.lists.specs.Fill.{written}
 use Rattle.lists.proofs.Fills.{written_none, written-more, written-past}
 use Rattle.lists.proofs.Tables.{written-whole}
@@ -35,29 +34,27 @@ far :
 far n g labels gains fit within u inside z f a b = (rw a (omega (arith, within u)), rw b (omega (arith, fresh-small n g fit u inside labels)))
 
 pub loop-u-init : goal.loop-u-init
-loop-u-init c = (search rules, written_none _ _)
+loop-u-init c = written_none _ _
 
 pub overflow_add-gains : goal.overflow_add-gains
 overflow_add-gains c =
     let l = c.loop-u in
     let z = get_or l.gains l.u (pos 0) in
-    let w = far _ _ _ c.args.gains.now c.requires.0 c.requires.2 l.u c.loop-u-test.true z c.fresh_gain.result (old _ l.gains _ l.u l.invariant.1) c.fresh_gain.ensures in
+    let w = far _ _ _ c.args.gains.now c.requires.0 c.requires.2 l.u c.loop-u-test.true z c.fresh_gain.result (old _ l.gains _ l.u l.invariant) c.fresh_gain.ensures in
     sum_fits z c.fresh_gain.result w.0 w.1
 
 pub loop-u-preserved : goal.loop-u-preserved
 loop-u-preserved c =
     let l = c.loop-u in
     let z = get_or l.gains l.u (pos 0) in
-    let is = old _ l.gains c.args.gains.now l.u l.invariant.1 in
+    let is = old _ l.gains c.args.gains.now l.u l.invariant in
     let w = far _ _ _ c.args.gains.now c.requires.0 c.requires.2 l.u c.loop-u-test.true z c.fresh_gain.result is c.fresh_gain.ensures in
-    let kept = sum_kept z c.fresh_gain.result w.0 w.1 in (
-      search rules,
-      written-more _ l.u c.args.gains.now l.gains _ (ap (set l.gains l.u) (kept ∙ ap₂ ◌+ℤ◌ is c.fresh_gain.ensures)) l.invariant.1,
-    )
+    let kept = sum_kept z c.fresh_gain.result w.0 w.1 in
+    written-more _ l.u c.args.gains.now l.gains _ (ap (set l.gains l.u) (kept ∙ ap₂ ◌+ℤ◌ is c.fresh_gain.ensures)) l.invariant
 
 pub returns : goal.returns
 unfolding added
 returns c =
     let l = c.loop-u in
     let e : l.u ≡ length c.args.labels.now = omega arith in
-    (rw e at l.invariant.1) ∙ written-whole (length c.args.labels.now) (pos 0) _ c.args.gains.now c.requires.1
+    (rw e at l.invariant) ∙ written-whole (length c.args.labels.now) (pos 0) _ c.args.gains.now c.requires.1

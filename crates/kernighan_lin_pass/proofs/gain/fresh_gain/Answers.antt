@@ -12,16 +12,16 @@ use Rattle.kernighan_lin_pass.proofs.gain.fresh_gain.Goals as goal
 use Rattle.kernighan_lin_pass.proofs.gain.fresh_gain.Goals.{then-labels-v, else-labels-v}
 
 pub loop-e-init : goal.loop-e-init
-loop-e-init c = begins c.requires.0.rows c.args.u _ _ c.requires.1 c.index_at-e.ensures c.index_at-end.ensures
+loop-e-init c = begins c.requires.0.rows c.args.u _ _ c.requires.1 c.first-e.ensures c.past-e-end.ensures
 
 pub loop-e-preserved : goal.loop-e-preserved
 loop-e-preserved c =
     let i = c.loop-e.invariant in
     let on = further i.walk c.loop-e-test.true in
     let f = i.walk.from in
-    let v = c.index_at-v.ensures in
-    let w = c.wide-w.ensures in
-    let light : c.wide-w.result < word_bound = omega (arith, w, c.type_inv.arc_weights c.loop-e.e) in
+    let v = c.neighbour-v.ensures in
+    let w = rw c.weight.ensures at c.from-w.ensures in
+    let light : c.from-w.result < word_bound = omega (arith, c.from-w.ensures, c.weight.type_inv) in
     elim c.if-labels-v.branch [
       | then-labels-v t ↦
           (let same = eq-eqb _ _ t.if-labels-v.true in

@@ -7,6 +7,6 @@ pub returns-then-lower : goal.returns-then-lower
 unfolding counted
 returns-then-lower c = rw (sym c.lower.ensures ∙ c.if-lower.true)
 
-pub returns-else-lower : goal.returns-else-lower
+pub returns : goal.returns
 unfolding counted
-returns-else-lower c = rw (sym c.lower.ensures ∙ c.if-lower.false)
+returns c = rw (sym c.lower.ensures ∙ c.if-lower.false)

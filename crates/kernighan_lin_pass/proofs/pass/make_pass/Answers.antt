@@ -10,8 +10,8 @@ walk_swaps-walked-requires c =
     let n = length c.args.labels.now in
     record {
       fit = c.requires.0;
-      gains_are = c.clear_gains.ensures ∙ written-whole n (pos 0) (λ i. pos 0) c.args.gains.now c.requires.1.gains_long;
-      locks_are = c.clear_bytes.ensures ∙ written-whole n 0 (λ i. 0) c.args.locks.now c.requires.1.locks_long;
+      gains_are = c.fill.ensures ∙ written-whole n (pos 0) (λ i. pos 0) c.args.gains.now c.requires.1.gains_long;
+      locks_are = c.fill-2.ensures ∙ written-whole n 0 (λ i. 0) c.args.locks.now c.requires.1.locks_long;
       places_for = c.requires.1.places_for;
       few = c.requires.1.few;
       cut_is = c.requires.2;

@@ -8,6 +8,3 @@ use Rattle.kernighan_lin_pass.proofs.pass.rewind.Given as goal
 abbrev pub invariant-loop-k : goal.invariant-loop-k
 invariant-loop-k l =
     (l.kept ≤ l.k) × (l.k ≤ l.made) × (length l.labels ≡ length l.initial.labels) × (back l.swaps l.k (l.k - l.kept) l.labels ≡ back l.swaps l.made (l.made - l.kept) l.initial.labels)
-
-abbrev pub decreases-loop-k : goal.decreases-loop-k
-decreases-loop-k l = l.k

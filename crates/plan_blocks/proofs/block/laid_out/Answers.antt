@@ -1,23 +1,25 @@
--- `plan_blocks::block::laid_out` meets its contract, by what its loop keeps. Assumes nothing.
-use Rattle.plan_blocks.proofs.BlockTurns.{first-differs, rest-differs, rest_more, laid-whole}
-use Rattle.lists.proofs.Alls.{from-none}
-use Rattle.std.proofs.Common.{arith, rules}
+-- `plan_blocks::block::laid_out` meets its contract: the first word is compared, and the library asks of each unused word what the definition asks. Assumes nothing.
+use Rattle.std.proofs.Common.{◌≡◌, ◌+◌, ◌*◌, eqb, refl, ◌∙◌, arith, rules, tests, eq-eqb, ne_eqb}
+use Rattle.std.proofs.lemmas.Iterator.{YieldsList-from_range}
+use Rattle.std.proofs.lemmas.Iterator.Search.{all_from_yields_List}
+use Rattle.lists.proofs.Alls.{all-from-range}
+use Rattle.plan_blocks.specs.Word.{word}
+use Rattle.plan_blocks.specs.Block.{opening, laid_out}
 use Rattle.plan_blocks.proofs.block.laid_out.Goals as goal
 
-pub returns-then-index-kind : goal.returns-then-index-kind
-returns-then-index-kind c =
-    first-differs _ _ _ _ _ _ _ c.word_at.ensures c.index.ensures c.if-index-kind.true
+pub returns-then-word_at-kind : goal.returns-then-word_at-kind
+unfolding laid_out
+returns-then-word_at-kind c =
+    let a = c.args in
+    let z : 128 * a.b + 0 ≡ 128 * a.b = omega arith in
+    rw (z, ← c.word_at.ensures, eq-eqb _ (opening a.file a.kind a.count) c.if-word_at-kind.true)
+    (all_from_yields_List (λ j. eqb (word a.bytes.now (128 * a.b + j)) 0) _ _ _ c.all.ensures.ran
+    (YieldsList-from_range (1 + 2 * a.count) 127 _ refl refl) (λ x b q k. search (rules, tests))
+    ∙ all-from-range _ (1 + 2 * a.count) 127)
 
-pub loop-j-init : goal.loop-j-init
-loop-j-init c = (search rules, search rules, from-none _ 0 _)
-
-pub returns-then-word_at-ne0 : goal.returns-then-word_at-ne0
-returns-then-word_at-ne0 c = rest-differs _ _ _ _ _ _ _ (search rules) (search rules) c.word_at-in-loop-j.ensures c.if-word_at-ne0.true
-
-pub loop-j-preserved : goal.loop-j-preserved
-loop-j-preserved c =
-    (search rules, search rules, rest_more _ _ _ _ _ (search rules) c.word_at-in-loop-j.ensures c.if-word_at-ne0.false c.loop-j.invariant.2)
-
-pub returns : goal.returns
-returns c =
-    laid-whole _ _ _ _ _ _ _ _ c.word_at.ensures c.index.ensures c.if-index-kind.false (omega arith) c.loop-j.invariant.2
+pub returns-else-word_at-kind : goal.returns-else-word_at-kind
+unfolding laid_out
+returns-else-word_at-kind c =
+    let a = c.args in
+    let z : 128 * a.b + 0 ≡ 128 * a.b = omega arith in
+    rw (z, ← c.word_at.ensures, ne_eqb _ (opening a.file a.kind a.count) c.if-word_at-kind.false) refl

@@ -7,6 +7,6 @@ pub returns-then-file-eq0 : goal.returns-then-file-eq0
 unfolding sum_at
 returns-then-file-eq0 c = rw c.if-file-eq0.true
 
-pub returns : goal.returns
+pub returns-else-file-eq0 : goal.returns-else-file-eq0
 unfolding sum_at
-returns c = rw (ne_eqb _ 0 c.if-file-eq0.false)
+returns-else-file-eq0 c = rw (ne_eqb _ 0 c.if-file-eq0.false)

@@ -1,6 +1,6 @@
--- `plan_blocks::ceiling::imbalance_of` meets its contract: with choice 2 the value is the bits of a legal e. Assumes nothing.
-use Rattle.plan_blocks.proofs.Bits.{fit-bits}
+-- `plan_blocks::ceiling::imbalance_of` meets its contract: with choice 2 the value is the bits of a legal e, which are no NaN's. Assumes nothing.
+use Rattle.plan_blocks.proofs.Bits.{fit-bits, legal-bits}
 use Rattle.plan_blocks.proofs.ceiling.imbalance_of.Goals as goal
 
-pub imbalance_from-requires : goal.imbalance_from-requires
-imbalance_from-requires c = fit-bits _ _ c.requires c.if-choice-eq2.true
+pub float_from_bits-result : goal.float_from_bits-result
+float_from_bits-result c = legal-bits c.args.value (fit-bits _ _ c.requires c.if-choice-eq2.true)

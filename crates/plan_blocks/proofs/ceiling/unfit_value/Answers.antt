@@ -1,32 +1,22 @@
--- `plan_blocks::ceiling::unfit_value` meets its contract: each return rewrites with the tests that led there. Assumes nothing.
+-- `plan_blocks::ceiling::unfit_value` meets its contract: each way out rewrites with the choice that led there. Assumes nothing.
 use Rattle.plan_blocks.specs.Plan.{unfit_value}
-use Rattle.std.proofs.Common.{sym, ◌∙◌, eq-eqb, ne_eqb}
+use Rattle.std.proofs.Common.{◌≡◌, not, ap, arith}
+use mathlib.Core.Logic.{⊎_elim}
+use Rattle.std.proofs.lemmas.Bool.Decides.{nat_tests}
 use Rattle.plan_blocks.proofs.ceiling.unfit_value.Goals as goal
 
-pub returns-then-choice-eq0 : goal.returns-then-choice-eq0
+pub returns-in-0 : goal.returns-in-0
 unfolding unfit_value
-returns-then-choice-eq0 c = simp (eq-eqb _ _ c.if-choice-eq0.true)
+returns-in-0 c = ⊎_elim (λ (e : c.args.choice ≡ 0). rw e) (λ (e : c.args.choice ≡ 3). rw e) c.in-0.is
 
-pub returns-then-choice-eq1 : goal.returns-then-choice-eq1
+pub returns-in-1 : goal.returns-in-1
 unfolding unfit_value
-returns-then-choice-eq1 c = simp (ne_eqb _ _ c.if-choice-eq0.false, eq-eqb _ _ c.if-choice-eq1.true)
+returns-in-1 c = let e = c.from.ensures in rw c.in-1.is (grind (arith, nat_tests))
 
-pub returns-then-legal_bits : goal.returns-then-legal_bits
+pub returns-in-2 : goal.returns-in-2
 unfolding unfit_value
-returns-then-legal_bits c =
-    simp (ne_eqb _ _ c.if-choice-eq0.false, ne_eqb _ _ c.if-choice-eq1.false, eq-eqb _ _ c.if-choice-eq2.true, sym c.legal_bits.ensures ∙ c.if-legal_bits.true)
+returns-in-2 c = rw c.in-2.is (ap not c.legal_bits.ensures)
 
-pub returns-then-choice-eq2 : goal.returns-then-choice-eq2
+pub returns-in_default : goal.returns-in_default
 unfolding unfit_value
-returns-then-choice-eq2 c =
-    simp (ne_eqb _ _ c.if-choice-eq0.false, ne_eqb _ _ c.if-choice-eq1.false, eq-eqb _ _ c.if-choice-eq2.true, sym c.legal_bits.ensures ∙ c.if-legal_bits.false)
-
-pub returns-then-choice-eq3 : goal.returns-then-choice-eq3
-unfolding unfit_value
-returns-then-choice-eq3 c =
-    simp (ne_eqb _ _ c.if-choice-eq0.false, ne_eqb _ _ c.if-choice-eq1.false, ne_eqb _ _ c.if-choice-eq2.false, eq-eqb _ _ c.if-choice-eq3.true)
-
-pub returns : goal.returns
-unfolding unfit_value
-returns c =
-    simp (ne_eqb _ _ c.if-choice-eq0.false, ne_eqb _ _ c.if-choice-eq1.false, ne_eqb _ _ c.if-choice-eq2.false, ne_eqb _ _ c.if-choice-eq3.false)
+returns-in_default c = grind (arith, nat_tests)

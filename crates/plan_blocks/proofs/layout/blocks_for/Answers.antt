@@ -1,8 +1,8 @@
--- `plan_blocks::layout::blocks_for` meets its contract. Assumes nothing.
+-- `plan_blocks::layout::blocks_for` meets its contract: what a division leaves over takes one block more. Assumes nothing.
 use Rattle.plan_blocks.specs.Block.{blocks_for}
-use Rattle.std.proofs.Common.{rules}
+use Rattle.std.proofs.Common.{arith}
 use Rattle.plan_blocks.proofs.layout.blocks_for.Goals as goal
 
 pub returns : goal.returns
 unfolding blocks_for
-returns c = search rules
+returns c = omega (arith, c.div_ceil.ensures)

@@ -6,5 +6,5 @@ use Rattle.plan_blocks.proofs.layout.header_count.Goals as goal
 pub returns-then-choice-eq3 : goal.returns-then-choice-eq3
 returns-then-choice-eq3 c = rw (eleven-records c.args.choice (omega arith))
 
-pub returns : goal.returns
-returns c = rw (three-records c.args.choice c.if-choice-eq3.false)
+pub returns-else-choice-eq3 : goal.returns-else-choice-eq3
+returns-else-choice-eq3 c = rw (three-records c.args.choice c.if-choice-eq3.false)

@@ -1,4 +1,4 @@
--- `plan_blocks::layout::kind_at` meets its contract: each return rewrites with the tests that led there. Assumes nothing.
+-- `plan_blocks::layout::kind_at` meets its contract: each way out rewrites with the tests that led there. Assumes nothing.
 use Rattle.plan_blocks.specs.Block.{kind_at}
 use Rattle.std.proofs.Common.{eq-eqb, ne_eqb, le-leb}
 use borrow.Author.Tests.{lt-leb}
@@ -13,7 +13,7 @@ unfolding kind_at
 returns-then-b-blocks_for c =
     simp (ne_eqb _ _ c.if-b-eq0.false, le-leb _ _ (rw c.blocks_for.ensures at c.if-b-blocks_for.true))
 
-pub returns : goal.returns
+pub returns-else-b-blocks_for : goal.returns-else-b-blocks_for
 unfolding kind_at
-returns c =
+returns-else-b-blocks_for c =
     simp (ne_eqb _ _ c.if-b-eq0.false, lt-leb _ _ (rw c.blocks_for.ensures at c.if-b-blocks_for.false))

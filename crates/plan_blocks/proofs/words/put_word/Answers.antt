@@ -3,5 +3,4 @@ use Rattle.plan_blocks.proofs.WordLaws.{stored}
 use Rattle.plan_blocks.proofs.words.put_word.Goals as goal
 
 pub returns : goal.returns
-returns c =
-    stored _ _ _ _ _ _ _ c.low_byte.ensures c.low_byte-2.ensures c.low_byte-3.ensures c.low_byte-4.ensures
+returns c = stored _ _ _ _ c.to_le_bytes.ensures

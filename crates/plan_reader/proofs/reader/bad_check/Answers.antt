@@ -1,19 +1,17 @@
--- `plan_reader::reader::bad_check` meets its contract, by what its loop keeps. Assumes nothing.
-use Rattle.plan_reader.proofs.ReadLaws.{check-more, check-fails, check-all}
-use Rattle.lists.proofs.Alls.{all_none}
-use native.Mathlib.Omega.{arith}
-use borrow.Author.Rules.{rules}
+-- `plan_reader::reader::bad_check` meets its contract: the library asks of each block what the definition asks. Assumes nothing.
+use Rattle.std.proofs.Common.{not, ap, refl, ◌∙◌, ◌/◌, length, arith, rules, tests}
+use Rattle.std.proofs.lemmas.Iterator.{YieldsList-from_range}
+use Rattle.std.proofs.lemmas.Iterator.Search.{all_from_yields_List}
+use Rattle.lists.proofs.Alls.{all-below}
+use Rattle.plan_blocks.specs.Block.{sum_at, checks}
+use Rattle.plan_blocks.specs.Decode.{in_block, bad_check}
 use Rattle.plan_reader.proofs.reader.bad_check.Goals as goal
 
-pub loop-b-init : goal.loop-b-init
-loop-b-init c = (search rules, all_none _)
-
-pub returns-then-not-checks : goal.returns-then-not-checks
-returns-then-not-checks c = check-fails _ _ _ _ c.checks.ensures (search rules) (c.if-not-checks.true)
-
-pub loop-b-preserved : goal.loop-b-preserved
-loop-b-preserved c =
-    (search rules, check-more _ _ _ _ c.checks.ensures c.loop-b.invariant.1 (c.if-not-checks.false))
-
 pub returns : goal.returns
-returns c = check-all _ _ _ (omega arith) c.loop-b.invariant.1
+unfolding bad_check
+returns c =
+    let a = c.args in
+    ap not
+    (all_from_yields_List (λ b. checks (sum_at a.file b) (in_block a.bytes.now b)) _ _ _ c.all.ensures.ran
+    (YieldsList-from_range 0 (length a.bytes.now / 512) (length a.bytes.now / 512) refl (omega arith)) (λ x b q k. search (rules, tests))
+    ∙ all-below _ (length a.bytes.now / 512))

@@ -2,9 +2,7 @@
 use Rattle.plan_reader.proofs.ReadLaws.{blocks-differ, later-judged}
 use Rattle.plan_blocks.specs.Block.{blocks_of}
 use Rattle.plan_blocks.proofs.Headers.{numbers-in}
-use native.Mathlib.Omega.{arith}
-use mathlib.Core.Bool.{not}
-use mathlib.Core.Path.{sym, ap, ◌∙◌}
+use Rattle.std.proofs.Common.{◌∙◌, arith, ne_eqb}
 use Rattle.plan_reader.proofs.reader.bad_later.Goals as goal
 
 pub blocks_of-requires : goal.blocks_of-requires
@@ -13,7 +11,8 @@ blocks_of-requires c =
     omega arith
 
 pub returns-then-bytes-blocks_of : goal.returns-then-bytes-blocks_of
-returns-then-bytes-blocks_of c = blocks-differ _ _ _ _ c.blocks_of.ensures c.if-bytes-blocks_of.true
+returns-then-bytes-blocks_of c =
+    rw (ne_eqb _ _ c.if-bytes-blocks_of.true) (blocks-differ _ _ _ _ c.blocks_of.ensures c.if-bytes-blocks_of.true)
 
 pub kind_of-requires : goal.kind_of-requires
 unfolding blocks_of
@@ -27,10 +26,6 @@ later_laid-requires c =
     let i = numbers-in _ c.requires in
     (c.kind_of.ensures.1, omega arith, omega arith, c.if-bytes-blocks_of.false ∙ c.blocks_of.ensures)
 
-pub returns-then-later_laid : goal.returns-then-later_laid
-returns-then-later_laid c =
-    sym (ap not c.if-later_laid.true) ∙ later-judged _ _ _ _ c.blocks_of.ensures _ _ c.if-bytes-blocks_of.false c.kind_of.ensures.0 c.later_laid.ensures
-
-pub returns : goal.returns
-returns c =
-    sym (ap not c.if-later_laid.false) ∙ later-judged _ _ _ _ c.blocks_of.ensures _ _ c.if-bytes-blocks_of.false c.kind_of.ensures.0 c.later_laid.ensures
+pub returns-else-bytes-blocks_of : goal.returns-else-bytes-blocks_of
+returns-else-bytes-blocks_of c =
+    later-judged _ _ _ _ c.blocks_of.ensures _ _ c.if-bytes-blocks_of.false c.kind_of.ensures.0 c.later_laid.ensures

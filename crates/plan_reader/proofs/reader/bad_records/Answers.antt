@@ -5,7 +5,7 @@ use Rattle.plan_blocks.specs.Block.{blocks_of, blocks_for}
 use Rattle.lists.proofs.Sums.{sum-none}
 use Rattle.lists.proofs.Alls.{all_none}
 use native.Mathlib.Omega.{arith}
-use mathlib.Core.Path.{sym}
+use mathlib.Core.Path.{sym, refl}
 use borrow.Author.Rules.{rules}
 use Rattle.plan_reader.proofs.reader.bad_records.Goals as goal
 
@@ -36,7 +36,7 @@ overflow_add-sum c =
 
 pub loop-v-preserved : goal.loop-v-preserved
 loop-v-preserved c =
-    pass-more _ c.args.header _ _ _ _ c.place.ensures c.word_at-x.ensures _ c.index-sum.ensures c.loop-v.invariant c.loop-v-test.true (search rules) (search rules)
+    pass-more _ c.args.header _ _ _ _ c.place.ensures c.word_at-x.ensures _ refl c.loop-v.invariant c.loop-v-test.true (search rules) (search rules)
 
 pub returns : goal.returns
 returns c =

@@ -2,9 +2,8 @@
 use Rattle.plan_blocks.proofs.Headers.{value-fits}
 use Rattle.plan_reader.proofs.reader.ceiling_in.Goals as goal
 
-pub whole_of-whole-requires : goal.whole_of-whole-requires
-whole_of-whole-requires c = value-fits _ c.requires
+pub whole_of-requires : goal.whole_of-requires
+whole_of-requires c = value-fits _ c.requires
 
-pub imbalance_of-imbalance-requires : goal.imbalance_of-imbalance-requires
-imbalance_of-imbalance-requires c =
-    value-fits _ c.requires
+pub imbalance_of-requires : goal.imbalance_of-requires
+imbalance_of-requires c = value-fits _ c.requires

@@ -1,27 +1,13 @@
--- `plan_reader::reader::short_of` meets its contract: each return rewrites with the tests that led there. Assumes nothing.
+-- `plan_reader::reader::short_of` meets its contract: the code's tests are the definition's, one by one. Assumes nothing.
+use Rattle.std.proofs.Common.{arith}
+use Rattle.std.proofs.lemmas.Bool.Decides.{nat_tests}
 use Rattle.plan_reader.specs.Read.{short}
-use borrow.Author.Tests.{lt-ltb, le-ltb}
 use Rattle.plan_reader.proofs.reader.short_of.Goals as goal
 
-pub returns-then-labels-n : goal.returns-then-labels-n
+pub returns-then-lengths-a : goal.returns-then-lengths-a
 unfolding short
-returns-then-labels-n c = simp (lt-ltb _ _ c.if-labels-n.true)
+returns-then-lengths-a c = grind (arith, nat_tests)
 
-pub returns-then-weights-n : goal.returns-then-weights-n
+pub returns-else-lengths-a : goal.returns-else-lengths-a
 unfolding short
-returns-then-weights-n c = simp (le-ltb _ _ c.if-labels-n.false, lt-ltb _ _ c.if-weights-n.true)
-
-pub returns-then-starts-n : goal.returns-then-starts-n
-unfolding short
-returns-then-starts-n c =
-    simp (le-ltb _ _ c.if-labels-n.false, le-ltb _ _ c.if-weights-n.false, lt-ltb _ _ c.if-starts-n.true)
-
-pub returns-then-neighbours-a : goal.returns-then-neighbours-a
-unfolding short
-returns-then-neighbours-a c =
-    simp (le-ltb _ _ c.if-labels-n.false, le-ltb _ _ c.if-weights-n.false, le-ltb _ _ c.if-starts-n.false, lt-ltb _ _ c.if-neighbours-a.true)
-
-pub returns : goal.returns
-unfolding short
-returns c =
-    simp (le-ltb _ _ c.if-labels-n.false, le-ltb _ _ c.if-weights-n.false, le-ltb _ _ c.if-starts-n.false, le-ltb _ _ c.if-neighbours-a.false)
+returns-else-lengths-a c = grind (arith, nat_tests)

@@ -6,7 +6,7 @@ use Rattle.plan_blocks.specs.Word.{wrap}
 use Rattle.plan_blocks.specs.Block.{blocks_of, blocks_for, kind_at, count_at}
 use Rattle.plan_blocks.proofs.Places.{kind-most, count_most}
 use Rattle.lists.proofs.Fills.{length-written}
-use Rattle.std.proofs.Common.{◌≡◌, ℕ, ◌+◌, ◌*◌, ◌<◌, length, refl, ap, ◌∙◌, arith}
+use Rattle.std.proofs.Common.{◌≡◌, ℕ, ◌+◌, ◌*◌, ◌<◌, length, refl, ap, ◌∙◌, arith, rules}
 use Rattle.plan_writer.proofs.writer.lay_out.Goals as goal
 
 -- a block's kind, the file's and the count fit its first word
@@ -22,9 +22,9 @@ overflow_mul-blocks c =
     let e = c.blocks_of-blocks.ensures in
     omega arith
 
-pub clear_bytes-requires : goal.clear_bytes-requires
+pub fill-requires : goal.fill-requires
 unfolding size_of
-clear_bytes-requires c =
+fill-requires c =
     let places = c.requires.2 in
     let e = c.blocks_of-blocks.ensures in
     omega arith
@@ -39,26 +39,23 @@ overflow_mul-b c =
     let e = c.blocks_of-blocks.ensures in
     omega arith
 
-pub overflow_add-kind : goal.overflow_add-kind
-overflow_add-kind c =
-    let k = kind-most c.args.n c.loop-b.b in
-    let d = c.kind_at-kind.ensures in
-    omega arith
-
-pub overflow_mul-count : goal.overflow_mul-count
-overflow_mul-count c =
-    let a = c.args in
-    let m = count_most a.choice a.n a.a c.loop-b.b in
+pub overflow_mul-opening-in-loop-b : goal.overflow_mul-opening-in-loop-b
+overflow_mul-opening-in-loop-b c =
+    let h = c.args.header in
+    let m = count_most h.choice h.n h.a c.loop-b.b in
     let e = c.count_at-count.ensures in
     omega arith
 
-pub overflow_add-kind-in-loop-b : goal.overflow_add-kind-in-loop-b
-overflow_add-kind-in-loop-b c =
-    omega (arith, opening-fits c.args.choice c.args.n c.args.a c.loop-b.b _ _ c.kind_at-kind.ensures c.count_at-count.ensures)
+pub overflow_add-opening-in-loop-b : goal.overflow_add-opening-in-loop-b
+overflow_add-opening-in-loop-b c =
+    let h = c.args.header in
+    omega (arith, opening-fits h.choice h.n h.a c.loop-b.b _ _ (c.from-kind.ensures ∙ c.kind_at.ensures) c.count_at-count.ensures)
 
-pub narrow-requires : goal.narrow-requires
-narrow-requires c =
-    omega (arith, opening-fits c.args.choice c.args.n c.args.a c.loop-b.b _ _ c.kind_at-kind.ensures c.count_at-count.ensures)
+pub overflow_cast-opening : goal.overflow_cast-opening
+overflow_cast-opening c =
+    let h = c.args.header in
+    let fits = opening-fits h.choice h.n h.a c.loop-b.b _ _ (c.from-kind.ensures ∙ c.kind_at.ensures) c.count_at-count.ensures in
+    search rules
 
 pub put_word-requires : goal.put_word-requires
 unfolding size_of
@@ -67,11 +64,11 @@ put_word-requires c =
     let put = c.loop-b.invariant in
     let below = c.loop-b-test.true in
     let e = c.blocks_of-blocks.ensures in
-    let long = put.long ∙ ap length c.clear_bytes.ensures ∙ length-written _ _ _ in
+    let long = put.long ∙ ap length c.fill.ensures ∙ length-written _ _ _ in
     omega arith
 
 pub loop-b-preserved : goal.loop-b-preserved
 loop-b-preserved c =
     put-more _ _ _ _ _ _ _ _ _ c.loop-b.invariant c.loop-b-test.true refl
-    (first_word _ _ _ _ _ _ _ c.kind_at-kind.ensures c.count_at-count.ensures c.narrow.ensures)
+    (first_word _ _ _ _ _ _ _ (c.from-kind.ensures ∙ c.kind_at.ensures) c.count_at-count.ensures refl)
     c.put_word.ensures

@@ -4,7 +4,7 @@ use Rattle.plan_writer.proofs.WriteTurns.{last_word, all-sealed}
 use Rattle.plan_writer.specs.Write.{size_of}
 use Rattle.plan_blocks.specs.Block.{blocks_of, blocks_for}
 use Rattle.plan_blocks.proofs.Places.{position-fits}
-use Rattle.std.proofs.Common.{ℕ, ◌*◌, refl, ap, ◌∙◌, arith, rules}
+use Rattle.std.proofs.Common.{ℕ, ◌*◌, refl, ap, arith, rules}
 use Rattle.plan_writer.proofs.writer.seal.Goals as goal
 
 pub loop-b-init : goal.loop-b-init
@@ -40,11 +40,12 @@ overflow_add-b c =
     let e = c.blocks_of-blocks.ensures in
     omega arith
 
-pub narrow-requires : goal.narrow-requires
-narrow-requires c =
+pub overflow_cast-b : goal.overflow_cast-b
+overflow_cast-b c =
     let below = c.loop-b-test.true in
     let e = c.blocks_of-blocks.ensures in
-    position-fits c.args.n c.args.a _ c.requires.0 c.requires.1 (omega arith)
+    let fits = position-fits c.args.header.n c.args.header.a c.loop-b.b c.requires.0 c.requires.1 (omega arith) in
+    search rules
 
 pub put_word-requires : goal.put_word-requires
 unfolding size_of
@@ -58,8 +59,11 @@ put_word-requires c =
 pub loop-b-preserved : goal.loop-b-preserved
 loop-b-preserved c =
     let put = c.loop-b.invariant in
+    let below = c.loop-b-test.true in
+    let e = c.blocks_of-blocks.ensures in
+    let fits = position-fits c.args.header.n c.args.header.a c.loop-b.b c.requires.0 c.requires.1 (omega arith) in
     put-more _ _ _ _ _ _ _ _ _ put c.loop-b-test.true refl
-    (last_word _ _ _ _ _ _ put.put c.words_sum-sum.ensures (search rules) (c.wrapping_sub_u32.ensures.value ∙ c.narrow.ensures))
+    (last_word _ _ _ _ _ _ put.put c.words_sum-sum.ensures (omega arith) (omega arith))
     c.put_word.ensures
 
 pub overflow_mul-result : goal.overflow_mul-result

@@ -6,21 +6,21 @@ use Rattle.plan_blocks.specs.Block.{blocks_of}
 use Rattle.std.proofs.Common.{length, ap, ◌∙◌, arith, rules}
 use Rattle.plan_writer.proofs.writer.write_header.Goals as goal
 
-pub put_first_three-requires : goal.put_first_three-requires
+pub put_row-requires : goal.put_row-requires
 unfolding size_of blocks_of
-put_first_three-requires c = search rules
+put_row-requires c = search rules
 
-pub returns-then-header-ne3 : goal.returns-then-header-ne3
-returns-then-header-ne3 c =
-    three-put _ _ _ c.put_first_three.ensures c.if-header-ne3.true
-
-pub put_each-requires : goal.put_each-requires
+pub put_row-requires-then-header-eq3 : goal.put_row-requires-then-header-eq3
 unfolding size_of blocks_of
-put_each-requires c =
+put_row-requires-then-header-eq3 c =
     let places = c.requires.2 in
-    let long = ap length c.put_first_three.ensures ∙ length-puts _ _ _ _ in
-    omega arith
+    let long = ap length c.put_row.ensures ∙ length-puts _ _ _ _ in
+    search rules
 
-pub returns : goal.returns
-returns c =
-    eleven-put _ _ _ c.put_first_three.ensures c.if-header-ne3.false _ c.put_each.ensures
+pub returns-then-header-eq3 : goal.returns-then-header-eq3
+returns-then-header-eq3 c =
+    eleven-put _ _ _ _ _ c.low_word.ensures c.high_word.ensures c.put_row.ensures c.if-header-eq3.true (search (rules, arith)) _ c.put_row-then-header-eq3.ensures
+
+pub returns-else-header-eq3 : goal.returns-else-header-eq3
+returns-else-header-eq3 c =
+    three-put _ _ _ _ _ c.low_word.ensures c.high_word.ensures c.put_row.ensures c.if-header-eq3.false

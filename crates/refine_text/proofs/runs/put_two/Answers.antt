@@ -4,5 +4,5 @@ use Rattle.refine_text.proofs.runs.put_two.Goals as goal
 
 pub returns : goal.returns
 returns c =
-    put-two-lines _ _ _ _ _ c.requires.5 c.requires.0 c.requires.1 c.requires.4 c.index-passes.ensures
+    put-two-lines _ _ _ _ c.requires.5 c.requires.0 c.requires.1 c.requires.4
     c.put_opening-opened.ensures c.put_pass_lines-listed.ensures c.put_labels.ensures

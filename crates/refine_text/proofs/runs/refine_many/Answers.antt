@@ -1,5 +1,4 @@
 -- `refine_text::runs::refine_many` meets its contract: arc-swap, and its lines or its refusal. Assumes nothing.
-use mathlib.Core.Path.{◌∙◌}
 use native.Mathlib.Omega.{arith}
 use Rattle.arc_swap.proofs.Parts.{parts-few}
 use Rattle.refine_words.proofs.Texts.{put_as}
@@ -15,7 +14,7 @@ pub put_many-requires : goal.put_many-requires
 put_many-requires c =
     let few = (parts-few c.args.labels.now c.requires.1).1 in (
       omega (arith, c.requires.0, c.arc_swap_counted-answered.auto.labels),
-      omega (arith, c.index-parts.ensures, c.parts_of.ensures),
+      omega (arith, c.parts_of-parts.ensures),
       many-loads c.arc_swap_counted-answered.ensures,
       c.requires.2,
     )
@@ -23,5 +22,5 @@ put_many-requires c =
 pub returns : goal.returns
 returns c =
     put_as (many-done c.arc_swap_counted-answered.ensures _
-    (c.index-parts.ensures ∙ c.parts_of.ensures) c.if-report-ne0.false) (omega arith)
+    c.parts_of-parts.ensures c.if-report-ne0.false) (omega arith)
     c.put_many.ensures

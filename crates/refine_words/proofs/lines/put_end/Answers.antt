@@ -8,4 +8,4 @@ use Rattle.refine_words.proofs.lines.put_end.Goals as goal
 pub returns : goal.returns
 unfolding end_line
 returns c =
-    put_as (ap end_line c.wide.ensures) (omega arith) c.put_line.ensures
+    put_as (ap end_line c.from.ensures) (omega arith) c.put_line.ensures

@@ -8,4 +8,4 @@ use Rattle.refine_words.proofs.lines.put_pass.Goals as goal
 pub returns : goal.returns
 unfolding pass_line
 returns c =
-    put_as (ap₂ pass_line c.wide.ensures c.wide-2.ensures) (omega arith) c.put_line.ensures
+    put_as (ap₂ pass_line c.from.ensures c.from-2.ensures) (omega arith) c.put_line.ensures

@@ -8,4 +8,4 @@ use Rattle.refine_words.proofs.lines.put_passes.Goals as goal
 pub returns : goal.returns
 unfolding passes_line
 returns c =
-    put_as (ap passes_line c.wide.ensures) (omega arith) c.put_line.ensures
+    put_as (ap passes_line c.from.ensures) (omega arith) c.put_line.ensures

@@ -8,4 +8,4 @@ use Rattle.refine_words.proofs.lines.put_refusal.Goals as goal
 pub returns : goal.returns
 unfolding refusal
 returns c =
-    put_as (ap refusal c.wide.ensures) (omega arith) c.put_line.ensures
+    put_as (ap refusal c.from.ensures) (omega arith) c.put_line.ensures

@@ -1,0 +1,17 @@
+// Standard output, as a place to write formatted text to. Document 01, its opening: coupe decides labels and counts.
+//
+// It writes by `io` and not by std's `println!`, which stands on more of libc than `write`.
+use std::fmt;
+
+#[derive(Clone, Copy)]
+pub struct Output;
+
+impl fmt::Write for Output {
+    fn write_str(&mut self, s: &str) -> fmt::Result {
+        if io::write_all(1, s.as_bytes()) {
+            Ok(())
+        } else {
+            Err(fmt::Error)
+        }
+    }
+}
