@@ -1,23 +1,30 @@
 // What a call answers: a refusal, a call without a vertex, and the report of a run. Document 01, "Arc-swap" and "Numbers a call gives back".
 ghost use Rattle.std.specs.Prelude.{◌≡◌};
 ghost use Rattle.lists.specs.End.{end_number};
+ghost use Rattle.lists.specs.Refusal.{number_of};
 ghost use Rattle.arc_swap.specs.Entry.{refused, empty};
 
 use crate::{Ended, Report};
 use imbalance::Loads;
-use lists::End;
+use lists::{End, Refusal};
 
-// A report of zeros but for the number.
-pub fn bare_report(number: u32) -> Report
-    ensures { result ≡ refused number }
+// Zeros in every place of a report.
+const ZEROS: Report = Report {
+    number: 0,
+    end: 0,
+    passes: 0,
+    first: 0,
+    last: 0,
+    loads: Loads { at: [0; 16] },
+};
+
+// The report of a refused call: zeros but for the refusal's number.
+pub fn refused_report(refusal: Refusal) -> Report
+    ensures { result ≡ refused (number_of refusal) }
 {
     Report {
-        number,
-        end: 0,
-        passes: 0,
-        first: 0,
-        last: 0,
-        loads: Loads { at: [0; 16] },
+        number: u32::from(refusal),
+        ..ZEROS
     }
 }
 
@@ -27,7 +34,7 @@ pub fn empty_report() -> Report
 {
     Report {
         end: u32::from(End::NoVertex),
-        ..bare_report(0)
+        ..ZEROS
     }
 }
 

@@ -226,7 +226,7 @@ pub fn arc_swap(
         return answers::empty_report();
     }
     if let Err(refusal) = number::check(graph, weights, labels, settings) {
-        return answers::bare_report(u32::from(refusal));
+        return answers::refused_report(refusal);
     }
     refine(graph, weights, labels, stack, settings, run)
 }

@@ -1,12 +1,12 @@
 -- The call, from what it comes to to its promise: what number 0 tells, where the run begins, what it asks and leaves, and the ways out. Assumes nothing.
 use mathlib.Core.Path.{◌≡◌, refl, sym, ap, ◌∙◌}
 use mathlib.Core.Bool.{Bool, true, false, cond, ◌||◌}
-use mathlib.Core.List.{List, [], ◌∷◌, ◌++◌, map}
-use Prim.Native.Nat.{ℕ, zero, suc, ◌+◌, ◌-◌, ◌≤◌, ◌<◌}
+use mathlib.Core.List.{List, ◌++◌, map}
+use Prim.Native.Nat.{ℕ, ◌+◌, ◌-◌, ◌≤◌, ◌<◌}
 use native.Mathlib.Omega.{arith}
 use lib.Dec.{ltb}
 use lib.ListN.{length, get_or, take, drop, length-append, length-drop, get_or-eq_default}
-use lib.Seq.{ext_get_or, get_or-drop, drop_at}
+use lib.Seq.{length-take-le, ext_get_or, get_or-drop, drop_at}
 use lib.IntN.{ℤ, pos}
 use borrow.Author.Tests.{eq-eqb, ne_eqb, ltb-true, ltb-false, le-ltb}
 use Rattle.lists.specs.Sum.{total}
@@ -69,17 +69,12 @@ pub ready-to-run : (p : Given) (l : Lent) → (length l.labels ≡ 0 → ⊥) �
 ready-to-run p l some none = ready p l (number p l) some refl none
 
 -- ---- the first places of a list, lent on and joined again with the rest
-pub take_long : {A : Type 0} (n : ℕ) (xs : List A) → n ≤ length xs → length (take n xs) ≡ n
-take_long zero xs h = refl
-take_long (suc n) [] h = absurd (omega arith)
-take_long (suc n) (x ∷ xs) h = ap suc (take_long n xs (omega arith))
-
 module _ {A : Type 0} (n : ℕ) (xs ys : List A) (e : length ys ≡ length (take n xs)) (h : n ≤ length xs) where
   pub joined-long : length (ys ++ drop n xs) ≡ length xs
-  joined-long = length-append ys (drop n xs) ∙ (let t = take_long n xs h in let d = length-drop n xs in omega arith)
+  joined-long = length-append ys (drop n xs) ∙ (let t = length-take-le n xs h in let d = length-drop n xs in omega arith)
 
   pub joined-past : drop n (ys ++ drop n xs) ≡ drop n xs
-  joined-past = let t = take_long n xs h in drop_at ys (drop n xs) n (e ∙ t)
+  joined-past = let t = length-take-le n xs h in drop_at ys (drop n xs) n (e ∙ t)
 
 -- ---- where the run begins
 module _ (p : Given) (labels : List ℕ) (a : Beginnable p labels) where

@@ -2,10 +2,12 @@
 ghost use Rattle.std.specs.Prelude.{◌≡◌, ◌≤◌, pos, length};
 ghost use Rattle.lists.specs.Fill.{filled};
 ghost use Rattle.lists.specs.End.{end_number};
-ghost use Rattle.fiduccia_mattheyses.specs.Entry.{bare};
+ghost use Rattle.lists.specs.Refusal.{number_of};
+ghost use Rattle.fiduccia_mattheyses.specs.Entry.{refused, empty};
 
 use crate::{Ended, Report};
 use imbalance::Loads;
+use lists::{End, Refusal};
 
 // What a run ends with: zeros in the gains' first n places, and the report.
 pub fn finish(gains: &mut [i64], n: usize, run: Ended, first_cut: u64) -> Report
@@ -23,16 +25,32 @@ pub fn finish(gains: &mut [i64], n: usize, run: Ended, first_cut: u64) -> Report
     }
 }
 
-// A report of zeros but for the number and the end.
-pub fn bare_report(number: u32, end: u32) -> Report
-    ensures { result ≡ bare number end }
+// Zeros in every place of a report.
+const ZEROS: Report = Report {
+    number: 0,
+    end: 0,
+    passes: 0,
+    first: 0,
+    last: 0,
+    loads: Loads { at: [0; 16] },
+};
+
+// The report of a refused call: zeros but for the refusal's number.
+pub fn refused_report(refusal: Refusal) -> Report
+    ensures { result ≡ refused (number_of refusal) }
 {
     Report {
-        number,
-        end,
-        passes: 0,
-        first: 0,
-        last: 0,
-        loads: Loads { at: [0; 16] },
+        number: u32::from(refusal),
+        ..ZEROS
+    }
+}
+
+// The report of a call without a vertex: zeros but for the end.
+pub fn empty_report() -> Report
+    ensures { result ≡ empty }
+{
+    Report {
+        end: u32::from(End::NoVertex),
+        ..ZEROS
     }
 }

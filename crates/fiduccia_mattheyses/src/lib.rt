@@ -160,7 +160,7 @@ pub fn fiduccia_mattheyses(
         (record { labels = labels.new; gains = gains.new; moves = moves.new; made = rows_made.new; rewound = rows_rewound.new }) }
 {
     if labels.len() == 0 {
-        return answers::bare_report(0, u32::from(End::NoVertex));
+        return answers::empty_report();
     }
     let lengths = Lengths {
         gains: gains.len(),
@@ -169,7 +169,7 @@ pub fn fiduccia_mattheyses(
         rewound: rows_rewound.len(),
     };
     if let Err(refusal) = number::check(graph, weights, labels, lengths, settings) {
-        return answers::bare_report(u32::from(refusal), 0);
+        return answers::refused_report(refusal);
     }
     refine(
         graph,

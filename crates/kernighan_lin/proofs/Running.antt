@@ -11,7 +11,7 @@ use Rattle.topology.specs.Cut.{cut}
 use Rattle.kernighan_lin_pass.specs.Pass.{Terms, start, walk, pass}
 use Rattle.kernighan_lin_pass.specs.inner.Steps.{LentLong}
 use Rattle.kernighan_lin.specs.Run.{Run, run}
-use Rattle.kernighan_lin.specs.inner.Steps.{PassesAsked, PassesDone}
+use Rattle.kernighan_lin.specs.inner.Steps.{PassesDone}
 
 module _ (s : Terms) (w : ℕ) where
   -- a pass that lowers the cut goes on to the next

@@ -1,17 +1,18 @@
 // What a call answers: a refusal, and the report of a run. Document 01, "KL" and "Numbers a call gives back".
 ghost use Rattle.std.specs.Prelude.{◌≡◌};
 ghost use Rattle.lists.specs.End.{end_number};
+ghost use Rattle.lists.specs.Refusal.{number_of};
 ghost use Rattle.kernighan_lin.specs.Entry.{refused};
 
 use crate::Report;
-use lists::End;
+use lists::{End, Refusal};
 
-// A report of zeros but for the number.
-pub fn bare_report(number: u32) -> Report
-    ensures { result ≡ refused number }
+// The report of a refused call: zeros but for the refusal's number.
+pub fn refused_report(refusal: Refusal) -> Report
+    ensures { result ≡ refused (number_of refusal) }
 {
     Report {
-        number,
+        number: u32::from(refusal),
         end: 0,
         passes: 0,
         first: 0,

@@ -138,7 +138,7 @@ pub fn kernighan_lin(
 {
     let lengths = number::lengths_of(gains, locks, swaps);
     if let Err(refusal) = number::check(graph, weights, labels, lengths, settings.passes) {
-        return answers::bare_report(u32::from(refusal));
+        return answers::refused_report(refusal);
     }
     refine(graph, labels, gains, locks, swaps, settings)
 }

@@ -1,6 +1,6 @@
 -- Taking the vertex of the largest gain on a side, one vertex after another. Assumes nothing.
-use mathlib.Core.Path.{◌≡◌, refl, ap, ap₂, ◌∙◌}
-use mathlib.Core.Bool.{Bool, true, false, not, ◌&&◌}
+use mathlib.Core.Path.{◌≡◌, refl, ap₂, ◌∙◌}
+use mathlib.Core.Bool.{Bool, true, false, ◌&&◌}
 use mathlib.Core.List.{List}
 use mathlib.Core.Option.{Option, none, some}
 use Prim.Native.Nat.{ℕ, ◌+◌, ◌-◌, ◌*◌, ◌^◌, ◌≤◌, ◌<◌}
@@ -10,7 +10,7 @@ use lib.ListN.{length, get_or}
 use lib.Dec.{eqb}
 use lib.IntN.{ℤ, pos, negsuc}
 use lib.Signed.{mag, le_z}
-use borrow.Author.Tests.{eq-eqb, ne_eqb, le-leb}
+use borrow.Author.Tests.{eq-eqb, le-leb}
 use mir.Syntax.{w64}
 use mir.Val.{SFits, to_z, of_z}
 use mir.ValLaws.{to_z-of_z}
@@ -21,10 +21,6 @@ use Rattle.imbalance.specs.Load.{part}
 use Rattle.kernighan_lin_pass.specs.Gain.{on_side, largest}
 use Rattle.kernighan_lin_pass.specs.inner.Steps.{Within, most_gain, found}
 use Rattle.std.specs.Prelude.{Option as Found, Some, None}
-
-pub and-true : (t : Bool) → t && true ≡ t
-and-true true = refl
-and-true false = refl
 
 -- the test of one vertex: locked, on the other side, or left to its gain
 module _ (label first : ℕ) (side : Bool) (lock : ℕ) (most gain : ℤ) where

@@ -17,7 +17,7 @@ use Rattle.std.specs.Prelude.{Option as Found, Some, None}
 use Rattle.topology.specs.Cut.{cut}
 use Rattle.kernighan_lin_pass.specs.Gain.{added, updated}
 use Rattle.kernighan_lin_pass.specs.Pass.{Terms, Swap, State, swapped, start, pair, after, next, walk}
-use Rattle.kernighan_lin_pass.specs.inner.Steps.{Fit, Within, fresh_bound, swap_bound, most_swaps, most_gain, pair_at, code_of, swap_of, Coded, back, WalkAsked, counted, WalkDone}
+use Rattle.kernighan_lin_pass.specs.inner.Steps.{Fit, Within, fresh_bound, swap_bound, pair_at, code_of, swap_of, Coded, back, WalkAsked, counted, WalkDone}
 use Rattle.kernighan_lin_pass.specs.declared.choose.Pair.{Pair}
 use Rattle.kernighan_lin_pass.specs.declared.pass.Walked.{Walked}
 use Rattle.kernighan_lin_pass.proofs.Within.{table-within, added-within, updated-within}

@@ -12,6 +12,7 @@ use crate::ReadAnswer;
 use imbalance::Ceiling;
 use lists::Refusal;
 use plan_blocks::header::Header;
+use plan_blocks::layout::BlockKind;
 use plan_blocks::{block, ceiling, header, layout, words};
 
 // How long the five targets are.
@@ -77,11 +78,10 @@ fn bad_records(bytes: &[u8], header: Header) -> bool
     requires { (bad_numbers header ≡ false) × (512 * blocks_of header.n header.a ≤ length bytes.now) }
     ensures { result ≡ bad_records header bytes.now }
 {
-    let k = header.k;
     let mut sum: usize = 0;
     for v in 0..header.n {
         let x = words::word_at(bytes, layout::place(1, v) + 1);
-        if x % 65536 >= k {
+        if x % 65536 >= header.k {
             return true;
         }
         sum += (x / 65536) as usize;
@@ -104,8 +104,9 @@ fn check_frame(bytes: &[u8]) -> Result<(), Refusal>
         return Err(Refusal::Check);
     }
     // How the header is laid out is judged by its choice, before it is decoded.
+    let kind = usize::from(BlockKind::Header);
     let count = layout::header_count(words::word_at(bytes, 4));
-    if !block::laid_out(bytes, 0, file, 1, count) {
+    if !block::laid_out(bytes, 0, file, kind, count) {
         return Err(Refusal::HeaderLayout);
     }
     Ok(())
@@ -176,6 +177,7 @@ fn ceiling_in(header: Header) -> Ceiling
     requires { bad_numbers header ≡ false }
     ensures { result ≡ ceiling_in header }
 {
+    // The borrow checker does not yet take an array of a field straight into a literal.
     let each = header.each;
     Ceiling {
         choice: header.choice,

@@ -9,6 +9,7 @@ ghost use Rattle.plan_reader.specs.Read.{number_for};
 ghost use Rattle.refine_words.specs.inner.Steps.{Put};
 ghost use Rattle.refine_text.specs.Refine.{plan_vertices, plan_arcs, input_bytes, text_bytes, input_number, run_text, Printed};
 
+use lists::Refusal;
 use plan_blocks::words;
 use plan_reader::ReadAnswer;
 use refine_words::lines;
@@ -34,10 +35,10 @@ fn input_number(input: &[u8], number: u32) -> u32
         return number;
     }
     if words::word_at(input, 1) as usize > PLAN_VERTICES {
-        return 12;
+        return u32::from(Refusal::HeaderNumbers);
     }
     if words::word_at(input, 2) as usize > PLAN_ARCS {
-        return 12;
+        return u32::from(Refusal::HeaderNumbers);
     }
     number
 }
@@ -48,9 +49,9 @@ fn refine_lists(
     graph: &Graph,
     weights: &[u32],
     labels: &mut [u32],
-    out: &mut [u8],
+    out: &mut [u8; TEXT_BYTES],
 ) -> usize
-    requires { (length labels.old ≤ plan_vertices) × (label_above 15 labels.old ≡ false) × (text_bytes ≤ length out.old) }
+    requires { (length labels.old ≤ plan_vertices) × (label_above 15 labels.old ≡ false) }
     ensures { Put (run_text read graph.now.starts graph.now.neighbours graph.now.weights weights.now labels.old) text_bytes 0 out.old out.new result }
 {
     let ceiling = read.ceiling;
@@ -71,7 +72,7 @@ pub fn refine_text(input: &[u8], output: &mut [u8; TEXT_BYTES]) -> usize
     ensures { Printed input.now output.old result output.new }
 {
     if input.len() > INPUT_BYTES {
-        return lines::put_refusal(output, 12);
+        return lines::put_refusal(output, u32::from(Refusal::HeaderNumbers));
     }
     let mut labels = [0u32; PLAN_VERTICES];
     let mut weights = [0u32; PLAN_VERTICES];

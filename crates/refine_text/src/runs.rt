@@ -5,6 +5,7 @@ ghost use Rattle.topology.specs.Given.{given};
 ghost use Rattle.refine_words.specs.inner.Steps.{Put};
 ghost use Rattle.refine_text.specs.Refine.{plan_vertices, text_bytes, two_lines, two_text, many_lines, many_text};
 
+use crate::TEXT_BYTES;
 use refine_words::lines;
 use topology::Graph;
 
@@ -14,14 +15,13 @@ fn put_two(
     made: &[u32],
     rewound: &[u32],
     labels: &[u32],
-    out: &mut [u8],
+    out: &mut [u8; TEXT_BYTES],
 ) -> usize
     requires { (length labels.now ≤ plan_vertices)
         × (report.passes ≤ 64)
         × (report.passes ≤ length made.now)
         × (report.passes ≤ length rewound.now)
-        × (length report.loads.at ≡ 16)
-        × (text_bytes ≤ length out.old) }
+        × (length report.loads.at ≡ 16) }
     ensures { Put (two_lines report made.now rewound.now labels.now) text_bytes 0 out.old out.new result }
 {
     let loads = report.loads.at;
@@ -44,9 +44,9 @@ pub(crate) fn refine_two(
     weights: &[u32],
     labels: &mut [u32],
     settings: fiduccia_mattheyses::Settings,
-    out: &mut [u8],
+    out: &mut [u8; TEXT_BYTES],
 ) -> usize
-    requires { (length labels.old ≤ plan_vertices) × (settings.passes ≡ 64) × (text_bytes ≤ length out.old) }
+    requires { (length labels.old ≤ plan_vertices) × (settings.passes ≡ 64) }
     ensures { Put
         (two_text (given graph.now weights.now settings) labels.old)
         text_bytes 0 out.old out.new result }
@@ -75,12 +75,11 @@ fn put_many(
     run: arc_swap::RunRecord,
     parts: usize,
     labels: &[u32],
-    out: &mut [u8],
+    out: &mut [u8; TEXT_BYTES],
 ) -> usize
     requires { (length labels.now ≤ plan_vertices)
         × (parts ≤ 16)
-        × (length report.loads.at ≡ 16)
-        × (text_bytes ≤ length out.old) }
+        × (length report.loads.at ≡ 16) }
     ensures { Put (many_lines parts report run labels.now) text_bytes 0 out.old out.new result }
 {
     let loads = report.loads.at;
@@ -109,9 +108,9 @@ pub(crate) fn refine_many(
     weights: &[u32],
     labels: &mut [u32],
     settings: arc_swap::Settings,
-    out: &mut [u8],
+    out: &mut [u8; TEXT_BYTES],
 ) -> usize
-    requires { (length labels.old ≤ plan_vertices) × (label_above 15 labels.old ≡ false) × (text_bytes ≤ length out.old) }
+    requires { (length labels.old ≤ plan_vertices) × (label_above 15 labels.old ≡ false) }
     ensures { Put
         (many_text (given graph.now weights.now settings) labels.old)
         text_bytes 0 out.old out.new result }

@@ -7,8 +7,9 @@ use native.Mathlib.Omega.{arith}
 use native.Mathlib.Numerals.{add-one}
 use native.Mathlib.Nat.{pow-suc, zero-add, add-zero, mul-suc, mul-le-mul_left}
 use lib.ListN.{length, take, drop, get_or, set, length-append, take-append-drop, length-drop}
-use lib.Seq.{length-take-le, take_at, drop-append-add, drop-drop, take-suc, take-length, set_split}
+use lib.Seq.{length-take-le, take_at, drop-append-add, drop-drop, take-suc, set_split}
 use lib.Dec.{ltb}
+use Rattle.std.proofs.lemmas.List.{get_or-take}
 use borrow.Author.Tests.{ltb-false, lt-ltb, le-ltb}
 use Rattle.refine_words.specs.Line.{end_line, cut_line, loads_line, passes_line, opening, pass_line, pass_lines}
 use Rattle.refine_words.specs.Text.{ascii, blank, newline, nought, decimal_in, decimal, numbers, line}
@@ -214,9 +215,15 @@ pub passes_none : (made rewound : List ℕ) → pass_lines 0 made rewound ≡ []
 unfolding pass_lines
 passes_none made rewound = refl
 
-pub passes-next : (made rewound : List ℕ) (i : ℕ) → pass_lines (i + 1) made rewound ≡ pass_lines i made rewound ++ pass_line (get_or made i 0) (get_or rewound i 0)
+passes_more : (made rewound : List ℕ) (i : ℕ) → pass_lines (i + 1) made rewound ≡ pass_lines i made rewound ++ pass_line (get_or made i 0) (get_or rewound i 0)
 unfolding pass_lines
-passes-next made rewound i = rw add-one
+passes_more made rewound i = rw add-one
+
+pub passes-next : (n i : ℕ) (made rewound : List ℕ) {x y : ℕ} → i < n → x ≡ get_or (take n made) i 0 → y ≡ get_or (take n rewound) i 0
+    → pass_lines (i + 1) made rewound ≡ pass_lines i made rewound ++ pass_line x y
+passes-next n i made rewound l e q =
+    passes_more made rewound i
+    ∙ ap₂ (λ (x y : ℕ). pass_lines i made rewound ++ pass_line x y) (sym (e ∙ get_or-take n made i 0 l)) (sym (q ∙ get_or-take n rewound i 0 l))
 
 -- the four lines with which a run begins
 pub put-opened : (end first last passes m : ℕ) (loads : List ℕ) {r s t u : ℕ} {before one two three after : List ℕ} → 105 + m ≤ length before

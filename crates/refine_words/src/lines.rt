@@ -1,26 +1,26 @@
 // The lines of a run and of a refusal. Document 01, the end of "The eight-block grid".
-ghost use Rattle.std.specs.Prelude.{◌+◌, ◌*◌, ◌≤◌, length};
+ghost use Rattle.std.specs.Prelude.{[], ◌∷◌, ◌+◌, ◌*◌, ◌≤◌, length};
+ghost use Rattle.refine_words.specs.Text.{line};
 ghost use Rattle.refine_words.specs.inner.Steps.{Put};
-ghost use Rattle.refine_words.specs.Line.{refusal, end_line, cut_line, loads_line, passes_line, opening, pass_line, pass_lines, counts_line, labels_line};
+ghost use Rattle.refine_words.specs.Line.{refusal, cut_line, loads_line, opening, pass_line, pass_lines, counts_line, labels_line};
 
 use crate::{put_label_line, put_line};
+
+// A line of one number.
+fn put_number_line(out: &mut [u8], at: usize, word: &[u8], number: u32) -> usize
+    requires { at + (length word.now + 22) ≤ length out.old }
+    ensures { Put (line word.now (number ∷ [])) (length word.now + 22) at out.old out.new result }
+{
+    let numbers = [u64::from(number)];
+    put_line(out, at, word, &numbers)
+}
 
 // A refusal: its number.
 pub fn put_refusal(out: &mut [u8], number: u32) -> usize
     requires { 29 ≤ length out.old }
     ensures { Put (refusal number) 29 0 out.old out.new result }
 {
-    let numbers = [u64::from(number)];
-    put_line(out, 0, b"refused", &numbers)
-}
-
-// The run's end.
-fn put_end(out: &mut [u8], at: usize, end: u32) -> usize
-    requires { at + 25 ≤ length out.old }
-    ensures { Put (end_line end) 25 at out.old out.new result }
-{
-    let numbers = [u64::from(end)];
-    put_line(out, at, b"end", &numbers)
+    put_number_line(out, 0, b"refused", number)
 }
 
 // The first and the last cut.
@@ -40,15 +40,6 @@ fn put_loads(out: &mut [u8], at: usize, loads: &[u64]) -> usize
     put_line(out, at, b"loads", loads)
 }
 
-// How many passes there were.
-fn put_passes(out: &mut [u8], at: usize, passes: u32) -> usize
-    requires { at + 28 ≤ length out.old }
-    ensures { Put (passes_line passes) 28 at out.old out.new result }
-{
-    let numbers = [u64::from(passes)];
-    put_line(out, at, b"passes", &numbers)
-}
-
 // The four lines with which a run begins.
 pub fn put_opening(
     out: &mut [u8],
@@ -61,10 +52,10 @@ pub fn put_opening(
     requires { 105 + 21 * length loads.now ≤ length out.old }
     ensures { Put (opening end first last loads.now passes) (105 + 21 * length loads.now) 0 out.old out.new result }
 {
-    let after_end = put_end(out, 0, end);
+    let after_end = put_number_line(out, 0, b"end", end);
     let after_cut = put_cut(out, after_end, first, last);
     let after_loads = put_loads(out, after_cut, loads);
-    put_passes(out, after_loads, passes)
+    put_number_line(out, after_loads, b"passes", passes)
 }
 
 // A pass: moves made and moves rewound.
@@ -88,8 +79,8 @@ pub fn put_pass_lines(
     ensures { Put (pass_lines passes made.now rewound.now) (47 * passes) at out.old out.new result }
 {
     let mut here = at;
-    for i in 0..passes {
-        here = put_pass(out, here, made[i], rewound[i]);
+    for (moves, undone) in made[..passes].iter().zip(&rewound[..passes]) {
+        here = put_pass(out, here, *moves, *undone);
     }
     here
 }

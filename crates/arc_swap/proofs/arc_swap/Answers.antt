@@ -8,7 +8,7 @@ pub returns-then-is_empty : goal.returns-then-is_empty
 returns-then-is_empty c = at-empty _ _ _ _ (eqb-true _ 0 (sym c.is_empty.ensures ∙ c.if-is_empty.true)) c.empty_report.ensures refl
 
 pub returns-in-Err : goal.returns-in-Err
-returns-in-Err c = at-refusal _ _ (eqb-false _ 0 (sym c.is_empty.ensures ∙ c.if-is_empty.false)) _ c.in-Err.refusal c.in-Err.ensures (rw c.from.ensures at c.bare_report.ensures)
+returns-in-Err c = at-refusal _ _ (eqb-false _ 0 (sym c.is_empty.ensures ∙ c.if-is_empty.false)) _ c.in-Err.refusal c.in-Err.ensures c.refused_report.ensures
 
 pub refine-requires : goal.refine-requires
 refine-requires c = let done = c.in_default.ensures in ready _ _ (sym done)

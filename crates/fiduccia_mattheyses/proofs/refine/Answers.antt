@@ -1,11 +1,12 @@
 -- `fiduccia_mattheyses::refine` meets its contract: where the run begins, the passes and the report are laws of `Entering`. Assumes nothing.
 use lib.ListN.{length}
-use Rattle.fiduccia_mattheyses.proofs.Entering.{take_long, joined-long, joined-past, passes-asked, ran}
+use lib.Seq.{length-take-le}
+use Rattle.fiduccia_mattheyses.proofs.Entering.{joined-long, joined-past, passes-asked, ran}
 use Rattle.fiduccia_mattheyses.proofs.refine.Goals as goal
 
 pub make_passes-ended-requires : goal.make_passes-ended-requires
 make_passes-ended-requires c =
-    passes-asked _ _ c.requires _ c.begin_run-begun.ensures _ (take_long _ c.args.gains.now c.requires.in_gains)
+    passes-asked _ _ c.requires _ c.begin_run-begun.ensures _ (length-take-le _ c.args.gains.now c.requires.in_gains)
 
 pub returns : goal.returns
 returns c =

@@ -5,7 +5,7 @@ use Rattle.kernighan_lin.proofs.kernighan_lin.Goals as goal
 
 pub returns-in-Err : goal.returns-in-Err
 returns-in-Err c =
-    at-refusal _ _ _ c.in-Err.refusal (rw c.lengths_of-lengths.ensures at c.in-Err.ensures) (rw c.from.ensures at c.bare_report.ensures)
+    at-refusal _ _ _ c.in-Err.refusal (rw c.lengths_of-lengths.ensures at c.in-Err.ensures) c.refused_report.ensures
 
 pub refine-requires : goal.refine-requires
 refine-requires c = let done = c.in_default.ensures in ready _ _ (sym (rw c.lengths_of-lengths.ensures at done))

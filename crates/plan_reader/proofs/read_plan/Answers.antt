@@ -1,4 +1,4 @@
--- `plan_reader::read_plan` meets its contract: a refusal writes nothing, and an accepted file's records and header are handed over. Assumes nothing.
+-- `plan_reader::read_plan` meets its contract: a refusal writes nothing, and an accepted file's records and header are handed over. `accepted-places` is the lemma that three answers share, each at another of its fields. Assumes nothing.
 use Rattle.plan_reader.proofs.ReadEntry.{read-refused, read_done, header-handed}
 use Rattle.plan_reader.proofs.ReadLaws.{accepted-places, numbers-fit}
 use Rattle.plan_blocks.specs.declared.header.Header.{Header}

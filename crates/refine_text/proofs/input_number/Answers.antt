@@ -1,4 +1,5 @@
 -- `refine_text::input_number` meets its contract: each way out is one law of the number. Assumes nothing.
+use mathlib.Core.Path.{◌∙◌}
 use native.Mathlib.Omega.{arith}
 use Rattle.refine_text.proofs.Judged.{judged-low, whole-header, judged-beyond, judged-within, many-vertices, many-arcs}
 use Rattle.refine_text.proofs.input_number.Goals as goal
@@ -13,7 +14,7 @@ word_at-requires c =
 
 pub returns-then-word_at-gt-PLAN_VERTICES : goal.returns-then-word_at-gt-PLAN_VERTICES
 returns-then-word_at-gt-PLAN_VERTICES c =
-    judged-beyond _ _ c.requires.0 c.requires.1 c.if-number-le12.false
+    c.from.ensures ∙ judged-beyond _ _ c.requires.0 c.requires.1 c.if-number-le12.false
     (many-vertices _ _ c.word_at.ensures c.if-word_at-gt-PLAN_VERTICES.true)
 
 pub word_at-requires-2 : goal.word_at-requires-2
@@ -22,7 +23,7 @@ word_at-requires-2 c =
 
 pub returns-then-word_at-gt-PLAN_ARCS : goal.returns-then-word_at-gt-PLAN_ARCS
 returns-then-word_at-gt-PLAN_ARCS c =
-    judged-beyond _ _ c.requires.0 c.requires.1 c.if-number-le12.false
+    c.from-then-word_at-gt-PLAN_ARCS.ensures ∙ judged-beyond _ _ c.requires.0 c.requires.1 c.if-number-le12.false
     (many-arcs _ _ c.word_at-2.ensures c.if-word_at-gt-PLAN_ARCS.true)
 
 pub returns : goal.returns

@@ -1,13 +1,13 @@
--- `refine_text::refine_text` meets its contract: an input unread, one that the reader refuses, and a plan. Assumes nothing.
+-- `refine_text::refine_text` meets its contract: an input unread, one that the reader refuses, and a plan. `had` and `number_read` are the lemmas that the answers share. Assumes nothing.
 use mathlib.Core.Path.{sym, ◌∙◌}
 use native.Mathlib.Omega.{arith}
 use Rattle.refine_text.proofs.Judged.{unread, judged-zero, judged-refused}
 use Rattle.refine_text.proofs.Handed.{zeros, number_read, had, labels-ready, printed-refusal, printed-plan}
-use borrow.Author.Rules.{rules}
 use Rattle.refine_text.proofs.refine_text.Goals as goal
 
 pub returns-then-input-gt-INPUT_BYTES : goal.returns-then-input-gt-INPUT_BYTES
-returns-then-input-gt-INPUT_BYTES c = printed-refusal _ _ _ _ _ (unread _ (omega (arith, c.if-input-gt-INPUT_BYTES.true))) (λ z. omega arith) c.put_refusal.ensures
+returns-then-input-gt-INPUT_BYTES c =
+    printed-refusal _ _ _ _ _ (c.from.ensures ∙ unread _ (omega (arith, c.if-input-gt-INPUT_BYTES.true))) (λ z. omega (arith, c.from.ensures)) c.put_refusal.ensures
 
 pub input_number-requires : goal.input_number-requires
 input_number-requires c =
@@ -32,9 +32,7 @@ prove-unreachable-requires-2 c =
     omega (arith, few, c.if-prove-2.true)
 
 pub refine_lists-requires : goal.refine_lists-requires
-refine_lists-requires c =
-    let r = labels-ready (had zeros c.read_plan-read.ensures c.if-read-ne0.false) in
-    (r.0, r.1, search rules)
+refine_lists-requires c = labels-ready (had zeros c.read_plan-read.ensures c.if-read-ne0.false)
 
 pub returns : goal.returns
 returns c =

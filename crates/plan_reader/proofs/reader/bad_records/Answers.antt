@@ -23,8 +23,8 @@ word_at-x-requires c =
     let p = c.requires.1 in
     omega arith
 
-pub returns-then-x-k : goal.returns-then-x-k
-returns-then-x-k c =
+pub returns-then-x-header : goal.returns-then-x-header
+returns-then-x-header c =
     label-fails _ _ c.loop-v.sum _ _ _ c.place.ensures c.word_at-x.ensures c.loop-v-test.true (search rules)
 
 pub overflow_add-sum : goal.overflow_add-sum

@@ -3,4 +3,4 @@ use Rattle.plan_reader.proofs.ReadLaws.{Passed}
 use Rattle.plan_reader.proofs.reader.bad_records.Given as goal
 
 abbrev pub invariant-loop-v : goal.invariant-loop-v
-invariant-loop-v l = Passed l.bytes l.header.n l.k l.sum l.v
+invariant-loop-v l = Passed l.bytes l.header.n l.header.k l.sum l.v

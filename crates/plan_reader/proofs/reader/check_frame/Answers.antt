@@ -1,4 +1,4 @@
--- `plan_reader::reader::check_frame` meets its contract: each return rewrites with the tests that led there. Assumes nothing.
+-- `plan_reader::reader::check_frame` meets its contract: each return rewrites with the tests that led there. A lemma for what they share would ask for the same tests, and be no shorter. Assumes nothing.
 use Rattle.plan_reader.proofs.ReadLaws.{long-enough}
 use Rattle.plan_reader.specs.inner.Reading.{frame_number}
 use Rattle.plan_blocks.specs.Block.{header_count}
@@ -37,6 +37,7 @@ word_at-requires c =
 pub laid_out-requires : goal.laid_out-requires
 laid_out-requires c =
     let k = c.if-file-gt1.false in
+    let h = c.from-kind.ensures in
     let l = long-enough _ (sym c.bad_length.ensures ∙ c.if-bad_length.false) in
     let e = c.header_count-count.ensures in
     let m = header-most c.word_at.result in
@@ -46,10 +47,10 @@ pub returns-then-not-laid_out : goal.returns-then-not-laid_out
 unfolding frame_number bad_kind bad_header
 returns-then-not-laid_out c =
     let asked = ap header_count (sym c.word_at.ensures) ∙ sym c.header_count-count.ensures in
-    simp (sym c.bad_length.ensures ∙ c.if-bad_length.false, sym c.kind_of-file.ensures.0, le-ltb 1 _ c.if-file-gt1.false, sym c.bad_check.ensures ∙ c.if-bad_check.false, asked, sym c.laid_out.ensures ∙ c.if-not-laid_out.true)
+    simp (sym c.bad_length.ensures ∙ c.if-bad_length.false, sym c.kind_of-file.ensures.0, le-ltb 1 _ c.if-file-gt1.false, sym c.bad_check.ensures ∙ c.if-bad_check.false, asked, sym (rw c.from-kind.ensures at c.laid_out.ensures) ∙ c.if-not-laid_out.true)
 
 pub returns : goal.returns
 unfolding frame_number bad_kind bad_header
 returns c =
     let asked = ap header_count (sym c.word_at.ensures) ∙ sym c.header_count-count.ensures in
-    simp (sym c.bad_length.ensures ∙ c.if-bad_length.false, sym c.kind_of-file.ensures.0, le-ltb 1 _ c.if-file-gt1.false, sym c.bad_check.ensures ∙ c.if-bad_check.false, asked, sym c.laid_out.ensures ∙ c.if-not-laid_out.false)
+    simp (sym c.bad_length.ensures ∙ c.if-bad_length.false, sym c.kind_of-file.ensures.0, le-ltb 1 _ c.if-file-gt1.false, sym c.bad_check.ensures ∙ c.if-bad_check.false, asked, sym (rw c.from-kind.ensures at c.laid_out.ensures) ∙ c.if-not-laid_out.false)

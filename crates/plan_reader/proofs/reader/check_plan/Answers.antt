@@ -1,4 +1,4 @@
--- `plan_reader::reader::check_plan` meets its contract: each return rewrites with the tests that led there. Assumes nothing.
+-- `plan_reader::reader::check_plan` meets its contract: each return rewrites with the tests that led there. A lemma for what they share would ask for the same tests, and be no shorter. Assumes nothing.
 use Rattle.plan_reader.proofs.ReadLaws.{sized-by}
 use Rattle.plan_reader.specs.inner.Reading.{plan_number}
 use Rattle.plan_blocks.proofs.Headers.{numbers-in}

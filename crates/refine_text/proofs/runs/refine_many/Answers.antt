@@ -16,7 +16,6 @@ put_many-requires c =
       omega (arith, c.requires.0, c.arc_swap_counted-answered.auto.labels),
       omega (arith, c.parts_of-parts.ensures),
       many-loads c.arc_swap_counted-answered.ensures,
-      c.requires.2,
     )
 
 pub returns : goal.returns

@@ -16,7 +16,6 @@ put_two-requires c =
       omega (arith, c.with_moves-report.auto.rows_made),
       omega (arith, c.with_moves-report.auto.rows_rewound),
       two-loads c.with_moves-report.ensures,
-      c.requires.2,
     )
 
 pub returns : goal.returns

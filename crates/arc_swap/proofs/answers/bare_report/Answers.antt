@@ -1,8 +1,0 @@
--- `arc_swap::answers::bare_report` meets its contract: sixteen zeros are no load in any part. Assumes nothing.
-use mathlib.Core.Path.{refl}
-use Rattle.lists.specs.Fill.{table}
-use Rattle.arc_swap.proofs.answers.bare_report.Goals as goal
-
-pub returns : goal.returns
-unfolding table
-returns c = refl
