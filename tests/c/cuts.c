@@ -102,7 +102,7 @@ __attribute__((noinline)) static size_t depth_of(void (*call)(void))
 }
 
 /* The header's figure for each cut, as the toolchain's compiler of today makes them. */
-enum { MOST_EDGE_STACK = 112, MOST_LAMBDA_STACK = 96 };
+enum { MOST_EDGE_STACK = 96, MOST_LAMBDA_STACK = 96 };
 
 static void check_stack(uint32_t edge_number, uint32_t lambda_number)
 {
