@@ -131,13 +131,16 @@ module _ (s : Terms) (p₀ stack₀ : List ℕ) (c₀ : Standing) (counts₀ : R
                 rw (le-ltb (cut s.graph p') (cut s.graph p) (omega arith))
 
       -- how the pass ends the run, as the code answers it
+      goes-by : (a b : Bool) → d.fits ≡ a → ltb d.cut c.cut ≡ b → ◌≡◌ {A = Option End} None (cond a (cond b None (Some NoGain)) (Some StackFull)) → (d.fits ≡ true) × (d.cut < c.cut)
+      goes-by true true f e q = (f, ltb-true d.cut c.cut e)
+      goes-by true false f e q = let o : ◌≡◌ {A = ℕ} 0 1 = cc in absurd (omega arith)
+      goes-by false b f e q = let o : ◌≡◌ {A = ℕ} 0 1 = cc in absurd (omega arith)
+
+      pub goes_on : None ≡ end_by c.cut d.fits d.cut → d.cut < c.cut
+      goes_on q = (goes-by d.fits (ltb d.cut c.cut) refl refl q).1
+
       pub again : None ≡ end_by c.cut d.fits d.cut → Running s p₀ c₀.cut (i + 1) p' stack' d counts'
-      again = by d.fits refl (ltb d.cut c.cut) refl
-        where
-          by : (a : Bool) → d.fits ≡ a → (b : Bool) → ltb d.cut c.cut ≡ b → ◌≡◌ {A = Option End} None (cond a (cond b None (Some NoGain)) (Some StackFull)) → Running s p₀ c₀.cut (i + 1) p' stack' d counts'
-          by true f true e q = next-pass f (ltb-true d.cut c.cut e)
-          by true f false e q = let o : ◌≡◌ {A = ℕ} 0 1 = cc in absurd (omega arith)
-          by false f b e q = let o : ◌≡◌ {A = ℕ} 0 1 = cc in absurd (omega arith)
+      again q = next-pass (goes-by d.fits (ltb d.cut c.cut) refl refl q).0 (goes_on q)
 
       pub ends : (end : End) → Some end ≡ end_by c.cut d.fits d.cut → PassesDone s p₀ p' stack' counts' (record { end = end; passes = i + 1; st = d })
       ends end = by d.fits refl (ltb d.cut c.cut) refl

@@ -1,3 +1,4 @@
--- The law of the records made blank, and the machine-made walks of the functions that lend them.
+-- Lists lent together with records, what more records than the most vertices do, and that the promise is met by one result.
 pub mod Owning
+pub mod Room
 pub mod Unique

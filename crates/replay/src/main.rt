@@ -51,7 +51,7 @@ fn note_difference(tally: &mut Tally, asked: Asked, number: u64) -> fmt::Result 
     if MOST_NAMED < tally.differ(asked) {
         return Ok(());
     }
-    writeln!(Output, "{asked}: line {number} differs")
+    write!(Output, "{asked}: line {number} differs\n")
 }
 
 // What cannot be written is lost, and the cases are replayed all the same.

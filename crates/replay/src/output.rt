@@ -6,12 +6,10 @@ use std::fmt;
 #[derive(Clone, Copy)]
 pub struct Output;
 
+// A piece that cannot be written is lost, and those after it are tried all the same.
 impl fmt::Write for Output {
     fn write_str(&mut self, s: &str) -> fmt::Result {
-        if io::write_all(1, s.as_bytes()) {
-            Ok(())
-        } else {
-            Err(fmt::Error)
-        }
+        io::write_all(1, s.as_bytes());
+        Ok(())
     }
 }

@@ -14,7 +14,7 @@ impl fmt::Display for Row {
     fn fmt<W: fmt::Write>(&self, f: &mut fmt::Formatter<W>) -> fmt::Result {
         write!(
             f,
-            "{}: {} agree, {} differ",
+            "{}: {} agree, {} differ\n",
             self.asked, self.agreed, self.differed
         )
     }
@@ -71,7 +71,7 @@ impl Tally {
 impl fmt::Display for Tally {
     fn fmt<W: fmt::Write>(&self, f: &mut fmt::Formatter<W>) -> fmt::Result {
         for row in &self.rows {
-            writeln!(f, "{row}")?;
+            write!(f, "{row}")?;
         }
         Ok(())
     }

@@ -10,11 +10,12 @@ ghost use Rattle.topology.specs.inner.Row.{word_bound, row_bound};
 use crate::{CutAnswer, Graph};
 use lists::Refusal;
 
-// What an arc from u to v counts: its weight where v is lower and of another part, else 0.
+// What an arc from u to v counts: its weight where v is lower and of another part, else 0. Two choices, one after the other: on the two tests joined the compiler branches, and the labels of neighbours are hard to foretell.
 fn crossed(u: usize, v: usize, pu: u32, pv: u32, w: u32) -> u64
     ensures { (result ≡ weigh (ltb v u && not (eqb pv pu)) w) × (result < word_bound) }
 {
-    if v < u && pv != pu { u64::from(w) } else { 0 }
+    let apart = if pv == pu { 0 } else { w };
+    if v < u { u64::from(apart) } else { 0 }
 }
 
 impl<'a> Graph<'a> {

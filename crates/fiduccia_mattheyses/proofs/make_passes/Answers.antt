@@ -5,7 +5,7 @@ use Rattle.fiduccia_mattheyses.proofs.make_passes.Goals as goal
 
 pub returns-then-before-cut : goal.returns-then-before-cut
 returns-then-before-cut c =
-    pass-ends _ _ _ _ _ _ _ _ _ c.requires _ _ _ _ _ _ _ _ c.loop-pass.invariant c.loop-pass-test.true _ _ _ _ c.make_pass-passed.ensures c.make_pass-passed.auto.gains _ _ _ c.put_row-passes.ensures c.if-before-cut.true _ refl
+    pass-ends _ _ _ _ _ _ _ _ _ c.requires _ _ _ _ _ _ _ _ c.loop-pass.invariant c.loop-pass-test.true _ _ _ _ c.make_pass-passed.ensures c.make_pass-passed.auto.gains _ _ _ c.put_row-passes.ensures (omega arith) _ refl
 
 pub loop-pass-preserved : goal.loop-pass-preserved
 loop-pass-preserved c =
