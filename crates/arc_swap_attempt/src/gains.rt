@@ -23,16 +23,18 @@ pub fn sums_of(graph: &Graph, labels: &[u32], v: usize) -> Sums
     Sums { at }
 }
 
-// The part of the largest sum among those other than the own: the gains differ from the sums by one and the same number. The walk begins from the own part with nothing, which is what is answered where there is no other: no gain is positive then, so that no caller asks which it was.
+// The part of the largest sum among those other than the own: the gains differ from the sums by one and the same number. The walk begins from the own part with nothing, which is what is answered where there is no other: no gain is positive then, so that no caller asks which it was. The two tests stand one in the other: the sums are hard to foretell, and on both joined the compiler branches.
 pub fn best_part(sums: Sums, own: usize, parts: usize) -> Target
     requires { (length sums.at ≡ 16) × (parts ≤ 16) }
     ensures { result ≡ picked own (λ t. get_or sums.at t 0) (best_by (λ t. get_or sums.at t 0) own parts) }
 {
     let mut best = Target { part: own, sum: 0 };
     for t in 0..parts {
-        let sum = sums.at[t];
-        if t != own && best.sum <= sum {
-            best = Target { part: t, sum };
+        if t != own {
+            let sum = sums.at[t];
+            if best.sum <= sum {
+                best = Target { part: t, sum };
+            }
         }
     }
     best

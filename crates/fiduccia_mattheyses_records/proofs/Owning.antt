@@ -1,4 +1,4 @@
--- FM's promise for a list of records that was made blank is the promise of the call that makes it. Assumes nothing.
+-- Lists lent together with records. Assumes nothing.
 use mathlib.Core.List.{List}
 use Rattle.fiduccia_mattheyses_pass.specs.declared.Move.{Move}
 use Rattle.fiduccia_mattheyses.specs.Entry.{Lent}

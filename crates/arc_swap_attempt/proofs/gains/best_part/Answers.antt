@@ -3,7 +3,7 @@ use Prim.Native.Nat.{ℕ}
 use lib.ListN.{get_or}
 use Rattle.arc_swap_attempt.proofs.Aims.{none_passed, pass-own, pass-take, pass-by}
 use Rattle.arc_swap_attempt.proofs.gains.best_part.Goals as goal
-use Rattle.arc_swap_attempt.proofs.gains.best_part.Goals.{then-t-own+then-best-sum, else-t-own, else-t-own-via-then-t-own+else-best-sum, else-t-own-via-else-t-own}
+use Rattle.arc_swap_attempt.proofs.gains.best_part.Goals.{then-t-own+then-best-sum, then-t-own+else-best-sum, else-t-own}
 
 pub loop-t-init : goal.loop-t-init
 loop-t-init c = none_passed (λ u. get_or c.args.sums.at u 0) c.args.own
@@ -16,10 +16,6 @@ loop-t-preserved c =
     let t = c.loop-t.t in
     elim c.if-t-own.branch [
       | then-t-own+then-best-sum w ↦ rw w.best-is (pass-take sums own t _ e w.if-t-own.true w.if-best-sum.true)
-      | else-t-own w ↦
-          rw w.best-is
-          (elim w.else-t-own.branch [
-            | else-t-own-via-then-t-own+else-best-sum x ↦ pass-by sums own t _ e x.if-t-own.true x.if-best-sum.false
-            | else-t-own-via-else-t-own x ↦ pass-own sums own t _ e x.if-t-own.false
-          ])
+      | then-t-own+else-best-sum w ↦ rw w.best-is (pass-by sums own t _ e w.if-t-own.true w.if-best-sum.false)
+      | else-t-own w ↦ rw w.best-is (pass-own sums own t _ e w.if-t-own.false)
     ]
