@@ -23,8 +23,8 @@
  *
  * STACK. Nothing is on the heap. The most stack that a call takes below the caller's frame, in bytes, measured (docs/SPEED.md):
  *
- *     loads 464, edge cut 96, lambda cut 96, FM 992, KL 464, arc-swap 1,488, reading a plan 224, writing one 240,
- *     self-test 1,824
+ *     loads 464, edge cut 96, lambda cut 96, FM 1,232, KL 464, arc-swap 1,488, reading a plan 224, writing one 240,
+ *     self-test 2,064
  *
  * What a call writes below the stack pointer is counted in: the calling convention leaves a function 128 bytes there, its red zone,
  * and an interrupt handler on the same stack must not touch them.

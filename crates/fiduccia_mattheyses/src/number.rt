@@ -23,7 +23,8 @@ fn too_short(n: usize, passes: u32, lengths: Lengths) -> bool
     lengths.gains < n || lengths.moves < n || lengths.made < rows || lengths.rewound < rows
 }
 
-// The first number that applies.
+// The first number that applies. It stays a call: put in its place, the many ways out of the tests make the compiler take the run behind them for a rare one, and the scan's instructions are placed so.
+#[inline(never)]
 pub fn check(
     graph: &Graph,
     weights: &[u32],

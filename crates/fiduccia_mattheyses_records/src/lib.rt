@@ -37,7 +37,7 @@ fn with_most_moves(
     )
 }
 
-// FM as with room for the moves of N vertices, whatever N is: an array of N records is made only where N is not above the most vertices. The lists are parameters one by one, as FM's C entry has them.
+// FM as with room for the moves of N vertices, for every N of which Rust has an array: one of N records is made only where N is not above the most vertices. The lists are parameters one by one, as FM's C entry has them.
 pub fn with_moves<const N: usize>(
     graph: &Graph,
     weights: &[u32],
